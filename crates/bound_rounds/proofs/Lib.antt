@@ -64,6 +64,7 @@ pub mod WorkedLaterRounds
 pub mod WorkedReasons
 pub mod WorkedUnreached
 pub mod WorkedStanding
+pub mod WorkedStated
 pub mod WorkedFirst
 pub mod WorkedRight
 pub mod WorkedAnswers

@@ -16,6 +16,7 @@ use Rattle.bound_rounds.specs.Keys.{has_key, at_key, place_fact, start_bounds}
 use Rattle.bound_rounds.specs.Finds.{Find, bound_found, bounds_of, number_in}
 use Rattle.bound_rounds.specs.Needs.{lemmas_of}
 use Rattle.bound_rounds.specs.Standing.{StandAfter, AllStand}
+use Rattle.bound_rounds.specs.Stated.{SayBounds}
 use Rattle.bound_rounds.specs.Laws.{NodesAreAccepted, StandingFindsHaveLemmas, FindsAreNumbered, StandingFindsHold}
 use Rattle.bound_rounds.proofs.Cases.{either, none_some}
 use Rattle.bound_rounds.proofs.ListMembers.{contains-cases, contains-none, contained-all}
@@ -25,7 +26,7 @@ use Rattle.bound_rounds.proofs.FactLists.{lemma-all}
 use Rattle.bound_rounds.proofs.NodeLemmas.{node_lemma, node_states}
 use Rattle.bound_rounds.proofs.StartFacts.{start_stated}
 use Rattle.bound_rounds.proofs.FindFacts.{facts_of_finds}
-use Rattle.bound_rounds.proofs.StandingLemmas.{found_stated, all_have_lemmas}
+use Rattle.bound_rounds.proofs.StandingLemmas.{found_stated, finds_say, all_have_lemmas}
 
 -- the lemma of a node is accepted after all lemmas that say what is known, and states the bound that the node composes
 pub nodes_accepted : NodesAreAccepted
@@ -78,11 +79,19 @@ alone_after s earlier (g ∷ fs) h f m t i k =
     later rest =
         subst (λ (xs : List Find). bounds_of s.program xs t i ≡ Some f.bound) (append_assoc earlier (g ∷ []) fs) rest
 
+-- the lemmas of finds that stand say all that is known with them
+say : (s : Setting) (fs : List Find) → AllStand s fs
+    → SayBounds s (facts_of_lemmas s (lemmas_of fs)) (number_in fs) (bounds_of s.program fs) (bounds_of s.program fs)
+say s fs h =
+    subst (λ (past : List (List Fact)). SayBounds s past (number_in fs) (bounds_of s.program fs)
+    (bounds_of s.program fs)) (sym (states s fs h)) (finds_say s fs (all_have_lemmas s fs h).sound)
+
 -- so what is known of a rule is numbered, and one find alone states it
 pub are_numbered : FindsAreNumbered
 are_numbered = record {
   each = λ s fs h t i b rule e. numbered s fs h t i b (of_rule s fs t i b rule e);
   alone = λ s fs h f m t i k. alone_after s [] fs h.each f m t i k;
+  say = say;
 }
 
 -- a bound that is known is one of the virtual entry, or was found: so it holds

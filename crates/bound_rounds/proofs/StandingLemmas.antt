@@ -195,6 +195,13 @@ module _ (s : Setting) where
           (All-push (AreFactsOf new_bounds) (facts_of_finds earlier) (facts_of_find f) still_known own_known);
     }
 
+  -- the lemmas of sound finds say what is known with them
+  pub finds_say : (fs : List Find) → AreSound s fs
+      → SayBounds s (facts_of_finds fs) (number_in fs) (bounds_of s.program fs) (bounds_of s.program fs)
+  finds_say fs sound =
+      subst (λ (gs : List Find). SayBounds s (facts_of_finds fs) (number_in gs) (bounds_of s.program fs)
+      (bounds_of s.program fs)) (append-nil fs) (earlier_say fs [] fs [] (append-nil fs) sound)
+
   -- the lemmas of finds that stand after earlier ones
   pub record HaveLemmas (fs earlier rest : List Find) : Type 0 where
     pub accepted : AcceptsFrom s (facts_of_finds earlier) (map (λ f. lemma_by (number_in fs) f.node f.needs) rest)

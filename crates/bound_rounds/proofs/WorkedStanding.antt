@@ -195,6 +195,10 @@ stands_after before between f h new = record {
   fresh = new;
 }
 
+-- the first rule's time alone stands
+pub once_alone : AllStand counting (once_find ∷ [])
+once_alone = record { each = (stands_after [] [] once_find once_stands (one_new (known_with []) (time_key 1) refl), tt) }
+
 four : AllStand counting (once_find ∷ entered_find ∷ alone_find ∷ looped_find ∷ [])
 four = record {
   each = (

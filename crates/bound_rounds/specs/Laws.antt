@@ -29,7 +29,7 @@ pub record StandingFindsHaveLemmas : Type 0 where
   pub stated : (s : Setting) (fs : List Find) → AllStand s fs
       → facts_of_lemmas s (lemmas_of fs) ≡ map facts_of_find fs
 
--- after all lists of lemmas that state bounds of a table alone, some of which are known by these numbers, the lemma of a
+-- after all lists of lemmas that state bounds of a table alone, and by these numbers all that is known: the lemma of a
 -- node that is accepted over what is known, with what it needs, all of which is known, is accepted; and it states the
 -- bound that the node composes, for each of its keys
 pub record NodesAreAccepted : Type 0 where
@@ -42,14 +42,16 @@ pub record NodesAreAccepted : Type 0 where
       → facts_of s past (lemma_by number node needs)
       ≡ map (λ k. fact_at k (composed_bound s b node)) (keys_of s.program node)
 
--- a bound that was found is a fact of the lemma whose number its key has; and one find alone states the bound of a key,
--- which is the known one
+-- a bound that was found is a fact of the lemma whose number its key has; one find alone states the bound of a key, which
+-- is the known one; and the lemmas of finds that stand say all that is known with them
 pub record FindsAreNumbered : Type 0 where
   pub each : (s : Setting) (fs : List Find) → AllStand s fs → (t i : ℕ) (b : Bound) → IsRule s.program t
       → bounds_of s.program fs t i ≡ Some b
       → Contains (facts_of_lemma (facts_of_lemmas s (lemmas_of fs)) (number_in fs t i)) (place_fact t i b)
   pub alone : (s : Setting) (fs : List Find) → AllStand s fs → (f : Find) → Contains fs f → (t i : ℕ)
       → has_key f.keys t i ≡ true → bounds_of s.program fs t i ≡ Some f.bound
+  pub say : (s : Setting) (fs : List Find) → AllStand s fs
+      → SayBounds s (facts_of_lemmas s (lemmas_of fs)) (number_in fs) (bounds_of s.program fs) (bounds_of s.program fs)
 
 -- every bound that is known with finds that stand holds on all runs
 pub record StandingFindsHold : Type 0 where

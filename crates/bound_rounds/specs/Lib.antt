@@ -21,6 +21,7 @@ pub mod Laws
 pub mod WorkedFinds
 pub mod WorkedSets
 pub mod WorkedStanding
+pub mod WorkedStated
 pub mod WorkedRounds
 pub mod WorkedFirst
 pub mod WorkedAnswers

@@ -10,6 +10,7 @@ ghost use Rattle.bound_rounds.specs.WorkedFinds.{FindsAreReadOff, KeysAreWorkedO
 ghost use Rattle.bound_rounds.specs.WorkedFinds.{LemmasAreWorkedOut};
 ghost use Rattle.bound_rounds.specs.WorkedSets.{SetsOfCounting, ShutOfCounting};
 ghost use Rattle.bound_rounds.specs.WorkedStanding.{StandingIsWorkedOut};
+ghost use Rattle.bound_rounds.specs.WorkedStated.{BoundsAreSaidAsWorkedOut};
 ghost use Rattle.bound_rounds.specs.WorkedFirst.{FirstFindsAreWorkedOut, RightAnswersAreWorkedOut};
 ghost use Rattle.bound_rounds.specs.WorkedFirst.{RightRankingsAreWorkedOut};
 ghost use Rattle.bound_rounds.specs.WorkedRounds.{FirstRoundIsWorkedOut, LaterRoundsAreWorkedOut, ReasonsAreWorkedOut};
@@ -29,7 +30,8 @@ pub fn standing_finds_have_lemmas()
     ensures { StandingFindsHaveLemmas }
 {}
 
-/// A bound that was found is a fact of the lemma whose number its key has, and one find alone states it.
+/// A bound that was found is a fact of the lemma whose number its key has, and one find alone states it; these lemmas say
+/// all that is known.
 pub fn finds_are_numbered()
     ensures { FindsAreNumbered }
 {}
@@ -88,11 +90,12 @@ pub fn sets_are_as_worked_out()
     ensures shut { ShutOfCounting }
 {}
 
-/// Which finds of that program stand, and of ones with a rule that is never reached or empty, is what was worked out by
-/// hand.
+/// Which finds of that program stand, and of ones with a rule that is never reached or empty, and which lemmas say what
+/// is known, is what was worked out by hand.
 pub fn standing_is_as_worked_out()
     ensures standing { StandingIsWorkedOut }
     ensures empty { EmptyFindsAreWorkedOut }
+    ensures said { BoundsAreSaidAsWorkedOut }
 {}
 
 /// What is found before the first round of programs with rules that never run, and which answers are right, is what was
