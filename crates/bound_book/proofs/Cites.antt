@@ -6,7 +6,7 @@ use Rattle.bound_rounds.specs.Needs.{lemma_by, lemmas_of}
 use Rattle.size_bounds.specs.declared.table.Table.{Table}
 use Rattle.bound_book.specs.declared.find.Find.{Find}
 use Rattle.bound_book.specs.Books.{IsBook}
-use Rattle.bound_book.specs.ByKey.{number_at}
+use Rattle.size_bounds.specs.Tables.{number_at}
 use Rattle.bound_book.specs.Views.{finds_of}
 
 -- the lemmas of finds by the numbers of their table

@@ -19,9 +19,9 @@ use Rattle.outcome.specs.declared.entry.Stored.{Stored}
 use Rattle.proof_tree.specs.proof_nodes.AcceptsPlain.{IsRule}
 use Rattle.proof_tree.specs.proof_nodes.Nodes.{Spot}
 use Rattle.size_bounds.specs.declared.table.Table.{Table}
-use Rattle.size_bounds.specs.Tables.{row_at, bound_stored}
+use Rattle.size_bounds.specs.Tables.{row_at, bound_stored, number_at, stored_in}
 use Rattle.bound_book.specs.declared.find.Find.{Find}
-use Rattle.bound_book.specs.ByKey.{bounds_in, number_at, rows_of, is_free, IsWritten, stored_in}
+use Rattle.bound_book.specs.ByKey.{bounds_in, rows_of, is_free, IsWritten}
 use Rattle.bound_book.specs.Books.{HasKeys, IsBook, IsKey, AreOpen}
 use Rattle.bound_book.specs.Views.{find_of, finds_of}
 use Rattle.bound_book.proofs.Entries.{free_within}

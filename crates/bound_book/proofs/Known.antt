@@ -9,10 +9,10 @@ use Rattle.bound_rounds.specs.Laws.{missing}
 use Rattle.outcome.specs.declared.entry.Stored.{Stored}
 use Rattle.proof_tree.specs.proof_nodes.Known as nodes
 use Rattle.size_bounds.specs.declared.table.Table.{Table}
-use Rattle.size_bounds.specs.Tables.{bound_stored, stored_size, table_of, numbers_of}
+use Rattle.size_bounds.specs.Tables.{bound_stored, stored_size, table_of, numbers_of, number_at, stored_in}
 use Rattle.bound_book.specs.declared.find.Find.{Find}
 use Rattle.bound_book.specs.Books.{IsBook}
-use Rattle.bound_book.specs.ByKey.{bounds_in, number_at, stored_in}
+use Rattle.bound_book.specs.ByKey.{bounds_in}
 use Rattle.bound_book.specs.Views.{finds_of}
 
 -- the size that is stored of a place is that by key; place 0 is none

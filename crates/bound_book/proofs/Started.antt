@@ -14,10 +14,10 @@ use Rattle.bound_rounds.specs.Keys.{start_bounds}
 use Rattle.bound_rounds.specs.Finds as plain
 use Rattle.outcome.specs.declared.entry.Stored.{Stored}
 use Rattle.size_bounds.specs.declared.table.Table.{Table}
-use Rattle.size_bounds.specs.Tables.{entry_at, row_at, bound_stored, lemma_stored}
+use Rattle.size_bounds.specs.Tables.{entry_at, row_at, bound_stored, lemma_stored, number_at, stored_in}
 use Rattle.bound_book.specs.declared.find.Find.{Find}
 use Rattle.bound_book.specs.Books.{IsBook}
-use Rattle.bound_book.specs.ByKey.{bounds_in, number_at, rows_of, stored_in}
+use Rattle.bound_book.specs.ByKey.{bounds_in, rows_of}
 use Rattle.bound_book.specs.Views.{finds_of}
 use Rattle.bound_book.proofs.Room.{missing_few}
 use Rattle.bound_book.specs.Starting.{start_row, empty_rows, IsStartRow, AreStartTimes, AreFirstRows, AreStartSizes}

@@ -9,8 +9,8 @@ use Rattle.bound_rounds.proofs.Keys.{has_key-first, has_key-cases, has_key-none}
 use Rattle.outcome.specs.declared.entry.Stored.{Stored}
 use Rattle.proof_tree.specs.proof_nodes.Nodes.{Spot}
 use Rattle.size_bounds.specs.declared.table.Table.{Table}
-use Rattle.size_bounds.specs.Tables.{entry_at, row_at, bound_stored, lemma_stored}
-use Rattle.bound_book.specs.ByKey.{stored_in, bounds_in, number_at, rows_of, put_time, put_place, is_free_at, is_free}
+use Rattle.size_bounds.specs.Tables.{entry_at, row_at, bound_stored, lemma_stored, stored_in, number_at}
+use Rattle.bound_book.specs.ByKey.{bounds_in, rows_of, put_time, put_place, is_free_at, is_free}
 use Rattle.bound_book.specs.ByKey.{IsWritten}
 use Rattle.bound_book.proofs.Entries.{entry_own, entry_filled_own, entry_other, free_other, time_other, time_long}
 use Rattle.bound_book.proofs.Entries.{place_own, place_filled_own, place_other, place_long}

@@ -10,7 +10,8 @@ use Rattle.bound_rounds.specs.Laws.{missing}
 use Rattle.outcome.specs.declared.entry.Stored.{Stored}
 use Rattle.size_bounds.specs.declared.table.Table.{Table}
 use Rattle.bound_book.specs.declared.find.Find.{Find}
-use Rattle.bound_book.specs.ByKey.{bounds_in, number_at, rows_of}
+use Rattle.size_bounds.specs.Tables.{number_at}
+use Rattle.bound_book.specs.ByKey.{bounds_in, rows_of}
 use Rattle.bound_book.specs.Views.{finds_of}
 
 -- the table has a position for each key: for the time of the virtual entry and of each rule, and for each place after

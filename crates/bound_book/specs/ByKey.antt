@@ -6,20 +6,11 @@ use Rattle.proof_tree.specs.proof_nodes.Nodes.{Spot}
 use Rattle.bound_rounds.specs.Keys.{Bounds, has_key}
 use Rattle.outcome.specs.declared.entry.Stored.{Stored}
 use Rattle.size_bounds.specs.declared.table.Table.{Table}
-use Rattle.size_bounds.specs.Tables.{row_at, bound_stored, lemma_stored, stored_time, stored_size}
-
--- what is stored of a key
-abbrev pub stored_in : Table → ℕ → ℕ → Option Stored
-stored_in tab t zero = stored_time tab t
-stored_in tab t (suc i) = stored_size tab t (suc i)
+use Rattle.size_bounds.specs.Tables.{row_at, bound_stored, stored_in, number_at}
 
 -- the bounds of a table by key
 abbrev pub bounds_in : Table → Bounds
 bounds_in tab t i = bound_stored (stored_in tab t i)
-
--- the numbers of their lemmas by key; where no bound is known, 0
-abbrev pub number_at : Table → ℕ → ℕ → ℕ
-number_at tab t i = lemma_stored (stored_in tab t i)
 
 -- the rows of a table
 abbrev pub rows_of : Table → List (List (Option Stored))

@@ -7,7 +7,8 @@ use Rattle.outcome.specs.declared.entry.Stored.{Stored}
 use Rattle.size_bounds.specs.declared.table.Table.{Table}
 use Rattle.bound_book.specs.declared.find.Find.{Find}
 use Rattle.bound_book.specs.Books.{IsBook}
-use Rattle.bound_book.specs.ByKey.{bounds_in, number_at, rows_of, put_time, put_place, is_free_at}
+use Rattle.size_bounds.specs.Tables.{number_at}
+use Rattle.bound_book.specs.ByKey.{bounds_in, rows_of, put_time, put_place, is_free_at}
 use Rattle.bound_book.specs.Views.{find_of}
 
 -- the time is read at place 0, and sizes from place 1; past the ends nothing is

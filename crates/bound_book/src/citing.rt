@@ -4,18 +4,17 @@ ghost use Rattle.std.specs.Prelude.{◌≡◌, map, IfOk};
 ghost use Rattle.model.specs.Programs.{Program};
 ghost use Rattle.proof_tree.specs.proof_nodes.Nodes.{Rank, Never, Cite};
 ghost use Rattle.bound_rounds.specs.Finds.{UnreachedBy};
-ghost use Rattle.bound_rounds.specs.Needs.{lemma_by, lemmas_of, uses_for};
+ghost use Rattle.bound_rounds.specs.Needs.{lemma_by, lemmas_of};
 ghost use Rattle.proof_tree.specs.Views.{spot_of, proof_of, rank_of};
 ghost use Rattle.size_bounds.specs.Lemmas.{uses_of_proofs};
-ghost use Rattle.bound_book.specs.ByKey.{number_at};
+ghost use Rattle.size_bounds.specs.Tables.{number_at};
 ghost use Rattle.bound_book.specs.Books.{IsBook};
 ghost use Rattle.bound_book.specs.Views.{node_of, finds_of};
 
-use crate::by_key::lemma_of_key;
 use crate::find::{Find, Node};
 use model::Memory;
 use proof_tree::{CycleNode, Member, Proof, RankNode, Spot, SpreadNode, UnreachedNode, cite};
-use size_bounds::{Table, uses_of_lemmas};
+use size_bounds::{Table, uses_of_needs};
 use std::alloc::Global;
 
 /// A lemma for each find, in order. It rests on the lemmas of the bounds that the find needs, by the numbers of the
@@ -60,13 +59,13 @@ fn lemma(alloc: Global, table: &Table, find: Find) -> Result<Proof, Memory>
         Node::Empty(node) => Ok(Proof::Empty(Box::new(alloc, node)?)),
         Node::Unreached { rule } => unreached_lemma(alloc, table, rule, &needs),
         Node::Never { rule } => never_lemma(alloc, table, rule),
-        Node::Rank(node) => rank_lemma(alloc, node, cited(alloc, table, &needs)?),
+        Node::Rank(node) => rank_lemma(alloc, node, uses_of_needs(alloc, table, &needs)?),
         Node::Spread(Member { spot, local }) => {
-            let uses = cited(alloc, table, &needs)?;
+            let uses = uses_of_needs(alloc, table, &needs)?;
             Ok(Proof::Spread(Box::new(alloc, SpreadNode { spot, local, uses })?))
         }
         Node::Cycle(members) => {
-            let uses = cited(alloc, table, &needs)?;
+            let uses = uses_of_needs(alloc, table, &needs)?;
             Ok(Proof::Cycle(Box::new(alloc, CycleNode { members, uses })?))
         }
     }
@@ -77,7 +76,7 @@ fn unreached_lemma(alloc: Global, table: &Table, rule: u32, needs: &[Spot]) -> R
     ensures { IfOk result (λ lemma. proof_of lemma
         ≡ lemma_by (number_at table.now) (UnreachedBy rule) (map spot_of needs.now)) }
 {
-    let uses = cited(alloc, table, needs)?;
+    let uses = uses_of_needs(alloc, table, needs)?;
     Ok(Proof::Unreached(Box::new(alloc, UnreachedNode { rule, uses })?))
 }
 
@@ -85,7 +84,7 @@ fn unreached_lemma(alloc: Global, table: &Table, rule: u32, needs: &[Spot]) -> R
 fn never_lemma(alloc: Global, table: &Table, rule: u32) -> Result<Proof, Memory>
     ensures { IfOk result (λ lemma. proof_of lemma ≡ Never (Cite (number_at table.now rule 0))) }
 {
-    let number = lemma_of_key(table, Spot { rule, place: 0 });
+    let number = table.lemma(Spot { rule, place: 0 });
     Ok(Proof::Never(Box::new(alloc, cite(number))?))
 }
 
@@ -112,24 +111,4 @@ fn rank_lemma(alloc: Global, node: RankNode, uses: Vec<Proof>) -> Result<Proof, 
         uses,
     };
     Ok(Proof::Rank(Box::new(alloc, whole)?))
-}
-
-// The lemmas of needed bounds, as what a node rests on.
-fn cited(alloc: Global, table: &Table, needs: &[Spot]) -> Result<Vec<Proof>, Memory>
-    ensures { IfOk result (λ uses. uses_of_proofs uses.items ≡ uses_for (number_at table.now) (map spot_of needs.now)) }
-{
-    let numbers = numbers_of(alloc, table, needs)?;
-    uses_of_lemmas(alloc, &numbers)
-}
-
-// The numbers of the lemmas of needed bounds, in order.
-fn numbers_of(alloc: Global, table: &Table, needs: &[Spot]) -> Result<Vec<u32>, Memory>
-    ensures { IfOk result (λ numbers. numbers.items
-        ≡ map (λ k. number_at table.now k.rule k.place) (map spot_of needs.now)) }
-{
-    let mut numbers = Vec::new(alloc);
-    for need in needs {
-        numbers.push(lemma_of_key(table, *need))?;
-    }
-    Ok(numbers)
 }

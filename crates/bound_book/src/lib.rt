@@ -12,7 +12,7 @@ mod worked;
 mod writing;
 
 pub use book::Book;
-pub use by_key::{is_known, lemma_of_key, stored};
+pub use by_key::is_known;
 pub use citing::lemmas;
 pub use find::{Find, Node};
 pub use starting::book_of_start;

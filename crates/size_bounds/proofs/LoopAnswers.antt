@@ -20,18 +20,14 @@ use Rattle.proof_tree.specs.proof_nodes.Checks.{needed_times, straight_into, cyc
 use Rattle.proof_tree.proofs.proof_nodes.CheckLists.{passes_each}
 use Rattle.proof_tree.proofs.proof_nodes.SizeReasons.{passes-cycle}
 use Rattle.proof_tree.specs.proof_setting.Setting.{setting_of}
-use Rattle.bound_rounds.specs.Keys.{lacks}
-use Rattle.size_bounds.specs.Uses.{Numbers}
-use Rattle.size_bounds.specs.declared.answer.SizeAnswer.{SizeAnswer}
-use Rattle.size_bounds.specs.declared.answer.SizeAnswer.TheVariants as answers
-use Rattle.size_bounds.specs.Needs.{first_missing}
+use Rattle.bound_rounds.specs.Keys.{lacks, time_key}
+use Rattle.size_bounds.specs.Needs.{first_missing, first_unknown}
 use Rattle.size_bounds.specs.Growths.{growth_by_flows, growing_rule_numbers, composed}
-use Rattle.size_bounds.specs.LoopAnswers.{first_unknown, loop_needs, IsTimedAnswer, IsAnswerBy, IsLoopAnswer}
 use Rattle.size_bounds.specs.BentArms.{first_bent}
-use Rattle.size_bounds.specs.SizeAnswers.{AreMembersOfProgram, IsCycleAnswer}
+use Rattle.size_bounds.specs.SizeAnswers.{AreMembersOfProgram}
 use Rattle.size_bounds.specs.declared.sizing.Sizing.{Sizing}
 use Rattle.size_bounds.specs.declared.sizing.Sizing.TheVariants as sizings
-use Rattle.size_bounds.specs.Sizings.{time_spot, IsTimedSizing, IsSizingWhere, IsLoopSizing, IsCycleSizing}
+use Rattle.size_bounds.specs.Sizings.{IsTimedSizing, IsSizingWhere, IsLoopSizing, IsCycleSizing}
 use Rattle.size_bounds.proofs.FirstMissing.{all-known, first-missing, behind-each}
 use Rattle.size_bounds.proofs.BentMembers.{straight-first, straight-passes, bent-first}
 use Rattle.size_bounds.proofs.LoopParts.{composed-is, growing-are}
@@ -148,39 +144,8 @@ module _ (p : Program) (g : Graph) (preps : List RuleRows) (tab : Table) (ms : L
             (passes_each (check_time tab) small_checks timed (times-known tab timed e) (h, tt))))),
       )
 
-      timed-answer : (ns : Numbers) (a : SizeAnswer) → first_unknown tab.time timed ≡ None
-          → IsTimedAnswer ns ms (loop_needs needed timed) whole a → IsCycleAnswer (setting_of p) tab ns ms a
-      timed-answer ns (answers.Found node facts) e h = (is-accepted e h.0, h.1, h.2)
-      timed-answer ns (answers.Missing spot) e h = absurd h
-      timed-answer ns (answers.Bent spot) e h = absurd h
-      timed-answer ns (answers.Untimed rule) e h = absurd h
-      timed-answer ns (answers.Large nodes) e h = is-large nodes e h.0 h.1
-
-      answer-by : (ns : Numbers) (a : SizeAnswer) (o : Option ℕ) → first_unknown tab.time timed ≡ o
-          → IsAnswerBy o ns ms (loop_needs needed timed) whole a → IsCycleAnswer (setting_of p) tab ns ms a
-      answer-by ns a None e h = timed-answer ns a e h
-      answer-by ns a (Some t) e h = subst (IsCycleAnswer (setting_of p) tab ns ms) (sym h) (is-untimed t e)
-
-      -- what is answered over the flows and the rules of the loop is answered of it
-      pub is-answered : (ns : Numbers) (a : SizeAnswer) (spots : List Spot) (fs : List Flow) (ts : List ℕ)
-          → spots ≡ needed → fs ≡ flows (setting_of p) ms tab.size → ts ≡ rules_of (setting_of p) ms
-          → IsLoopAnswer tab ns ms spots (base_of fs) (map (growth_by_flows fs) ts) a → IsCycleAnswer (setting_of p) tab ns ms a
-      is-answered ns a spots fs ts es ef et h =
-          answer-by ns a (first_unknown tab.time timed) refl
-          (subst (λ (ss : List Spot). IsAnswerBy (first_unknown tab.time timed) ns ms (loop_needs ss timed) whole a) es
-          (subst (λ (us : List ℕ). IsAnswerBy (first_unknown tab.time us) ns ms (loop_needs spots us) whole a) times-are
-          (subst (λ (b : Bound). IsAnswerBy (first_unknown tab.time (growing_rule_numbers (map (growth_by_flows fs) ts))) ns ms
-          (loop_needs spots (growing_rule_numbers (map (growth_by_flows fs) ts))) b a) bound-is h)))
-        where
-          times-are : growing_rule_numbers (map (growth_by_flows fs) ts) ≡ timed
-          times-are = (λ i. growing_rule_numbers (map (growth_by_flows (ef i)) (et i))) ∙ growing-are p (flows (setting_of p) ms tab.size) (rules_of (setting_of p) ms)
-
-          bound-is : composed tab.time (base_of fs) (map (growth_by_flows fs) ts) ≡ whole
-          bound-is = (λ i. composed tab.time (base_of (ef i)) (map (growth_by_flows (ef i)) (et i)))
-              ∙ composed-is p (flows (setting_of p) ms tab.size) tab.time (rules_of (setting_of p) ms)
-
       timed-sizing : (a : Sizing) → first_unknown tab.time timed ≡ None
-          → IsTimedSizing (needed ++ map time_spot timed) whole a → IsCycleSizing (setting_of p) tab ms a
+          → IsTimedSizing (needed ++ map time_key timed) whole a → IsCycleSizing (setting_of p) tab ms a
       timed-sizing (sizings.Found needs bound) e h = (is-accepted e h.0, h.1, h.2)
       timed-sizing (sizings.Missing spot) e h = absurd h
       timed-sizing (sizings.Bent spot) e h = absurd h
@@ -188,20 +153,20 @@ module _ (p : Program) (g : Graph) (preps : List RuleRows) (tab : Table) (ms : L
       timed-sizing (sizings.Large nodes) e h = is-large nodes e h.0 h.1
 
       sizing-where : (a : Sizing) (o : Option ℕ) → first_unknown tab.time timed ≡ o
-          → IsSizingWhere o (needed ++ map time_spot timed) whole a → IsCycleSizing (setting_of p) tab ms a
+          → IsSizingWhere o (needed ++ map time_key timed) whole a → IsCycleSizing (setting_of p) tab ms a
       sizing-where a None e h = timed-sizing a e h
       sizing-where a (Some t) e h = subst (IsCycleSizing (setting_of p) tab ms) (sym h) (is-untimed t e)
 
-      -- and so it is without the lemmas that the node rests on
+      -- what is answered over the flows and the rules of the loop is answered of it
       pub is-sized : (a : Sizing) (spots : List Spot) (fs : List Flow) (ts : List ℕ)
           → spots ≡ needed → fs ≡ flows (setting_of p) ms tab.size → ts ≡ rules_of (setting_of p) ms
           → IsLoopSizing tab spots (base_of fs) (map (growth_by_flows fs) ts) a → IsCycleSizing (setting_of p) tab ms a
       is-sized a spots fs ts es ef et h =
           sizing-where a (first_unknown tab.time timed) refl
-          (subst (λ (ss : List Spot). IsSizingWhere (first_unknown tab.time timed) (ss ++ map time_spot timed) whole a) es
-          (subst (λ (us : List ℕ). IsSizingWhere (first_unknown tab.time us) (spots ++ map time_spot us) whole a) times-are
+          (subst (λ (ss : List Spot). IsSizingWhere (first_unknown tab.time timed) (ss ++ map time_key timed) whole a) es
+          (subst (λ (us : List ℕ). IsSizingWhere (first_unknown tab.time us) (spots ++ map time_key us) whole a) times-are
           (subst (λ (b : Bound). IsSizingWhere (first_unknown tab.time (growing_rule_numbers (map (growth_by_flows fs) ts)))
-          (spots ++ map time_spot (growing_rule_numbers (map (growth_by_flows fs) ts))) b a) bound-is h)))
+          (spots ++ map time_key (growing_rule_numbers (map (growth_by_flows fs) ts))) b a) bound-is h)))
         where
           times-are : growing_rule_numbers (map (growth_by_flows fs) ts) ≡ timed
           times-are = (λ i. growing_rule_numbers (map (growth_by_flows (ef i)) (et i))) ∙ growing-are p (flows (setting_of p) ms tab.size) (rules_of (setting_of p) ms)

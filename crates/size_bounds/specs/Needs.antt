@@ -1,5 +1,6 @@
--- The sizes that arms need: those of the places that they read, but for members; and the first that isn't known.
-use Rattle.std.specs.Prelude.{ℕ, zero, suc, not, List, [], ◌∷◌, ◌++◌, filter, Option, Some, None}
+-- The sizes that arms need: those of the places that they read, but for members; and the first size or time that isn't
+-- known.
+use Rattle.std.specs.Prelude.{ℕ, zero, suc, not, cond, List, [], ◌∷◌, ◌++◌, filter, Option, Some, None}
 use Rattle.model.specs.Bounds.{Bound}
 use Rattle.model.specs.Polynomials.{Polynomial}
 use Rattle.proof_tree.specs.proof_setting.Setting.{bent_at}
@@ -7,6 +8,7 @@ use Rattle.proof_tree.specs.proof_nodes.Nodes.{Spot, Member}
 use Rattle.proof_tree.specs.proof_nodes.Known.{Table}
 use Rattle.proof_tree.specs.proof_nodes.ComposedSizes.{is_member}
 use Rattle.proof_tree.specs.proof_nodes.Checks.{spots_after}
+use Rattle.bound_rounds.specs.Keys.{lacks}
 
 -- the update at a place, where it has degree 2 or more; places count from 1
 abbrev pub update_at : List Polynomial → ℕ → Option Polynomial
@@ -32,3 +34,8 @@ this_or (Some b) spot rest = rest
 abbrev pub first_missing : Table → List Spot → Option Spot
 first_missing tab [] = None
 first_missing tab (spot ∷ spots) = this_or (tab.size spot.rule spot.place) spot (first_missing tab spots)
+
+-- the first of these rules without a time
+abbrev pub first_unknown : (ℕ → Option Bound) → List ℕ → Option ℕ
+first_unknown time [] = None
+first_unknown time (t ∷ ts) = cond (lacks (time t)) (Some t) (first_unknown time ts)

@@ -1,5 +1,5 @@
 -- What is answered of a size: a node that states it, or the first reason why there is none.
-use Rattle.std.specs.Prelude.{◌≡◌, List, [], ◌∷◌}
+use Rattle.std.specs.Prelude.{◌≡◌, ℕ, List, [], ◌∷◌}
 use Rattle.std.specs.List.{All}
 use Rattle.model.specs.Programs.{Program}
 use Rattle.model.specs.Facts.{Size}
@@ -17,33 +17,33 @@ use Rattle.proof_tree.specs.proof_nodes.Checks.{spread_checks, cycle_checks}
 use Rattle.proof_tree.specs.proof_setting.Setting.{setting_of}
 use Rattle.proof_tree.specs.Composing.{AreRowsOf}
 use Rattle.proof_tree.specs.Views.{facts_of, proof_of}
-use Rattle.size_bounds.specs.Uses.{Numbers, uses_for, spread_needs, cycle_needs}
+use Rattle.bound_rounds.specs.Needs.{uses_for, spread_needs, cycle_needs}
 use Rattle.size_bounds.specs.declared.answer.SizeAnswer.{SizeAnswer}
 use Rattle.size_bounds.specs.declared.answer.SizeAnswer.TheVariants as answers
 
--- what is answered of a place that doesn't loop, over a table whose bounds are those of lemmas with these numbers: the
--- node that is accepted, with what it rests on, and its size; or the first check of the node that fails
-abbrev pub IsSpreadAnswer : Setting → Table → Numbers → Member → SizeAnswer → Type 0
-IsSpreadAnswer s tab ns m (answers.Found node facts) = AcceptsSpread s tab m
-    × (proof_of node ≡ Spread m (uses_for ns (spread_needs s m)))
+-- what is answered of a place that doesn't loop, over a table whose bounds by key are those of lemmas with these
+-- numbers: the node that is accepted, with what it rests on, and its size; or the first check of the node that fails
+abbrev pub IsSpreadAnswer : Setting → Table → (ℕ → ℕ → ℕ) → Member → SizeAnswer → Type 0
+IsSpreadAnswer s tab number m (answers.Found node facts) = AcceptsSpread s tab m
+    × (proof_of node ≡ Spread m (uses_for number (spread_needs s m)))
     × (facts_of facts.items ≡ Size m.spot.rule m.spot.place (s.rewrite (spread_size s tab m)) ∷ [])
-IsSpreadAnswer s tab ns m (answers.Missing spot) =
+IsSpreadAnswer s tab number m (answers.Missing spot) =
     IsFirstAmong (spread_checks s tab m) (MissingSize spot.rule spot.place)
-IsSpreadAnswer s tab ns m (answers.Bent spot) = ⊥
-IsSpreadAnswer s tab ns m (answers.Untimed rule) = ⊥
-IsSpreadAnswer s tab ns m (answers.Large nodes) = IsFirstAmong (spread_checks s tab m) (Large nodes)
+IsSpreadAnswer s tab number m (answers.Bent spot) = ⊥
+IsSpreadAnswer s tab number m (answers.Untimed rule) = ⊥
+IsSpreadAnswer s tab number m (answers.Large nodes) = IsFirstAmong (spread_checks s tab m) (Large nodes)
 
 -- what is answered of the members of a loop: the same, with one size for all
-abbrev pub IsCycleAnswer : Setting → Table → Numbers → List Member → SizeAnswer → Type 0
-IsCycleAnswer s tab ns members (answers.Found node facts) = AcceptsCycle s tab members
-    × (proof_of node ≡ Cycle members (uses_for ns (cycle_needs s tab members)))
+abbrev pub IsCycleAnswer : Setting → Table → (ℕ → ℕ → ℕ) → List Member → SizeAnswer → Type 0
+IsCycleAnswer s tab number members (answers.Found node facts) = AcceptsCycle s tab members
+    × (proof_of node ≡ Cycle members (uses_for number (cycle_needs s tab members)))
     × (facts_of facts.items ≡ cycle_facts (s.rewrite (cycle_size s tab members)) members)
-IsCycleAnswer s tab ns members (answers.Missing spot) =
+IsCycleAnswer s tab number members (answers.Missing spot) =
     IsFirstAmong (cycle_checks s tab members) (MissingSize spot.rule spot.place)
-IsCycleAnswer s tab ns members (answers.Bent spot) =
+IsCycleAnswer s tab number members (answers.Bent spot) =
     IsFirstAmong (cycle_checks s tab members) (Bent spot.rule spot.place)
-IsCycleAnswer s tab ns members (answers.Untimed rule) = IsFirstAmong (cycle_checks s tab members) (MissingTime rule)
-IsCycleAnswer s tab ns members (answers.Large nodes) = IsFirstAmong (cycle_checks s tab members) (Large nodes)
+IsCycleAnswer s tab number members (answers.Untimed rule) = IsFirstAmong (cycle_checks s tab members) (MissingTime rule)
+IsCycleAnswer s tab number members (answers.Large nodes) = IsFirstAmong (cycle_checks s tab members) (Large nodes)
 
 -- the graph and the rows are those of a program, and the arms of a member are accepted
 pub record IsMemberOfProgram (p : Program) (g : Graph) (preps : List RuleRows) (m : Member) : Type 0 where

@@ -1,6 +1,6 @@
 -- What is answered of a size without the lemmas that it rests on: the keys of the bounds that a node needs, and its
 -- bound; or the first reason why there is none.
-use Rattle.std.specs.Prelude.{◌≡◌, ℕ, List, [], ◌∷◌, ◌++◌, map, Option, Some, None}
+use Rattle.std.specs.Prelude.{◌≡◌, ℕ, List, ◌++◌, map, Option, Some, None}
 use Rattle.model.specs.Bounds.{Bound}
 use Rattle.bound_expr.specs.Views.{bound_of}
 use Rattle.bound_table.specs.InForce.{rewritten}
@@ -10,22 +10,20 @@ use Rattle.proof_tree.specs.proof_nodes.Known.{Table}
 use Rattle.proof_tree.specs.proof_nodes.Limits.{IsSmallComposed}
 use Rattle.proof_tree.specs.proof_nodes.AcceptsSizes.{AcceptsSpread, AcceptsCycle, spread_size, cycle_size}
 use Rattle.proof_tree.specs.proof_nodes.Reasons.{MissingTime, MissingSize, Bent, Large, IsFirstAmong}
-use Rattle.proof_tree.specs.proof_nodes.Checks.{large_nodes, needed_into, needed_times, spread_checks, cycle_checks}
+use Rattle.proof_tree.specs.proof_nodes.Checks.{large_nodes, spread_checks, cycle_checks}
 use Rattle.proof_tree.specs.Views.{spot_of}
+use Rattle.bound_rounds.specs.Keys.{time_key}
+use Rattle.bound_rounds.specs.Needs.{spread_needs, cycle_needs}
 use Rattle.size_bounds.specs.declared.sizing.Sizing.{Sizing}
 use Rattle.size_bounds.specs.declared.sizing.Sizing.TheVariants as sizings
 use Rattle.size_bounds.specs.Growths.{Growth, growing_rule_numbers, composed}
-use Rattle.size_bounds.specs.LoopAnswers.{first_unknown}
-
--- the key of the time of a rule: place 0
-abbrev pub time_spot : ℕ → Spot
-time_spot t = record { rule = t; place = 0 }
+use Rattle.size_bounds.specs.Needs.{first_unknown}
 
 -- what is answered of a place that doesn't loop: the sizes that the node needs, which is accepted, and its bound; or
 -- the first check of the node that fails
 abbrev pub IsSpreadSizing : Setting → Table → Member → Sizing → Type 0
 IsSpreadSizing s tab m (sizings.Found needs bound) = AcceptsSpread s tab m
-    × (map spot_of needs.items ≡ needed_into s [] (m ∷ [])) × (bound_of bound ≡ s.rewrite (spread_size s tab m))
+    × (map spot_of needs.items ≡ spread_needs s m) × (bound_of bound ≡ s.rewrite (spread_size s tab m))
 IsSpreadSizing s tab m (sizings.Missing spot) =
     IsFirstAmong (spread_checks s tab m) (MissingSize spot.rule spot.place)
 IsSpreadSizing s tab m (sizings.Bent spot) = ⊥
@@ -36,7 +34,7 @@ IsSpreadSizing s tab m (sizings.Large nodes) = IsFirstAmong (spread_checks s tab
 -- behind the sizes
 abbrev pub IsCycleSizing : Setting → Table → List Member → Sizing → Type 0
 IsCycleSizing s tab members (sizings.Found needs bound) = AcceptsCycle s tab members
-    × (map spot_of needs.items ≡ needed_into s members members ++ map time_spot (needed_times s tab members))
+    × (map spot_of needs.items ≡ cycle_needs s tab members)
     × (bound_of bound ≡ s.rewrite (cycle_size s tab members))
 IsCycleSizing s tab members (sizings.Missing spot) =
     IsFirstAmong (cycle_checks s tab members) (MissingSize spot.rule spot.place)
@@ -65,4 +63,4 @@ IsSizingWhere (Some t) needs b a = a ≡ sizings.Untimed t
 abbrev pub IsLoopSizing : Table → List Spot → Bound → List Growth → Sizing → Type 0
 IsLoopSizing tab needed base gs a =
     IsSizingWhere (first_unknown tab.time (growing_rule_numbers gs))
-    (needed ++ map time_spot (growing_rule_numbers gs)) (composed tab.time base gs) a
+    (needed ++ map time_key (growing_rule_numbers gs)) (composed tab.time base gs) a

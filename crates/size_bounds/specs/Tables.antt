@@ -6,7 +6,6 @@ use Rattle.model.specs.Bounds.{Bound}
 use Rattle.bound_expr.specs.Views.{bound_of}
 use Rattle.proof_tree.specs.proof_nodes.Known as nodes
 use Rattle.outcome.specs.declared.entry.Stored.{Stored}
-use Rattle.size_bounds.specs.Uses.{Numbers}
 use Rattle.size_bounds.specs.declared.table.Table.{Table}
 
 -- what stands at a position, where something does
@@ -53,9 +52,11 @@ table_of tab = record {
   size = λ t i. bound_stored (stored_size tab t i);
 }
 
--- the numbers of their lemmas
-abbrev pub numbers_of : Table → Numbers
-numbers_of tab = record {
-  time = λ t. lemma_stored (stored_time tab t);
-  size = λ t i. lemma_stored (stored_size tab t i);
-}
+-- what is stored of a key: of the time of a rule at place 0, and of its sizes at the places of its target
+abbrev pub stored_in : Table → ℕ → ℕ → Option Stored
+stored_in tab t zero = stored_time tab t
+stored_in tab t (suc i) = stored_size tab t (suc i)
+
+-- the numbers of the lemmas by key; where no bound is known, 0
+abbrev pub number_at : Table → ℕ → ℕ → ℕ
+number_at tab t i = lemma_stored (stored_in tab t i)

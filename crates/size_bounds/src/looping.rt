@@ -1,24 +1,25 @@
 //! The size of the members of a loop.
 
-ghost use Rattle.std.specs.Prelude.{map, IfOk};
+ghost use Rattle.std.specs.Prelude.{◌≡◌, ◌++◌, map, IfOk};
 ghost use Rattle.model.specs.Programs.{Program};
+ghost use Rattle.bound_expr.specs.Views.{bound_of};
+ghost use Rattle.proof_tree.specs.proof_nodes.Nodes.{Cycle};
+ghost use Rattle.proof_tree.specs.proof_nodes.AcceptsSizes.{cycle_facts};
 ghost use Rattle.proof_tree.specs.proof_setting.Setting.{setting_of};
-ghost use Rattle.proof_tree.specs.Views.{member_of};
-ghost use Rattle.size_bounds.specs.Tables.{table_of, numbers_of};
+ghost use Rattle.proof_tree.specs.Views.{facts_of, member_of, proof_of, spot_of};
+ghost use Rattle.bound_rounds.specs.Needs.{uses_for};
+ghost use Rattle.size_bounds.specs.Tables.{table_of, number_at};
 ghost use Rattle.size_bounds.specs.SizeAnswers.{AreMembersOfProgram, IsCycleAnswer};
 
 use crate::answer::SizeAnswer;
-use crate::bent::first_bent;
-use crate::flow::flows_in;
-use crate::loop_answer::answer_of_flows;
-use crate::missing::first_missing;
-use crate::needs::needed_spots;
-use crate::rules::rules_in;
+use crate::sized::sized_cycle;
+use crate::sizing::Sizing;
 use crate::table::Table;
-use bound_expr::Memory;
+use crate::uses::uses_of_needs;
+use bound_expr::{Bound, Memory};
 use guard_prep::RuleRows;
 use its_graph::Graph;
-use proof_tree::Member;
+use proof_tree::{CycleNode, Fact, Member, Proof, Spot, copied_local};
 use std::alloc::Global;
 
 /// The size of all members of a loop of places: what comes into the loop from outside, and what its rules add, each as
@@ -40,16 +41,66 @@ pub fn cycle(
 ) -> Result<SizeAnswer, Memory>
     requires { (p : Program) × AreMembersOfProgram p g.now preps.now (map member_of members.now) }
     ensures { IfOk result (λ a. (p : Program) → AreMembersOfProgram p g.now preps.now (map member_of members.now)
-        → IsCycleAnswer (setting_of p) (table_of t.now) (numbers_of t.now) (map member_of members.now) a) }
+        → IsCycleAnswer (setting_of p) (table_of t.now) (number_at t.now) (map member_of members.now) a) }
 {
-    let needed = needed_spots(alloc, g, preps, members)?;
-    if let Some(spot) = first_missing(t, &needed) {
-        return Ok(SizeAnswer::Missing(spot));
+    let sizing = sized_cycle(alloc, g, preps, t, members)?;
+    match sizing {
+        Sizing::Found { needs, bound } => Ok(SizeAnswer::Found {
+            node: cycle_node(alloc, t, members, &needs)?,
+            facts: size_facts(alloc, members, &bound)?,
+        }),
+        Sizing::Missing(spot) => Ok(SizeAnswer::Missing(spot)),
+        Sizing::Bent(spot) => Ok(SizeAnswer::Bent(spot)),
+        Sizing::Untimed { rule } => Ok(SizeAnswer::Untimed { rule }),
+        Sizing::Large { nodes } => Ok(SizeAnswer::Large { nodes }),
     }
-    if let Some(spot) = first_bent(g, preps, members) {
-        return Ok(SizeAnswer::Bent(spot));
+}
+
+// The node of these members that rests on the lemmas of these bounds.
+fn cycle_node(alloc: Global, t: &Table, members: &[Member], needs: &[Spot]) -> Result<Proof, Memory>
+    ensures { IfOk result (λ node. proof_of node
+        ≡ Cycle (map member_of members.now) (uses_for (number_at t.now) (map spot_of needs.now))) }
+{
+    let uses = uses_of_needs(alloc, t, needs)?;
+    let members = copied_members(alloc, members)?;
+    Ok(Proof::Cycle(Box::new(alloc, CycleNode { members, uses })?))
+}
+
+// A copy of a member.
+fn copied_member(alloc: Global, member: &Member) -> Result<Member, Memory>
+    ensures { IfOk result (λ m. member_of m ≡ member_of member.now) }
+{
+    let local = copied_local(alloc, &member.local)?;
+    Ok(Member {
+        spot: member.spot,
+        local,
+    })
+}
+
+// Copies of members, in order.
+fn copied_members(alloc: Global, members: &[Member]) -> Result<Vec<Member>, Memory>
+    ensures { IfOk result (λ ms. map member_of ms.items ≡ map member_of members.now) }
+{
+    let mut copies = Vec::new(alloc);
+    for member in members {
+        let copy = copied_member(alloc, member)?;
+        copies.push(copy)?;
     }
-    let flows = flows_in(alloc, g, preps, t, members)?;
-    let rules = rules_in(alloc, members)?;
-    answer_of_flows(alloc, t, members, &needed, &flows, &rules)
+    Ok(copies)
+}
+
+// The facts that this is the size of each member.
+fn size_facts(alloc: Global, members: &[Member], bound: &Bound) -> Result<Vec<Fact>, Memory>
+    ensures { IfOk result (λ facts. facts_of facts.items ≡ cycle_facts (bound_of bound.now) (map member_of
+        members.now)) }
+{
+    let mut facts = Vec::new(alloc);
+    for member in members {
+        facts.push(Fact::Size {
+            rule: member.spot.rule,
+            place: member.spot.place,
+            bound: bound.copied(alloc)?,
+        })?;
+    }
+    Ok(facts)
 }

@@ -7,19 +7,19 @@ ghost use Rattle.proof_tree.specs.proof_nodes.Checks.{needed_into};
 ghost use Rattle.proof_tree.specs.proof_nodes.ComposedSizes.{base_of};
 ghost use Rattle.proof_tree.specs.proof_setting.Setting.{setting_of};
 ghost use Rattle.proof_tree.specs.Views.{member_of, spot_of};
+ghost use Rattle.bound_rounds.specs.Keys.{time_key};
 ghost use Rattle.size_bounds.specs.Tables.{table_of};
 ghost use Rattle.size_bounds.specs.Flows.{flow_of};
 ghost use Rattle.size_bounds.specs.Growths.{growth_of, growth_by_flows};
 ghost use Rattle.size_bounds.specs.Needs.{first_missing as first_missing_of};
 ghost use Rattle.size_bounds.specs.SizeAnswers.{IsMemberOfProgram, AreMembersOfProgram};
-ghost use Rattle.size_bounds.specs.Sizings.{IsSpreadSizing, IsCycleSizing, IsTimedSizing, IsLoopSizing, time_spot};
+ghost use Rattle.size_bounds.specs.Sizings.{IsSpreadSizing, IsCycleSizing, IsTimedSizing, IsLoopSizing};
 
 use crate::bent::first_bent;
 use crate::flow::{Flow, flows_in};
 use crate::growth::{FlowKind, Growth, growing_rules, growths_by, maximum_offset};
-use crate::loop_answer::first_untimed;
 use crate::loop_bound::loop_bound;
-use crate::missing::first_missing;
+use crate::missing::{first_missing, first_untimed};
 use crate::needs::{needed_spots, push_needed};
 use crate::rules::rules_in;
 use crate::sizing::Sizing;
@@ -32,7 +32,8 @@ use its_graph::Graph;
 use proof_tree::{Member, Spot, spread_size};
 use std::alloc::Global;
 
-/// What `spread` answers, with the keys of the sizes that the node needs in place of lemmas that state them.
+/// What `spread` answers, with the keys of the sizes that the node needs in place of lemmas that state them. `Bent` and
+/// `Untimed` never come.
 ///
 /// # Errors
 ///
@@ -153,7 +154,7 @@ fn sized_by_growths(
 // Keys, and behind them those of the times of these rules.
 fn with_times(needed: Vec<Spot>, rules: &[u32]) -> Result<Vec<Spot>, Memory>
     ensures { IfOk result (λ needs. map spot_of needs.items
-        ≡ map spot_of needed.items ++ map time_spot rules.now) }
+        ≡ map spot_of needed.items ++ map time_key rules.now) }
 {
     let mut needs = needed;
     for rule in rules {

@@ -3,11 +3,11 @@
 ghost use Rattle.std.specs.Prelude.{◌≡◌, ℕ};
 ghost use Rattle.proof_tree.specs.Lookups.{optional_bound};
 ghost use Rattle.size_bounds.specs.Tables.{entry_at, optional_stored, bound_stored, lemma_stored, stored_time};
-ghost use Rattle.size_bounds.specs.Tables.{stored_size, table_of, numbers_of};
+ghost use Rattle.size_bounds.specs.Tables.{stored_size, stored_in, number_at, table_of};
 
 use bound_expr::Bound;
 use outcome::Stored;
-use proof_tree::Known;
+use proof_tree::{Known, Spot};
 
 /// What is known: a time of each rule or none, and a size of each place after each rule or none, each with the number
 /// of the lemma that states it. The virtual entry has the index 0.
@@ -38,18 +38,21 @@ impl Table {
         stored_at(&self.sizes[rule as usize], place as usize - 1)
     }
 
-    /// The number of the lemma of a rule's time; where it has none, 0.
-    pub fn time_lemma(&self, rule: u32) -> u32
-        ensures { result ≡ (numbers_of self.now).time rule }
+    /// What is stored of a key, where something is: of the time of a rule at place 0, and of its sizes.
+    pub fn stored(&self, key: Spot) -> Option<&Stored>
+        ensures { optional_stored result ≡ stored_in self.now key.rule key.place }
     {
-        lemma_in(self.stored_time(rule))
+        if key.place == 0 {
+            return self.stored_time(key.rule);
+        }
+        self.stored_size(key.rule, key.place)
     }
 
-    /// The number of the lemma of the size of a place after a rule; where it has none, 0.
-    pub fn size_lemma(&self, rule: u32, place: u32) -> u32
-        ensures { result ≡ (numbers_of self.now).size rule place }
+    /// The number of the lemma that states the bound of a key; 0 for the virtual entry, and where no bound is known.
+    pub fn lemma(&self, key: Spot) -> u32
+        ensures { result ≡ number_at self.now key.rule key.place }
     {
-        lemma_in(self.stored_size(rule, place))
+        lemma_in(self.stored(key))
     }
 }
 

@@ -5,9 +5,8 @@ ghost use Rattle.model.specs.Entries.{is_in};
 ghost use Rattle.proof_tree.specs.proof_nodes.Nodes.{Start, Cite};
 ghost use Rattle.proof_tree.specs.NumberSets.{HasJust};
 ghost use Rattle.proof_tree.specs.Views.{proof_of, spot_of};
-ghost use Rattle.bound_rounds.specs.Needs.{once, uses_from};
-ghost use Rattle.size_bounds.specs.Uses.{NeedsTime, size_needs, number_of};
-ghost use Rattle.size_bounds.specs.Tables.{numbers_of};
+ghost use Rattle.bound_rounds.specs.Needs.{once, uses_from, uses_for};
+ghost use Rattle.size_bounds.specs.Tables.{number_at};
 ghost use Rattle.size_bounds.specs.Lemmas.{uses_of_proofs, with_other};
 
 use crate::table::Table;
@@ -16,34 +15,29 @@ use proof_tree::{Proof, Spot, cite};
 use std::alloc::Global;
 use std::collections::BTreeSet;
 
-/// Appends the lemmas of these sizes.
-pub(crate) fn push_size_lemmas(
-    lemmas: &mut Vec<u32>,
-    t: &Table,
-    spots: &[Spot],
-) -> Result<(), Memory>
-    ensures { OnOk result (lemmas.new.items ≡ lemmas.old.items
-        ++ map (number_of (numbers_of t.now)) (size_needs (map spot_of spots.now))) }
+/// The lemmas of needed bounds, as what a node rests on: by the numbers of the table, the virtual entry first, where it
+/// is needed, and then each other lemma once, in the order in which the needed bounds come.
+///
+/// # Errors
+///
+/// `Memory` where an allocation fails.
+pub fn uses_of_needs(alloc: Global, t: &Table, needs: &[Spot]) -> Result<Vec<Proof>, Memory>
+    ensures { IfOk result (λ uses. uses_of_proofs uses.items ≡ uses_for (number_at t.now) (map spot_of needs.now)) }
 {
-    for spot in spots {
-        lemmas.push(t.size_lemma(spot.rule, spot.place))?;
-    }
-    Ok(())
+    let numbers = numbers_of(alloc, t, needs)?;
+    uses_of_lemmas(alloc, &numbers)
 }
 
-/// Appends the lemmas of the times of these rules.
-pub(crate) fn push_time_lemmas(
-    lemmas: &mut Vec<u32>,
-    t: &Table,
-    rules: &[u32],
-) -> Result<(), Memory>
-    ensures { OnOk result (lemmas.new.items ≡ lemmas.old.items
-        ++ map (number_of (numbers_of t.now)) (map (λ rule. NeedsTime rule) rules.now)) }
+// The numbers of the lemmas of needed bounds, in order.
+fn numbers_of(alloc: Global, t: &Table, needs: &[Spot]) -> Result<Vec<u32>, Memory>
+    ensures { IfOk result (λ numbers. numbers.items
+        ≡ map (λ k. number_at t.now k.rule k.place) (map spot_of needs.now)) }
 {
-    for rule in rules {
-        lemmas.push(t.time_lemma(*rule))?;
+    let mut numbers = Vec::new(alloc);
+    for need in needs {
+        numbers.push(t.lemma(*need))?;
     }
-    Ok(())
+    Ok(numbers)
 }
 
 /// What a node rests on that needs these lemmas: the virtual entry first, where it is among them, and then each other

@@ -10,9 +10,9 @@ use Rattle.outcome.specs.declared.entry.Stored.{Stored}
 use Rattle.outcome.specs.declared.entry.SizeEntry.{SizeEntry}
 use Rattle.outcome.specs.declared.entry.SizeEntry.TheVariants as entries
 use Rattle.size_bounds.specs.declared.table.Table.{Table}
-use Rattle.size_bounds.specs.Tables.{entry_at, row_at, lemma_stored}
+use Rattle.size_bounds.specs.Tables.{entry_at, row_at, lemma_stored, number_at}
 use Rattle.time_bounds.specs.AnalysisLemmas.{CarriesSize, CarrySizes, CarryRows}
-use Rattle.bound_book.specs.ByKey.{number_at, put_entry, put_place}
+use Rattle.bound_book.specs.ByKey.{put_entry, put_place}
 use Rattle.time_bounds.specs.SizeSaid.{placed, CarriesNumber, CarriesIfThere, CarryRow, CarryPlaces, KeepPlaces, IsReason}
 use Rattle.model.proofs.Cases.{none_some as no_entry, some_same}
 

@@ -21,7 +21,7 @@ use Rattle.bound_rounds.specs.Standing.{AllStand}
 use Rattle.bound_rounds.proofs.StandingLaws.{are_numbered, have_lemmas}
 use Rattle.bound_book.specs.declared.find.Find.{Find}
 use Rattle.bound_book.specs.Books.{IsBook}
-use Rattle.bound_book.specs.ByKey.{number_at}
+use Rattle.size_bounds.specs.Tables.{number_at}
 use Rattle.bound_book.specs.Views.{finds_of}
 use Rattle.size_bounds.specs.declared.table.Table.{Table}
 use Rattle.time_bounds.specs.Analysis.{AreTimesOf, AreSizeRowsOf}

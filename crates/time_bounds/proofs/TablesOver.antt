@@ -5,7 +5,7 @@ use Rattle.bound_rounds.specs.Keys.{Bounds, size_by}
 use Rattle.bound_rounds.specs.Finds as plain
 use Rattle.size_bounds.specs.declared.table.Table.{Table}
 use Rattle.bound_book.specs.declared.find.Find.{Find}
-use Rattle.bound_book.specs.ByKey.{number_at}
+use Rattle.size_bounds.specs.Tables.{number_at}
 use Rattle.bound_book.specs.Books.{IsBook}
 use Rattle.bound_book.specs.Views.{finds_of}
 pub use Rattle.bound_book.proofs.Known.{table_by_key as table_over, bounds_by_finds as bounds_same, table_by_finds as table_with}

@@ -9,12 +9,12 @@ use Rattle.outcome.specs.declared.entry.SizeEntry.{SizeEntry}
 use Rattle.outcome.specs.declared.entry.SizeEntry.TheVariants as entries
 use Rattle.proof_tree.specs.proof_nodes.Nodes.{Spot}
 use Rattle.size_bounds.specs.declared.table.Table.{Table}
-use Rattle.size_bounds.specs.Tables.{entry_at, row_at, lemma_stored}
+use Rattle.size_bounds.specs.Tables.{entry_at, row_at, lemma_stored, number_at}
 use Rattle.time_bounds.specs.declared.candidates.Candidate.{Candidate}
 use Rattle.time_bounds.specs.declared.sizing.Attempt.{Attempt}
 use Rattle.time_bounds.specs.Candidates.{spots_in}
 use Rattle.time_bounds.specs.Attempts.{why_of}
-use Rattle.bound_book.specs.ByKey.{rows_of, put_place, number_at}
+use Rattle.bound_book.specs.ByKey.{rows_of, put_place}
 
 -- what stands at a place after a rule; places count from 1
 abbrev pub placed : {A : Type 0} → List (List (Option A)) → ℕ → ℕ → Option A

@@ -11,8 +11,7 @@ ghost use Rattle.time_bounds.specs.SizeSaid.{seen_row, seen_rows, said_stored, s
 ghost use Rattle.time_bounds.specs.SizeSaid.{put_why, put_whys, AreThere, CarriesIfThere, CarryRow, CarryPlaces};
 ghost use Rattle.time_bounds.specs.SizeSaid.{KeepPlaces, IsReason};
 ghost use Rattle.time_bounds.specs.AnalysisLemmas.{CarryRows};
-ghost use Rattle.size_bounds.specs.Tables.{lemma_stored};
-ghost use Rattle.bound_book.specs.ByKey.{number_at};
+ghost use Rattle.size_bounds.specs.Tables.{lemma_stored, number_at};
 ghost use Rattle.proof_tree.specs.Views.{spot_of};
 
 use crate::candidates::{Arms, Candidate};

@@ -1,7 +1,7 @@
 use Rattle.std.proofs.Common.{◌≡◌, map}
 use Rattle.bound_rounds.specs.Needs.{lemma_by}
 use Rattle.proof_tree.specs.Views.{proof_of}
-use Rattle.bound_book.specs.ByKey.{number_at}
+use Rattle.size_bounds.specs.Tables.{number_at}
 use Rattle.bound_book.specs.Views.{finds_of}
 use Rattle.bound_book.proofs.citing.lemmas_by_numbers.Given as goal
 

@@ -1,57 +1,47 @@
-use Rattle.std.proofs.Common.{◌≡◌, ◌∙◌, ap, sym, map, None}
-use Rattle.std.proofs.lemmas.Result.{IfOk-weaker}
-use Rattle.model.specs.Programs.{Program}
-use Rattle.proof_tree.specs.proof_nodes.Checks.{needed_into}
-use Rattle.proof_tree.specs.proof_nodes.ComposedSizes.{base_of}
+use Rattle.std.proofs.Common.{◌∙◌, ap, subst, List, map}
+use Rattle.model.specs.Bounds.{Bound}
+use Rattle.proof_tree.specs.proof_nodes.Nodes.{Spot, Cycle}
+use Rattle.proof_tree.specs.proof_nodes.AcceptsSizes.{cycle_facts}
 use Rattle.proof_tree.specs.proof_setting.Setting.{setting_of}
-use Rattle.proof_tree.specs.Views.{member_of, spot_of}
-use Rattle.size_bounds.specs.Tables.{table_of, numbers_of}
-use Rattle.size_bounds.specs.Needs.{first_missing}
-use Rattle.size_bounds.specs.Flows.{flow_of}
-use Rattle.size_bounds.specs.Growths.{growth_by_flows}
-use Rattle.size_bounds.specs.BentArms.{first_bent}
-use Rattle.size_bounds.specs.LoopAnswers.{IsLoopAnswer}
-use Rattle.size_bounds.specs.SizeAnswers.{AreMembersOfProgram, IsCycleAnswer}
-use Rattle.size_bounds.proofs.MemberRules.{rules-are}
-use Rattle.size_bounds.proofs.LoopAnswers.{is-missing, is-bent, is-answered}
+use Rattle.proof_tree.specs.Views.{spot_of, member_of}
+use Rattle.bound_rounds.specs.Needs.{uses_for}
+use Rattle.size_bounds.specs.Tables.{table_of, number_at}
+use Rattle.size_bounds.specs.Sizings.{IsCycleSizing}
 use Rattle.size_bounds.proofs.looping.cycle.Goals as goal
 
-pub returns-in-Some : goal.returns-in-Some
-returns-in-Some c = λ p given.
+-- the node rests on the lemmas of what is needed, and its facts are the sizes
+pub returns-in_ok-size_facts-in-Found : goal.returns-in_ok-size_facts-in-Found
+returns-in_ok-size_facts-in-Found c = λ p given.
     let ms = map member_of c.args.members.now in
-    let tab = table_of c.args.t.now in
-    is-missing p c.args.g.now c.args.preps.now tab ms given (spot_of c.in-Some.spot)
-    (ap (first_missing tab) (sym (ap (map spot_of) c.deref.ensures.value ∙ c.in_ok-needed.ensures p given))
-    ∙ sym c.in-Some.ensures)
+    let found = subst (IsCycleSizing (setting_of p) (table_of c.args.t.now) ms) c.in-Found.is
+    (c.in_ok-sizing.ensures p given) in (
+      found.0,
+      c.in_ok-cycle_node-in-Found.ensures
+          ∙ ap (λ (spots : List Spot). Cycle ms (uses_for (number_at c.args.t.now) spots))
+          (ap (map spot_of) c.deref.ensures.value ∙ found.1),
+      c.in_ok-size_facts-in-Found.ensures ∙ ap (λ (b : Bound). cycle_facts b ms) found.2,
+    )
 
-pub returns-in-Some-first_bent : goal.returns-in-Some-first_bent
-returns-in-Some-first_bent c = λ p given.
-    let ms = map member_of c.args.members.now in
-    let tab = table_of c.args.t.now in
-    let none : first_missing tab (needed_into (setting_of p) ms ms) ≡ None =
-    ap (first_missing tab) (sym (ap (map spot_of) c.deref.ensures.value ∙ c.in_ok-needed.ensures p given))
-    ∙ sym c.in_default.ensures in
-    is-bent p c.args.g.now c.args.preps.now tab ms given none (spot_of c.in-Some-first_bent.spot)
-    (sym (c.in-Some-first_bent.ensures p given))
+-- the first size that is missing
+pub returns-in-Missing : goal.returns-in-Missing
+returns-in-Missing c = λ p given.
+    subst (IsCycleSizing (setting_of p) (table_of c.args.t.now) (map member_of c.args.members.now)) c.in-Missing.is
+    (c.in_ok-sizing.ensures p given)
 
-pub returns : goal.returns
-returns c =
-    let ms = map member_of c.args.members.now in
-    let tab = table_of c.args.t.now in
-    let ns = numbers_of c.args.t.now in
-    let fs = map flow_of c.deref-3.result.now in
-    let ts = c.deref-4.result.now in
-    let spots = map spot_of c.deref-2.result.now in
-    IfOk-weaker c.answer_of_flows.result
-    (λ a. IsLoopAnswer tab ns ms spots (base_of fs) (map (growth_by_flows fs) ts) a)
-    (λ a. (p : Program) → AreMembersOfProgram p c.args.g.now c.args.preps.now ms → IsCycleAnswer (setting_of p) tab ns ms a)
-    (λ a h p given.
-    let none : first_missing tab (needed_into (setting_of p) ms ms) ≡ None =
-    ap (first_missing tab) (sym (ap (map spot_of) c.deref.ensures.value ∙ c.in_ok-needed.ensures p given))
-    ∙ sym c.in_default.ensures in
-    let straight : first_bent (setting_of p) ms ms ≡ None = sym (c.in_default-first_bent.ensures p given) in
-    is-answered p c.args.g.now c.args.preps.now tab ms given none straight ns a spots fs ts
-    (ap (map spot_of) c.deref-2.ensures.value ∙ c.in_ok-needed.ensures p given)
-    (ap (map flow_of) c.deref-3.ensures.value ∙ c.in_ok-flows.ensures p given)
-    (c.deref-4.ensures.value ∙ (c.in_ok-rules.ensures ∙ rules-are p ms given.shape)) h)
-    c.answer_of_flows.ensures
+-- the first member that is bent
+pub returns-in-Bent : goal.returns-in-Bent
+returns-in-Bent c = λ p given.
+    subst (IsCycleSizing (setting_of p) (table_of c.args.t.now) (map member_of c.args.members.now)) c.in-Bent.is
+    (c.in_ok-sizing.ensures p given)
+
+-- the first rule without a time
+pub returns-in-Untimed : goal.returns-in-Untimed
+returns-in-Untimed c = λ p given.
+    subst (IsCycleSizing (setting_of p) (table_of c.args.t.now) (map member_of c.args.members.now)) c.in-Untimed.is
+    (c.in_ok-sizing.ensures p given)
+
+-- a bound that is too large
+pub returns-in-Large : goal.returns-in-Large
+returns-in-Large c = λ p given.
+    subst (IsCycleSizing (setting_of p) (table_of c.args.t.now) (map member_of c.args.members.now)) c.in-Large.is
+    (c.in_ok-sizing.ensures p given)

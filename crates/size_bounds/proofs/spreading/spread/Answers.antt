@@ -1,23 +1,47 @@
-use Rattle.std.proofs.Common.{◌≡◌, ◌∙◌, ◌++◌, ap, sym, List, [], ◌∷◌, map}
-use Rattle.std.proofs.lemmas.List.{append-nil}
-use Rattle.model.specs.Paths.{pre}
-use Rattle.proof_tree.specs.proof_nodes.Nodes as nodes
-use Rattle.proof_tree.specs.proof_nodes.Checks.{needed_from, needed_into}
+use Rattle.std.proofs.Common.{◌∙◌, ap, subst, List, [], ◌∷◌, map}
+use Rattle.model.specs.Bounds.{Bound}
+use Rattle.model.specs.Facts.{Size}
+use Rattle.proof_tree.specs.proof_nodes.Nodes.{Spot, Spread}
 use Rattle.proof_tree.specs.proof_setting.Setting.{setting_of}
-use Rattle.proof_tree.specs.declared.arm.Spot.{Spot}
 use Rattle.proof_tree.specs.Views.{spot_of, member_of}
-use Rattle.size_bounds.specs.Tables.{table_of}
-use Rattle.size_bounds.specs.Needs.{first_missing}
-use Rattle.size_bounds.proofs.SpreadAnswers.{is-missing}
+use Rattle.bound_rounds.specs.Needs.{uses_for}
+use Rattle.size_bounds.specs.Tables.{table_of, number_at}
+use Rattle.size_bounds.specs.Sizings.{IsSpreadSizing}
 use Rattle.size_bounds.proofs.spreading.spread.Goals as goal
 
-pub returns-in-Some : goal.returns-in-Some
-returns-in-Some c = λ p given.
+-- the node rests on the lemmas of what is needed, and its fact is the size
+pub returns-in_ok-size_fact-in-Found : goal.returns-in_ok-size_fact-in-Found
+returns-in_ok-size_fact-in-Found c = λ p given.
     let m = member_of c.args.m.now in
-    let tab = table_of c.args.t.now in
-    let from : List nodes.Spot = needed_from (setting_of p) [] m (pre p m.spot.rule) in
-    let needs : map spot_of c.push_needed.new.spots.items ≡ needed_into (setting_of p) [] (m ∷ []) =
-    c.in_ok-push_needed.ensures p given
-    ∙ (ap (λ (spots : List Spot). map spot_of spots ++ from) c.new-needed.ensures.items ∙ sym (append-nil from)) in
-    is-missing p tab m given.shape given.up given.low (spot_of c.in-Some.spot)
-    (ap (first_missing tab) (sym needs ∙ ap (map spot_of) (sym c.deref.ensures.value)) ∙ sym c.in-Some.ensures)
+    let found = subst (IsSpreadSizing (setting_of p) (table_of c.args.t.now) m) c.in-Found.is
+    (c.in_ok-sizing.ensures p given) in (
+      found.0,
+      c.in_ok-spread_node-in-Found.ensures
+          ∙ ap (λ (spots : List Spot). Spread m (uses_for (number_at c.args.t.now) spots))
+          (ap (map spot_of) c.deref.ensures.value ∙ found.1),
+      c.in_ok-size_fact-in-Found.ensures ∙ ap (λ (b : Bound). Size m.spot.rule m.spot.place b ∷ []) found.2,
+    )
+
+-- the first size that is missing
+pub returns-in-Missing : goal.returns-in-Missing
+returns-in-Missing c = λ p given.
+    subst (IsSpreadSizing (setting_of p) (table_of c.args.t.now) (member_of c.args.m.now)) c.in-Missing.is
+    (c.in_ok-sizing.ensures p given)
+
+-- no member is bent
+pub returns-in-Bent : goal.returns-in-Bent
+returns-in-Bent c = λ p given.
+    subst (IsSpreadSizing (setting_of p) (table_of c.args.t.now) (member_of c.args.m.now)) c.in-Bent.is
+    (c.in_ok-sizing.ensures p given)
+
+-- and no time is needed
+pub returns-in-Untimed : goal.returns-in-Untimed
+returns-in-Untimed c = λ p given.
+    subst (IsSpreadSizing (setting_of p) (table_of c.args.t.now) (member_of c.args.m.now)) c.in-Untimed.is
+    (c.in_ok-sizing.ensures p given)
+
+-- a bound that is too large
+pub returns-in-Large : goal.returns-in-Large
+returns-in-Large c = λ p given.
+    subst (IsSpreadSizing (setting_of p) (table_of c.args.t.now) (member_of c.args.m.now)) c.in-Large.is
+    (c.in_ok-sizing.ensures p given)

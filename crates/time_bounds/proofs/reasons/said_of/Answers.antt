@@ -5,7 +5,8 @@ use Rattle.std.proofs.lemmas.Iterator.Consumers.{YieldsList-turn}
 use Rattle.outcome.specs.Views.{time_of}
 use Rattle.outcome.specs.Printing.{HasItsGap}
 use Rattle.outcome.specs.declared.entry.TimeEntry.{TimeEntry}
-use Rattle.bound_book.specs.ByKey.{bounds_in, number_at}
+use Rattle.size_bounds.specs.Tables.{number_at}
+use Rattle.bound_book.specs.ByKey.{bounds_in}
 use Rattle.time_bounds.specs.ProgramSearches.{searches_of_program}
 use Rattle.time_bounds.specs.Questions.{program_in}
 use Rattle.time_bounds.specs.TimesSaid.{AreTimesOver}

@@ -4,7 +4,8 @@ use Rattle.outcome.specs.Printing.{HasItsGap}
 use Rattle.proof_tree.specs.proof_nodes.GapChecks.{GapHolds}
 use Rattle.proof_tree.specs.AnswerViews.{gap_of}
 use Rattle.rank_search.specs.rule_questions.ProgramQuestions.{forms_at}
-use Rattle.bound_book.specs.ByKey.{bounds_in, number_at}
+use Rattle.size_bounds.specs.Tables.{number_at}
+use Rattle.bound_book.specs.ByKey.{bounds_in}
 use Rattle.time_bounds.specs.AnalysisLemmas.{CarryTimes, AreGapsInOrder}
 use Rattle.time_bounds.specs.ProgramSearches.{searches_of_program}
 use Rattle.time_bounds.specs.Questions.{program_in}

@@ -11,7 +11,7 @@ use Rattle.time_bounds.specs.Candidates.{spots_in}
 use Rattle.time_bounds.specs.Attempts.{why_of}
 use Rattle.time_bounds.specs.SizeSaid.{seen_rows, said_table, put_why, put_whys, AreThere}
 use Rattle.time_bounds.specs.AnalysisLemmas.{CarryRows}
-use Rattle.bound_book.specs.ByKey.{number_at}
+use Rattle.size_bounds.specs.Tables.{number_at}
 use Rattle.time_bounds.proofs.SaidRows.{whys_more, take_past, there_rows, said_seen}
 use Rattle.time_bounds.proofs.CarriedSizes.{all_carried}
 use Rattle.time_bounds.proofs.size_reasons.said_sizes.Goals as goal

@@ -3,7 +3,8 @@ use Rattle.proof_tree.specs.declared.arm.Spot.{Spot}
 use Rattle.proof_tree.specs.Views.{spot_of}
 use Rattle.bound_rounds.specs.Answers.{are_open}
 use Rattle.bound_rounds.specs.Keys.{at_key, lacks}
-use Rattle.bound_book.specs.ByKey.{bounds_in, stored_in}
+use Rattle.size_bounds.specs.Tables.{stored_in}
+use Rattle.bound_book.specs.ByKey.{bounds_in}
 use Rattle.time_bounds.proofs.OpenPlaces.{closed_more, open_at, stored_known, told_known, told_missing}
 use Rattle.time_bounds.proofs.SaidRows.{take_past}
 use Rattle.time_bounds.proofs.sizing.are_open.Goals as goal

@@ -1,7 +1,7 @@
 use Rattle.std.proofs.Common.{◌≡◌, drop}
 use Rattle.size_bounds.specs.Tables.{table_of}
-use Rattle.size_bounds.specs.LoopAnswers.{first_unknown}
-use Rattle.size_bounds.proofs.loop_answer.first_untimed.Given as goal
+use Rattle.size_bounds.specs.Needs.{first_unknown}
+use Rattle.size_bounds.proofs.missing.first_untimed.Given as goal
 
 abbrev pub invariant-loop-rule : goal.invariant-loop-rule
 invariant-loop-rule l =

@@ -1,6 +1,6 @@
 use Rattle.std.proofs.Common.{◌≡◌, ◌++◌, drop, map}
 use Rattle.proof_tree.specs.Views.{member_of}
-use Rattle.size_bounds.proofs.loop_answer.copied_members.Given as goal
+use Rattle.size_bounds.proofs.looping.copied_members.Given as goal
 
 abbrev pub invariant-loop-member : goal.invariant-loop-member
 invariant-loop-member l =
