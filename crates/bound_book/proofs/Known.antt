@@ -1,4 +1,4 @@
--- The table of times and sizes over which nodes are judged, and the numbers of lemmas, by key.
+-- The table of times and sizes over which nodes are judged, by key.
 use Rattle.std.proofs.Common.{◌≡◌, ℕ, zero, suc, not, Option, Some, None, refl, ◌∙◌, ap, List}
 use Rattle.std.specs.Prelude.{is_some}
 use Rattle.model.specs.Bounds.{Bound}
@@ -9,7 +9,7 @@ use Rattle.bound_rounds.specs.Laws.{missing}
 use Rattle.outcome.specs.declared.entry.Stored.{Stored}
 use Rattle.proof_tree.specs.proof_nodes.Known as nodes
 use Rattle.size_bounds.specs.declared.table.Table.{Table}
-use Rattle.size_bounds.specs.Tables.{bound_stored, stored_size, table_of, numbers_of, number_at, stored_in}
+use Rattle.size_bounds.specs.Tables.{bound_stored, stored_size, table_of, stored_in}
 use Rattle.bound_book.specs.declared.find.Find.{Find}
 use Rattle.bound_book.specs.Books.{IsBook}
 use Rattle.bound_book.specs.ByKey.{bounds_in}
@@ -52,11 +52,3 @@ known_by_finds p tab finds book t i =
 pub missing_by_finds : (p : Program) (tab : Table) (finds : List Find) → IsBook p tab finds
     → missing p (bounds_in tab) ≡ missing p (plain.bounds_of p (finds_of finds))
 missing_by_finds p tab finds book = ap (missing p) (bounds_by_finds p tab finds book)
-
--- the number of the lemma of a time
-pub time_number : (tab : Table) (t : ℕ) → (numbers_of tab).time t ≡ number_at tab t 0
-time_number tab t = refl
-
--- and that of a size; places count from 1
-pub size_number : (tab : Table) (t i : ℕ) → (numbers_of tab).size t (suc i) ≡ number_at tab t (suc i)
-size_number tab t i = refl
