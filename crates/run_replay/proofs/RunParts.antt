@@ -50,7 +50,8 @@ differ Limit Limit h = refl
 differ a b h = absurd (omega (arith, h))
 
 module _ (p : Program) where
-  -- numbers that aren't refused are below 2^64, and so are lesser ones not refused
+  -- natural numbers that aren't refused are below 2^64, lesser ones from 1 on aren't refused either, and nothing stands
+  -- against `-` and a blank
   pub bounded : IsBounded (run_bytes p)
   bounded = record {
     small = λ s n e.

@@ -1,8 +1,35 @@
 -- What was worked out by hand of run texts.
-use Rattle.std.proofs.Common.{refl}
+use Rattle.std.proofs.Common.{◌≡◌, ◌≢◌, ◌≤◌, ℕ, Bool, length, Some, None, refl, ap, arith}
+use Rattle.std.proofs.lemmas.Bool.{le-leb, lt-leb, ne_eqb}
+use Rattle.std.specs.Prelude.{if◌then◌else◌}
 use Rattle.std.specs.Fmt.{digits}
-use Rattle.run_replay.specs.Worked.{RunsAreTold}
+use Rattle.text_grammar.specs.text_core.Choices.{when}
+use Rattle.run_replay.specs.declared.kind.RunKind.TheVariants.{Limit}
+use Rattle.run_replay.specs.Texts.{State, run_bytes, is_full}
+use Rattle.run_replay.specs.Worked.{RunsAreTold, small_program}
+
+-- behind 1,000,000 steps there is no room for one more
+limit_told : (s : State) → 1000000 ≤ length s.run.steps → (run_bytes small_program).against_byte s 115 ≡ Some Limit
+limit_told s l = ap (λ (b : Bool). when b Limit) (le-leb 1000000 (length s.run.steps) l)
+
+-- behind fewer there is
+within_told : (s : State) → length s.run.steps ≤ 999999 → (run_bytes small_program).against_byte s 115 ≡ None
+within_told s l = ap (λ (b : Bool). when b Limit) (lt-leb 1000000 (length s.run.steps) (omega (arith, l)))
+
+-- and no other byte begins a line of a step
+other_told : (s : State) (b : ℕ) → b ≢ 115 → (run_bytes small_program).against_byte s b ≡ None
+other_told s b d = ap (λ (c : Bool). if c then when (is_full (length s.run.steps)) Limit else None) (ne_eqb b 115 d)
 
 pub runs_told : RunsAreTold
 unfolding digits
-runs_told = record { told = refl; empty = refl; start_too_few = refl; full = refl; room = refl; spelled = refl }
+runs_told = record {
+  told = refl;
+  empty = refl;
+  start_too_few = refl;
+  full = refl;
+  room = refl;
+  limit = limit_told;
+  within = within_told;
+  other_byte = other_told;
+  spelled = refl;
+}

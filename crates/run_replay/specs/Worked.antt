@@ -1,5 +1,5 @@
 -- What reading small run texts comes to, worked out by hand on both sides.
-use Rattle.std.specs.Prelude.{◌≡◌, ℕ, pos, negsuc, None, true, false, List, [], ◌∷◌, ◌++◌, codes, length, map}
+use Rattle.std.specs.Prelude.{◌≡◌, ◌≢◌, ◌≤◌, ℕ, pos, negsuc, Some, None, true, false, List, [], ◌∷◌, ◌++◌, codes, length, map}
 use Rattle.its_model.specs.model.Programs.{Program, Rule}
 use Rattle.its_model.specs.model.Runs.{Step}
 use Rattle.text_grammar.specs.text_core.Reading.{Answer, Stands, Refused, answer}
@@ -7,8 +7,9 @@ use Rattle.text_grammar.specs.Texts.{reader}
 use Rattle.text_grammar.specs.ByteTexts.{tokens}
 use Rattle.run_replay.specs.declared.kind.RunKind.{RunKind}
 use Rattle.run_replay.specs.declared.kind.RunKind.TheVariants.{Syntax, NumberTooLarge, BadReference, ArityDiffers}
+use Rattle.run_replay.specs.declared.kind.RunKind.TheVariants.{Limit}
 use Rattle.run_replay.specs.Runs.{Run}
-use Rattle.run_replay.specs.Texts.{runs_of, is_full}
+use Rattle.run_replay.specs.Texts.{State, run_bytes, runs_of, is_full}
 use Rattle.run_replay.specs.Spelled.{text_of}
 
 -- a rule with so many free variables
@@ -98,6 +99,11 @@ pub record RunsAreTold : Type 0 where
   -- a step behind 1,000,000 is too many, and one behind 999,999 isn't
   pub full : is_full 1000000 ≡ true
   pub room : is_full 999999 ≡ false
+  -- a line of a step begins with `s`: there stands the refusal behind 1,000,000 steps or more, and none behind fewer; and
+  -- against no other byte stands anything
+  pub limit : (s : State) → 1000000 ≤ length s.run.steps → (run_bytes small_program).against_byte s 115 ≡ Some Limit
+  pub within : (s : State) → length s.run.steps ≤ 999999 → (run_bytes small_program).against_byte s 115 ≡ None
+  pub other_byte : (s : State) (b : ℕ) → b ≢ 115 → (run_bytes small_program).against_byte s b ≡ None
   -- the text of a run
   pub spelled : text_of (record {
     start = pos 1 ∷ negsuc 1 ∷ [];

@@ -35,8 +35,8 @@ abbrev pub with_zero : Step
 with_zero = record { rule = 1; free = pos 0 ∷ [] }
 
 -- the greatest value at a place needn't be the first one or the last: by l0(A, B) -> l0(B, A + 1) from l0(1, 5) come
--- l0(5, 2), l0(2, 6) and l0(6, 3). Of the four steps of the program that counts down the greatest first value after rule
--- 2 is 2, neither 3, which is rule 1's, nor 1; where rule 2 doesn't occur it is 0, and 3 isn't a value after it
+-- l0(5, 2), l0(2, 6) and l0(6, 3). Of the four steps of the program that counts down the greatest first value after
+-- rule 2 is 2, neither 3, which is rule 1's, nor 1; where rule 2 doesn't occur it is 0, and 3 isn't a value after it
 pub record GreatestAreTold : Type 0 where
   pub between : tally_along (looping [] B one_more) (both (pos 1) (pos 5)) (with_zero ∷ with_zero ∷ with_zero ∷ [])
       ≡ record { steps = 3; counts = 3 ∷ []; greatest = (6 ∷ 6 ∷ []) ∷ [] }

@@ -34,7 +34,8 @@ pub fn replay(alloc: Global, p: &Program, run: &RunFile) -> Result<Tally, Replay
     ensures complete { IsRunInRange (program_of p.now) run.now.start.items (last_first (run_of run.now))
         → Tallies result }
     ensures refused { (bad : BadStep)
-        → IsFirstBadStep (program_of p.now) run.now.start.items (last_first (run_of run.now)) bad → RefusesWith bad result }
+        → IsFirstBadStep (program_of p.now) run.now.start.items (last_first (run_of run.now)) bad
+        → RefusesWith bad result }
 {
     replays_are_decided();
     let mut standing = Standing::new(alloc, p, run)?;

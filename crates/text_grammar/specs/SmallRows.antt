@@ -5,8 +5,8 @@ use Rattle.text_core.specs.Reading.{Answer, Stands, answer}
 use Rattle.text_grammar.specs.declared.symbol.Symbol.{Symbol}
 use Rattle.text_grammar.specs.declared.symbol.Symbol.TheVariants.{Piece, Made}
 use Rattle.text_grammar.specs.Texts.{reader}
-use Rattle.text_grammar.specs.ByteTexts.{ByteText, tokens, texts_of, value_rule, natural_rule, number_rule, positive_rule}
-use Rattle.text_grammar.specs.ByteTexts.{digits_rule, line_rule, values_rule, value_limit, line_text, AreSmall}
+use Rattle.text_grammar.specs.ByteTexts.{ByteText, tokens, texts_of, value_rule, natural_rule, number_rule}
+use Rattle.text_grammar.specs.ByteTexts.{positive_rule, digits_rule, line_rule, values_rule, value_limit, line_text, AreSmall}
 
 -- rows of values
 abbrev pub Rows : Type 0

@@ -2,7 +2,8 @@
 
 ghost use Rattle.std.specs.Prelude.{◌≡◌, ℕ, List, [], length, IfOk, OnOk};
 ghost use Rattle.text_grammar.specs.ByteTexts.{ByteText as ByteTextOf, class_of as class_at, fold_of, fresh, texts_of};
-ghost use Rattle.text_grammar.specs.ByteTexts.{against_in, against_feed as against_feed_in, against_other as against_other_in};
+ghost use Rattle.text_grammar.specs.ByteTexts.{against_in, against_feed as against_feed_in};
+ghost use Rattle.text_grammar.specs.ByteTexts.{against_other as against_other_in};
 ghost use Rattle.text_grammar.specs.declared.numeral.Within.TheVariants.{Words};
 ghost use Rattle.text_grammar.specs.CodeBytes.{numeral_of};
 ghost use Rattle.text_grammar.specs.Folds.{state};

@@ -7,7 +7,8 @@ use crate::text::Text;
 
 /// Which grammars can be read, which rules items spell, what brackets derive, and what numbers, parts and a small text
 /// in single bytes come to is what was worked out by hand, on both sides; the reader of brackets keeps the laws, and of
-/// the small text what is printed is read and what is read is printed. It has no code: its contract is the law.
+/// the small text what is printed of rows with values up to 2^63-1 is read, and what is read is printed of such rows. It
+/// has no code: its contract is the law.
 pub fn worked_grammars_hold()
     ensures { WorkedGrammars }
 {}
