@@ -2,7 +2,6 @@
 use Rattle.std.proofs.Common.{◌≡◌, ℕ, ◌+◌, ◌-◌, ◌^◌, ◌<◌, ◌≤◌, min, Bool, true, false, cond, List, [], ◌∷◌, ◌++◌}
 use Rattle.std.proofs.Common.{length, refl, ap, sym, subst, ◌∙◌, arith, append_assoc, append-nil, length-append}
 use Rattle.std.specs.Prelude.{not, nat_le, ◌==◌, codes}
-use Rattle.std.proofs.lemmas.Bool.{eqb-true}
 use Rattle.std.proofs.lemmas.Bool.Decides.{nat_tests}
 use Rattle.its_model.specs.model.Programs.{Program, arity_of}
 use Rattle.its_model.specs.model.Runs.{Step}
@@ -11,7 +10,7 @@ use Rattle.text_grammar.specs.Texts.{reader}
 use Rattle.text_grammar.specs.Parts.{Part, Puts, come, Stand}
 use Rattle.text_grammar.specs.declared.numeral.Within.TheVariants.{Words}
 use Rattle.text_grammar.specs.ByteTexts.{Spelling, Numbered, Line, fresh, fold_of, numbers_of, tokens}
-use Rattle.text_grammar.proofs.Numerals.{none_when, when_none}
+use Rattle.text_grammar.proofs.Numerals.{none_when, when_none, not_differs, differs_not, room, has_room}
 use Rattle.text_grammar.proofs.ByteDerivations.{word_stands, stand_word, answered, taken}
 use Rattle.run_replay.specs.declared.kind.RunKind.TheVariants.{BadReference, ArityDiffers, Limit}
 use Rattle.run_replay.specs.Runs.{Run, step_limit}
@@ -20,24 +19,6 @@ use Rattle.run_replay.specs.Spelled.{text_of, AreStepsOf, IsWithin, IsTextWithin
 use Rattle.run_replay.proofs.RuleNumbers.{rule_there, rule_some, rule_passed, rule_taken}
 use Rattle.run_replay.proofs.RunParts.{RunValue, steps_parts, run_parts, bounded, readable, numbers, runs_lawful}
 use Rattle.run_replay.proofs.RunParts.{runs_made, run_derived, run_spells}
-
--- numbers that don't differ are one, and one number doesn't differ
-not_differs : (k n : ℕ) → not (n == k) ≡ false → n ≡ k
-not_differs k n h = eqb-true n k (go (n == k) h)
-  where
-    go : (v : Bool) → not v ≡ false → v ≡ true
-    go true h = refl
-    go false h = cc
-
-differs_not : (k n : ℕ) → n ≡ k → not (n == k) ≡ false
-differs_not k n e = grind (arith, nat_tests)
-
--- one step more is within the limit where there is room, and only there
-room : (n : ℕ) → nat_le step_limit n ≡ false → n + 1 ≤ step_limit
-room n h = grind (arith, nat_tests)
-
-has_room : (n : ℕ) → n + 1 ≤ step_limit → nat_le step_limit n ≡ false
-has_room n h = grind (arith, nat_tests)
 
 -- a run with one step more
 abbrev with_step : Run → Step → Run
@@ -75,34 +56,16 @@ module _ (p : Program) where
   steps_stand (s ∷ ss) r rule h few =
       let named = rule_some p s.rule h.0.rule h.0.numbered in
       let count = length-append r.steps (s ∷ []) in
-      let others = steps_stand ss (with_step r s) s.rule h.1 (omega (arith, count, few)) in
-      let free = h.0.free ∙ sym (ap (free_or (arity_of p p.start)) h.0.numbered) in (
-        when_none (nat_le step_limit (length r.steps)) Limit (has_room (length r.steps) (omega (arith, few))),
-        (
-          refl,
-          (
-            refl,
-            (
-              refl,
-              (
-                refl,
-                (
-                  when_none (is_no_rule p s.rule) BadReference (rule_taken p s.rule named.0 named.1 h.0.held),
-                  (
-                    (
-                      h.0.small,
-                      when_none (not (length s.free == wanted p s.rule)) ArityDiffers
-                          (differs_not (wanted p s.rule) (length s.free) free),
-                    ),
-                    subst (λ (t : State). StandsFrom (at t) (steps_parts ss))
-                        (sym (stepped r s named.0 h.0.held)) others,
-                  ),
-                ),
-              ),
-            ),
-          ),
-        ),
-      )
+      let free = h.0.free ∙ sym (ap (free_or (arity_of p p.start)) h.0.numbered) in
+      let first = when_none (nat_le step_limit (length r.steps)) Limit
+      (has_room step_limit (length r.steps) (omega (arith, few))) in
+      let number = when_none (is_no_rule p s.rule) BadReference
+      (rule_taken p s.rule named.0 named.1 h.0.held) in
+      let line = when_none (not (length s.free == wanted p s.rule)) ArityDiffers
+      (differs_not (wanted p s.rule) (length s.free) free) in
+      let others = subst (λ (t : State). StandsFrom (at t) (steps_parts ss)) (sym (stepped r s named.0 h.0.held))
+      (steps_stand ss (with_step r s) s.rule h.1 (omega (arith, count, few))) in
+      (first, (refl, (refl, (refl, (refl, (number, ((h.0.small, line), others)))))))
 
   stand_steps : (ss : List Step) (r : Run) (rule : ℕ) → StandsFrom (from r rule) (steps_parts ss)
       → AreStepsOf p ss × (length r.steps ≤ step_limit → length r.steps + length ss ≤ step_limit)
@@ -118,7 +81,7 @@ module _ (p : Program) where
       let w =
       stand_steps ss (with_step r s) s.rule
       (subst (λ (t : State). StandsFrom (at t) (steps_parts ss)) (stepped r s named.0 named.2) line.1) in
-      let one = room (length r.steps) (none_when (nat_le step_limit (length r.steps)) Limit h.0) in
+      let one = room step_limit (length r.steps) (none_when (nat_le step_limit (length r.steps)) Limit h.0) in
       let count = length-append r.steps (s ∷ []) in (
         (
           record {

@@ -3,13 +3,13 @@ use Rattle.std.proofs.Common.{◌≡◌, ℕ, List, [], ◌∷◌, ◌++◌, ref
 use Rattle.std.specs.Prelude.{ℤ}
 use Rattle.std.specs.Fmt.{decimal}
 use Rattle.its_model.specs.model.Runs.{Step}
-use Rattle.text_grammar.specs.ByteTexts.{line_text, AreNarrow}
+use Rattle.text_grammar.specs.ByteTexts.{line_text}
 use Rattle.text_grammar.proofs.Apart.{decimal_apart, line_apart, line_ends}
 use Rattle.run_replay.specs.Runs.{Run}
-use Rattle.run_replay.specs.Spelled.{steps_text, text_of, AreNarrowSteps, OneRun}
+use Rattle.run_replay.specs.Spelled.{steps_text, text_of, AreShortSteps, IsShort, OneRun}
 
 -- the lines of steps are those of one list of steps
-steps_apart : (ss ts : List Step) → AreNarrowSteps ss → AreNarrowSteps ts → steps_text ss ≡ steps_text ts → ss ≡ ts
+steps_apart : (ss ts : List Step) → AreShortSteps ss → AreShortSteps ts → steps_text ss ≡ steps_text ts → ss ≡ ts
 steps_apart [] [] h k e = refl
 steps_apart [] (t ∷ ts) h k e = let same : ◌≡◌ {A = ℕ} 101 115 = cc in absurd (omega (arith, same))
 steps_apart (s ∷ ss) [] h k e = let same : ◌≡◌ {A = ℕ} 115 101 = cc in absurd (omega (arith, same))
@@ -28,10 +28,9 @@ steps_apart (s ∷ ss) (t ∷ ts) h k e =
 pub one_run : OneRun
 one_run = record { each = go }
   where
-    go : (a b : Run) → AreNarrow a.start → AreNarrowSteps a.steps → AreNarrow b.start → AreNarrowSteps b.steps
-        → text_of a ≡ text_of b → a ≡ b
-    go a b h i j k e =
+    go : (a b : Run) → IsShort a → IsShort b → text_of a ≡ text_of b → a ≡ b
+    go a b h k e =
         let rest : line_text a.start ++ steps_text a.steps ≡ line_text b.start ++ steps_text b.steps = cc in
-        let start = line_apart a.start b.start (steps_text a.steps) (steps_text b.steps) h j rest in
+        let start = line_apart a.start b.start (steps_text a.steps) (steps_text b.steps) h.start k.start rest in
         ap (λ (vs : List ℤ). record { start = vs; steps = a.steps }) start.0
-        ∙ ap (λ (ss : List Step). record { start = b.start; steps = ss }) (steps_apart a.steps b.steps i k start.1)
+        ∙ ap (λ (ss : List Step). record { start = b.start; steps = ss }) (steps_apart a.steps b.steps h.steps k.steps start.1)

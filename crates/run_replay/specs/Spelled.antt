@@ -3,7 +3,7 @@ use Rattle.std.specs.Prelude.{◌≡◌, ℕ, ◌^◌, ◌<◌, ◌≤◌, List,
 use Rattle.std.specs.Fmt.{decimal}
 use Rattle.its_model.specs.model.Programs.{Program, Rule, rule_at, arity_of}
 use Rattle.its_model.specs.model.Runs.{Step}
-use Rattle.text_grammar.specs.ByteTexts.{line_text, AreSmall, AreNarrow}
+use Rattle.text_grammar.specs.ByteTexts.{line_text, AreSmall, AreShort}
 use Rattle.run_replay.specs.Runs.{Run, step_limit}
 
 -- steps, each as a line with its rule and the values of its free variables, and the last line
@@ -41,12 +41,16 @@ pub record IsTextWithin (p : Program) (bytes : List ℕ) (r : Run) : Type 0 wher
   pub text : text_of r ≡ bytes
   pub within : IsWithin p r
 
--- the numbers of steps are below 2^64
-abbrev pub AreNarrowSteps : List Step → Type 0
-AreNarrowSteps [] = ⊤
-AreNarrowSteps (s ∷ ss) = (s.rule < 2 ^ 64) × AreNarrow s.free × AreNarrowSteps ss
+-- the rule of each step is numbered with at most 64 digits, and its values have no more
+abbrev pub AreShortSteps : List Step → Type 0
+AreShortSteps [] = ⊤
+AreShortSteps (s ∷ ss) = (s.rule < 10 ^ 64) × AreShort s.free × AreShortSteps ss
 
--- a text is that of one run at most, whatever the program and the limits, where numbers are below 2^64
+-- so it is with all numbers of a run
+pub record IsShort (r : Run) : Type 0 where
+  pub start : AreShort r.start
+  pub steps : AreShortSteps r.steps
+
+-- a text is that of one run at most, whatever the program and the limits, where no number has more than 64 digits
 pub record OneRun : Type 0 where
-  pub each : (a b : Run) → AreNarrow a.start → AreNarrowSteps a.steps → AreNarrow b.start → AreNarrowSteps b.steps
-      → text_of a ≡ text_of b → a ≡ b
+  pub each : (a b : Run) → IsShort a → IsShort b → text_of a ≡ text_of b → a ≡ b

@@ -1,5 +1,6 @@
 -- What reading small run texts comes to, worked out by hand on both sides.
-use Rattle.std.specs.Prelude.{◌≡◌, ◌≢◌, ◌≤◌, ℕ, pos, negsuc, Some, None, true, false, List, [], ◌∷◌, ◌++◌, codes, length, map}
+use Rattle.std.specs.Prelude.{◌≡◌, ◌≢◌, ◌≤◌, ◌-◌, ◌^◌, ℕ, pos, negsuc, Some, None, true, false, List, [], ◌∷◌}
+use Rattle.std.specs.Prelude.{◌++◌, codes, length, map}
 use Rattle.its_model.specs.model.Programs.{Program, Rule}
 use Rattle.its_model.specs.model.Runs.{Step}
 use Rattle.text_grammar.specs.text_core.Reading.{Answer, Stands, Refused, answer}
@@ -10,7 +11,7 @@ use Rattle.run_replay.specs.declared.kind.RunKind.TheVariants.{Syntax, NumberToo
 use Rattle.run_replay.specs.declared.kind.RunKind.TheVariants.{Limit}
 use Rattle.run_replay.specs.Runs.{Run}
 use Rattle.run_replay.specs.Texts.{State, run_bytes, runs_of, is_full}
-use Rattle.run_replay.specs.Spelled.{text_of}
+use Rattle.run_replay.specs.Spelled.{text_of, IsShort}
 
 -- a rule with so many free variables
 abbrev pub rule_with : ℕ → Rule
@@ -41,6 +42,18 @@ answer_to bytes = answer (reader (runs_of small_program)) (length bytes) (tokens
 
 abbrev pub answer_behind : List ℕ → Answer Run RunKind
 answer_behind bytes = answer_to (codes "koat-run 1\nstart 1 -2\n" ++ bytes)
+
+-- what a text comes to for a program whose start symbol has no places, with one rule
+abbrev pub placeless_program : Program
+placeless_program = record {
+  symbols = record { name = []; arity = 0 } ∷ [];
+  start = 0;
+  start_names = [];
+  rules = record (rule_with 0) { left = 0 } ∷ [];
+}
+
+abbrev pub placeless_answer : List ℕ → Answer Run RunKind
+placeless_answer bytes = answer (reader (runs_of placeless_program)) (length bytes) (tokens bytes)
 
 -- the refusal of a kind at a position, and the run with these steps
 abbrev pub refused : RunKind → ℕ → Answer Run RunKind
@@ -99,11 +112,31 @@ pub record RunsAreTold : Type 0 where
   -- a step behind 1,000,000 is too many, and one behind 999,999 isn't
   pub full : is_full 1000000 ≡ true
   pub room : is_full 999999 ≡ false
-  -- a line of a step begins with `s`: there stands the refusal behind 1,000,000 steps or more, and none behind fewer; and
-  -- against no other byte stands anything
+  -- a line of a step begins with `s`: there stands the refusal behind 1,000,000 steps or more, and none behind fewer;
+  -- and against no other byte stands anything
   pub limit : (s : State) → 1000000 ≤ length s.run.steps → (run_bytes small_program).against_byte s 115 ≡ Some Limit
   pub within : (s : State) → length s.run.steps ≤ 999999 → (run_bytes small_program).against_byte s 115 ≡ None
   pub other_byte : (s : State) (b : ℕ) → b ≢ 115 → (run_bytes small_program).against_byte s b ≡ None
+  -- of a program without start places: the line is `start`; with a blank behind it a value has to follow, and with a
+  -- value it is a line with another number of values
+  pub no_places : placeless_answer (codes "koat-run 1\nstart\nstep 1\nend\n")
+      ≡ Stands (record { start = []; steps = record { rule = 1; free = [] } ∷ [] })
+  pub blank_alone : placeless_answer (codes "koat-run 1\nstart \nend\n") ≡ refused Syntax 17
+  pub surplus_start : placeless_answer (codes "koat-run 1\nstart 1\nend\n") ≡ refused ArityDiffers 18
+  -- a run's numbers may have 64 digits each, and none 65: no start value, no rule and no value of a step
+  pub short : IsShort (record {
+    start = pos (10 ^ 64 - 1) ∷ [];
+    steps = record { rule = 10 ^ 64 - 1; free = negsuc (10 ^ 64 - 2) ∷ [] } ∷ [];
+  })
+  pub long_start : ¬ IsShort (record { start = pos 1 ∷ pos (10 ^ 64) ∷ []; steps = [] })
+  pub long_rule : ¬ IsShort (record {
+    start = [];
+    steps = record { rule = 1; free = [] } ∷ record { rule = 10 ^ 64; free = [] } ∷ [];
+  })
+  pub long_value : ¬ IsShort (record {
+    start = [];
+    steps = record { rule = 1; free = pos 1 ∷ negsuc (10 ^ 64 - 1) ∷ [] } ∷ [];
+  })
   -- the text of a run
   pub spelled : text_of (record {
     start = pos 1 ∷ negsuc 1 ∷ [];

@@ -8,8 +8,8 @@ pub fn worked_runs_hold()
     ensures { RunsAreTold }
 {}
 
-/// A text is that of one run at most, whatever the program and the limits, where numbers are below 2^64. It has no
-/// code: its contract is the law.
+/// A text is that of one run at most, whatever the program and the limits, where no number has more than 64 digits, as
+/// none of a run file has. It has no code: its contract is the law.
 pub fn texts_are_of_one_run()
     ensures { OneRun }
 {}

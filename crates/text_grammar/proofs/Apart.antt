@@ -1,12 +1,13 @@
--- Numbers and lines of values come apart from what stands behind them: no two are spelled alike.
+-- Numbers of at most 64 digits, and lines of such values, come apart from what stands behind them: no two are spelled
+-- alike.
 use Rattle.std.proofs.Common.{◌≡◌, ℕ, suc, ◌^◌, ◌<◌, true, false, List, [], ◌∷◌, ◌++◌, length, refl, ap, sym, subst}
 use Rattle.std.proofs.Common.{◌∙◌, append_assoc, arith}
 use Rattle.std.specs.Prelude.{ℤ, pos, negsuc, unsigned_abs, ⊤}
 use Rattle.std.specs.Char.{is_ascii_digit}
 use Rattle.std.specs.Fmt.{decimal, signed_decimal}
-use Rattle.std.specs.Str.Parse.{AllDigits}
-use Rattle.std.proofs.lemmas.Fmt.{decimal_is_IsNumeral, decimal_injective}
-use Rattle.text_grammar.specs.ByteTexts.{line_text, AreNarrow}
+use Rattle.std.specs.Str.Parse.{AllDigits, digits_value}
+use Rattle.std.proofs.lemmas.Fmt.{decimal_is_IsNumeral_wide}
+use Rattle.text_grammar.specs.ByteTexts.{line_text, AreShort}
 use Rattle.text_grammar.proofs.Numerals.{digit_range, is_digit}
 
 -- bytes that don't begin with a digit
@@ -32,14 +33,19 @@ digits_apart (a ∷ cs) (b ∷ bs) xs ys all every h k e =
     let w = digits_apart cs bs xs ys all.1 every.1 h k rest in
     (ap (λ (d : ℕ). d ∷ cs) same ∙ ap (λ (ds : List ℕ). b ∷ ds) w.0, w.1)
 
--- so do decimals
-pub decimal_apart : (m n : ℕ) (xs ys : List ℕ) → m < 2 ^ 64 → n < 2 ^ 64 → Ends xs → Ends ys
+-- decimals of at most 64 digits that are the same are of one number
+digits_same : (m n : ℕ) → m < 10 ^ 64 → n < 10 ^ 64 → decimal m ≡ decimal n → m ≡ n
+digits_same m n l k e =
+    sym (decimal_is_IsNumeral_wide m l).1 ∙ ap (digits_value 10) e ∙ (decimal_is_IsNumeral_wide n k).1
+
+-- they come apart so
+pub decimal_apart : (m n : ℕ) (xs ys : List ℕ) → m < 10 ^ 64 → n < 10 ^ 64 → Ends xs → Ends ys
     → decimal m ++ xs ≡ decimal n ++ ys → (m ≡ n) × (xs ≡ ys)
 decimal_apart m n xs ys l k h i e =
-    let a = decimal_is_IsNumeral m l in
-    let b = decimal_is_IsNumeral n k in
+    let a = decimal_is_IsNumeral_wide m l in
+    let b = decimal_is_IsNumeral_wide n k in
     let w = digits_apart (decimal m) (decimal n) xs ys a.0.1 b.0.1 h i e in
-    (decimal_injective m n l k w.0, w.1)
+    (digits_same m n l k w.0, w.1)
 
 -- no decimal begins with `-`
 no_minus : (ds xs zs : List ℕ) → 0 < length ds → AllDigits 10 ds → ds ++ xs ≡ 45 ∷ zs → ⊥
@@ -48,14 +54,14 @@ no_minus (d ∷ ds) xs zs l all e =
     let r = digit_range d all.0 in let same : d ≡ 45 = cc in let k = r.0 in omega (arith, k, same)
 
 -- values do
-pub value_apart : (v w : ℤ) (xs ys : List ℕ) → unsigned_abs v < 2 ^ 64 → unsigned_abs w < 2 ^ 64 → Ends xs → Ends ys
+pub value_apart : (v w : ℤ) (xs ys : List ℕ) → unsigned_abs v < 10 ^ 64 → unsigned_abs w < 10 ^ 64 → Ends xs → Ends ys
     → signed_decimal v ++ xs ≡ signed_decimal w ++ ys → (v ≡ w) × (xs ≡ ys)
 value_apart (pos m) (pos n) xs ys l k h i e =
     let a = decimal_apart m n xs ys l k h i e in (ap (λ (c : ℕ). pos c) a.0, a.1)
 value_apart (pos m) (negsuc n) xs ys l k h i e =
-    let a = decimal_is_IsNumeral m l in absurd (no_minus (decimal m) xs (decimal (suc n) ++ ys) a.0.0 a.0.1 e)
+    let a = decimal_is_IsNumeral_wide m l in absurd (no_minus (decimal m) xs (decimal (suc n) ++ ys) a.0.0 a.0.1 e)
 value_apart (negsuc m) (pos n) xs ys l k h i e =
-    let a = decimal_is_IsNumeral n k in absurd (no_minus (decimal n) ys (decimal (suc m) ++ xs) a.0.0 a.0.1 (sym e))
+    let a = decimal_is_IsNumeral_wide n k in absurd (no_minus (decimal n) ys (decimal (suc m) ++ xs) a.0.0 a.0.1 (sym e))
 value_apart (negsuc m) (negsuc n) xs ys l k h i e =
     let rest : decimal (suc m) ++ xs ≡ decimal (suc n) ++ ys = cc in
     let a = decimal_apart (suc m) (suc n) xs ys l k h i rest in
@@ -68,7 +74,7 @@ line_ends [] xs = refl
 line_ends (v ∷ vs) xs = refl
 
 -- and lines of values come apart from what stands behind them
-pub line_apart : (vs ws : List ℤ) (xs ys : List ℕ) → AreNarrow vs → AreNarrow ws
+pub line_apart : (vs ws : List ℤ) (xs ys : List ℕ) → AreShort vs → AreShort ws
     → line_text vs ++ xs ≡ line_text ws ++ ys → (vs ≡ ws) × (xs ≡ ys)
 line_apart [] [] xs ys l k e = let rest : xs ≡ ys = cc in (refl, rest)
 line_apart [] (w ∷ ws) xs ys l k e = let same : ◌≡◌ {A = ℕ} 10 32 = cc in absurd (omega (arith, same))

@@ -293,7 +293,7 @@ module _ {S T K : Type 0} (x : ByteText S T K) (bounded : IsBounded x) (numbers 
   values_made = (λ (v, (vs, u)). (v ∷ vs, refl), (λ u. ([], refl), tt))
 
   -- so each alternative is made of values
-  are_made : OwnAreMade x W own → AreMade (fold_of x) (numbers_of x) (grammar_of x) (only x.letters) (ValueOf W own)
+  pub are_made : OwnAreMade x W own → AreMade (fold_of x) (numbers_of x) (grammar_of x) (only x.letters) (ValueOf W own)
       (parts_of W own)
   are_made h = record { each = go }
     where

@@ -21,6 +21,7 @@ pub mod ResultLaws
 pub mod Apart
 pub mod SmallRowLaws
 mod WorkedRowLaws
+mod WorkedValueLaws
 pub mod WorkedGrammars
 -- the crate below, of which those above cite lemmas through this one
 pub use Rattle.text_core.proofs as text_core

@@ -1,12 +1,13 @@
 -- Numbers in texts of bytes, digit by digit.
 use Rattle.std.proofs.Common.{◌≡◌, ℕ, zero, suc, ◌+◌, ◌*◌, ◌-◌, ◌^◌, ◌<◌, ◌≤◌, min, Bool, true, cond, List, []}
 use Rattle.std.proofs.Common.{◌∷◌, ◌++◌, length, get_or, refl, ap, sym, subst, ◌∙◌, arith, append-nil, append_assoc}
-use Rattle.std.specs.Prelude.{None, ℤ, pos, negsuc, unsigned_abs, ◌==◌, nat_lt, false}
+use Rattle.std.specs.Prelude.{None, ℤ, pos, negsuc, unsigned_abs, ◌==◌, nat_lt, nat_le, not, false}
 use Rattle.std.specs.Char.{is_ascii_digit, digit_value}
 use Rattle.std.specs.Fmt.{decimal}
 use Rattle.std.specs.Str.Parse.{AllDigits, digits_value, digits_value_after}
 use Rattle.std.proofs.lemmas.Fmt.{decimal_digit, decimal_is_IsNumeral, first_decimal, decimal-digits_value}
 use Rattle.std.proofs.lemmas.Str.Parse.{numerals_by_value, tells_digits}
+use Rattle.std.proofs.lemmas.Bool.{eqb-true}
 use Rattle.std.proofs.lemmas.Bool.Decides.{nat_tests}
 use Rattle.text_grammar.specs.Grammars.{Read, Did}
 use Rattle.text_grammar.specs.Folds.{after, Passes}
@@ -94,6 +95,24 @@ none_when false kind e = refl
 
 pub when_none : {K : Type 0} (test : Bool) (kind : K) → test ≡ false → when test kind ≡ None
 when_none test kind e = ap (λ (v : Bool). when v kind) e
+
+-- numbers that don't differ are one, and one number doesn't differ
+pub not_differs : (k n : ℕ) → not (n == k) ≡ false → n ≡ k
+not_differs k n h = eqb-true n k (go (n == k) h)
+  where
+    go : (v : Bool) → not v ≡ false → v ≡ true
+    go true h = refl
+    go false h = cc
+
+pub differs_not : (k n : ℕ) → n ≡ k → not (n == k) ≡ false
+differs_not k n e = grind (arith, nat_tests)
+
+-- one more is within a limit where there is room, and only there
+pub room : (limit n : ℕ) → nat_le limit n ≡ false → n + 1 ≤ limit
+room limit n h = grind (arith, nat_tests)
+
+pub has_room : (limit n : ℕ) → n + 1 ≤ limit → nat_le limit n ≡ false
+has_room limit n h = grind (arith, nat_tests)
 
 -- a value is small exactly where it isn't too large
 pub small_value : (n : ℕ) → nat_lt value_limit n ≡ false → n ≤ value_limit

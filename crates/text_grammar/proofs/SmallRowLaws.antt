@@ -1,35 +1,30 @@
 -- A small text is printed and read back: all that a text in single bytes owes.
-use Rattle.std.proofs.Common.{◌≡◌, ℕ, zero, suc, List, [], ◌∷◌, ◌++◌, refl, ap, sym, subst, ◌∙◌, arith, inl, inr}
-use Rattle.std.proofs.Common.{append-nil, append_assoc}
-use Rattle.std.specs.Prelude.{nat_lt, codes, true}
+use Rattle.std.proofs.Common.{◌≡◌, ◌≤◌, ◌+◌, ℕ, zero, suc, List, [], ◌∷◌, ◌++◌, length, refl, ap, sym, subst, ◌∙◌}
+use Rattle.std.proofs.Common.{arith, inl, inr, append-nil, append_assoc, length-append}
+use Rattle.std.specs.Prelude.{nat_le, not, ◌==◌, codes, true, false}
+use Rattle.std.specs.Fmt.{decimal}
+use Rattle.std.proofs.lemmas.Bool.Decides.{nat_tests}
 use Rattle.text_core.specs.Reading.{Stands}
 use Rattle.text_grammar.specs.declared.numeral.Within.TheVariants.{Words}
 use Rattle.text_grammar.specs.Grammars.{alternatives}
 use Rattle.text_grammar.specs.Sounding.{is_readable}
 use Rattle.text_grammar.specs.Texts.{IsLawful}
-use Rattle.text_grammar.specs.Parts.{Part, Says, Puts, AllMake, spelled, come, Stand}
-use Rattle.text_grammar.specs.ByteTexts.{Spelling, Numbered, Line, fresh, says, only, fold_of, numbers_of, grammar_of}
-use Rattle.text_grammar.specs.ByteTexts.{texts_of, line_text, value_limit, HasNumbers, IsBounded}
+use Rattle.text_grammar.specs.Parts.{Part, AllMake, spelled, come, Stand}
+use Rattle.text_grammar.specs.ByteTexts.{Spelling, Numbered, fresh, only, fold_of, numbers_of, grammar_of}
+use Rattle.text_grammar.specs.ByteTexts.{texts_of, line_text, HasNumbers, IsBounded}
 use Rattle.text_grammar.specs.ByteParts.{ValueOf, parts_of, OwnAreMade}
-use Rattle.text_grammar.specs.SmallRows.{Rows, rows_bytes, rows_text, AreSmallRows, RowsAreRead}
-use Rattle.text_grammar.proofs.Numerals.{none_when, when_none, small_value, value_small}
+use Rattle.text_grammar.specs.SmallRows.{Row, Rows, State, is_no_number, rows_bytes, rows_text, AreNumbered, AreFew}
+use Rattle.text_grammar.specs.SmallRows.{RowsAreRead, RowsValue, rows_parts, own_parts}
+use Rattle.text_grammar.proofs.Numerals.{none_when, when_none, not_differs, differs_not, room, has_room}
 use Rattle.text_grammar.proofs.ByteLaws.{bytes_lawful}
-use Rattle.text_grammar.proofs.ByteDerivations.{IsDerived, by, each_line, answered, taken}
+use Rattle.text_grammar.proofs.ByteDerivations.{IsDerived, by, each_natural, each_line, answered, taken}
 
--- the values of the nonterminals, and what they are made of
-abbrev RowsValue : ℕ → Type 0
-RowsValue zero = Rows
-RowsValue (suc zero) = Rows
-RowsValue (suc (suc n)) = ⊥
+-- the numbers of rows are those from 1 to 9
+row_number : (n : ℕ) → is_no_number n ≡ false → (1 ≤ n) × (n ≤ 9)
+row_number n h = (grind (arith, nat_tests), grind (arith, nat_tests))
 
-abbrev rows_parts : Rows → List (Part ℕ Numbered)
-rows_parts [] = says (codes "end") (Says 10 ∷ [])
-rows_parts (row ∷ rows) = says (codes "row") (Puts (Line row) ∷ rows_parts rows)
-
-abbrev own_parts : (n : ℕ) → RowsValue n → List (Part ℕ Numbered)
-own_parts zero rows = rows_parts rows
-own_parts (suc zero) rows = rows_parts rows
-own_parts (suc (suc n)) b = absurd b
+number_taken : (n : ℕ) → 1 ≤ n → n ≤ 9 → is_no_number n ≡ false
+number_taken n l k = grind (arith, nat_tests)
 
 -- the text can be read, and has the rules of numbers; numbers that aren't refused are below 2^64
 pub rows_readable : is_readable (grammar_of rows_bytes) ≡ true
@@ -48,10 +43,10 @@ rows_numbers = record {
 
 pub rows_bounded : IsBounded rows_bytes
 rows_bounded = record {
-  small = λ s n e. let l = small_value n (none_when (nat_lt value_limit n) 2 e) in omega (arith, l);
+  small = λ s n e. let l = (row_number n (none_when (is_no_number n) 3 e)).1 in omega (arith, l);
   below = λ s m n some l e.
-      let k = small_value n (none_when (nat_lt value_limit n) 2 e) in
-      when_none (nat_lt value_limit m) 2 (value_small m (omega (arith, l, k)));
+      let k = (row_number n (none_when (is_no_number n) 3 e)).1 in
+      when_none (is_no_number m) 3 (number_taken m some (omega (arith, l, k)));
   minus = λ s. refl;
   blank = λ s. refl;
 }
@@ -60,29 +55,34 @@ pub rows_lawful : IsLawful (texts_of rows_bytes)
 rows_lawful = bytes_lawful rows_bytes rows_readable (λ a b e. e)
 
 -- each alternative is made of its values
-rows_made : OwnAreMade rows_bytes RowsValue own_parts
+pub rows_made : OwnAreMade rows_bytes RowsValue own_parts
 rows_made = record { text = (λ (rows, u). (rows, refl), tt); others = go }
   where
     go : (n : ℕ) → AllMake (fold_of rows_bytes) (numbers_of rows_bytes) (grammar_of rows_bytes)
         (only rows_bytes.letters) (ValueOf RowsValue own_parts) (parts_of RowsValue own_parts)
         (suc (suc (suc (suc (suc (suc (suc (suc n))))))))
         (alternatives rows_bytes.rules (suc (suc (suc (suc (suc (suc (suc (suc n)))))))))
-    go zero = ((λ (row, (rows, u)). (row ∷ rows, refl)), ((λ u. ([], refl)), tt))
+    go zero = ((λ (n, (vs, (rows, u))). (record { number = n; values = vs } ∷ rows, refl)), ((λ u. ([], refl)), tt))
     go (suc n) = tt
 
 -- rows with small values are derived
 abbrev Derived : (n : ℕ) → ValueOf RowsValue own_parts n → Type 0
 Derived n v = IsDerived rows_bytes rows_bounded rows_numbers rows_readable RowsValue own_parts n v
 
-rows_derived : (rows : Rows) → AreSmallRows rows → Derived 8 rows
+pub rows_derived : (rows : Rows) → AreNumbered rows → Derived 8 rows
 rows_derived [] l = by rows_bytes rows_bounded rows_numbers rows_readable RowsValue own_parts 8 _ (inr (inl refl)) tt tt
-rows_derived (row ∷ rows) l =
-    by rows_bytes rows_bounded rows_numbers rows_readable RowsValue own_parts 8 _ (inl refl) (row, (rows, tt)) (
-      each_line rows_bytes rows_bounded rows_numbers rows_readable RowsValue own_parts row l.0,
-      (rows_derived rows l.1, tt),
+rows_derived (r ∷ rs) l =
+    by rows_bytes rows_bounded rows_numbers rows_readable RowsValue own_parts 8 _ (inl refl)
+    (r.number, (r.values, (rs, tt))) (
+      each_natural rows_bytes rows_bounded rows_numbers rows_readable RowsValue own_parts r.number
+          (let k = l.0.few in omega (arith, k)),
+      (
+        each_line rows_bytes rows_bounded rows_numbers rows_readable RowsValue own_parts r.values l.0.small,
+        (rows_derived rs l.1, tt),
+      ),
     )
 
-text_derived : (rows : Rows) → AreSmallRows rows → Derived 0 rows
+text_derived : (rows : Rows) → AreNumbered rows → Derived 0 rows
 text_derived rows l =
     by rows_bytes rows_bounded rows_numbers rows_readable RowsValue own_parts 0 _ (inl refl) (rows, tt)
     (rows_derived rows l, tt)
@@ -90,40 +90,75 @@ text_derived rows l =
 -- they spell their text
 rows_spell : (rows : Rows) → spelled (fold_of rows_bytes) (numbers_of rows_bytes) (rows_parts rows) ≡ rows_text rows
 rows_spell [] = refl
-rows_spell (row ∷ rows) = ap (λ (bs : List ℕ). codes "row" ++ (line_text row ++ bs)) (rows_spell rows)
+rows_spell (r ∷ rs) =
+    ap (λ (bs : List ℕ). codes "row " ++ (decimal r.number ++ (line_text r.values ++ bs))) (rows_spell rs)
 
--- between rows
-abbrev at : Rows → Spelling Rows
-at rows = record { own = rows; numeral = fresh; within = Words; values = [] }
+-- between rows, and behind one
+abbrev at : State → Spelling State
+at s = record { own = s; numeral = fresh; within = Words; values = [] }
 
--- nothing stands against rows exactly where their values are small
-rows_stand : (rows before : Rows) → AreSmallRows rows
-    → Stand (fold_of rows_bytes) (numbers_of rows_bytes) (at before) (rows_parts rows)
-rows_stand [] before l = (refl, (refl, (refl, (refl, tt))))
-rows_stand (row ∷ rows) before l = (refl, (refl, (refl, ((l.0, refl), rows_stand rows (before ++ row ∷ []) l.1))))
+abbrev behind_row : State → Row → State
+behind_row s r = record { rows = s.rows ++ r ∷ []; number = r.number; values = r.values }
 
-stand_rows : (rows before : Rows)
-    → Stand (fold_of rows_bytes) (numbers_of rows_bytes) (at before) (rows_parts rows) → AreSmallRows rows
-stand_rows [] before h = tt
-stand_rows (row ∷ rows) before h = (h.1.1.1.0.0, stand_rows rows (before ++ row ∷ []) h.1.1.1.1)
+-- nothing stands against rows exactly where each is numbered and there are at most three
+rows_stand : (rows : Rows) (s : State) → AreNumbered rows → length s.rows + length rows ≤ 3
+    → Stand (fold_of rows_bytes) (numbers_of rows_bytes) (at s) (rows_parts rows)
+rows_stand [] s l few = (refl, (refl, (refl, (refl, tt))))
+rows_stand (r ∷ rs) s l few =
+    let count = length-append s.rows (r ∷ []) in
+    let line = when_none (not (length r.values == r.number)) 4
+    (differs_not r.number (length r.values) l.0.counted) in
+    let number = when_none (is_no_number r.number) 3 (number_taken r.number l.0.some l.0.few) in
+    let first = when_none (nat_le 3 (length s.rows)) 5 (has_room 3 (length s.rows) (omega (arith, few))) in
+    let others = rows_stand rs (behind_row s r) l.1 (omega (arith, count, few)) in
+    (first, (refl, (refl, (refl, (number, ((l.0.small, line), others))))))
+
+stand_rows : (rows : Rows) (s : State)
+    → Stand (fold_of rows_bytes) (numbers_of rows_bytes) (at s) (rows_parts rows)
+    → AreNumbered rows × (length s.rows ≤ 3 → length s.rows + length rows ≤ 3)
+stand_rows [] s h = (tt, λ l. omega (arith, l))
+stand_rows (r ∷ rs) s h =
+    let one = room 3 (length s.rows) (none_when (nat_le 3 (length s.rows)) 5 h.0) in
+    let number = row_number r.number (none_when (is_no_number r.number) 3 h.1.1.1.1.0) in
+    let line = h.1.1.1.1.1.0 in
+    let counted = none_when (not (length r.values == r.number)) 4 line.1 in
+    let w = stand_rows rs (behind_row s r) h.1.1.1.1.1.1 in
+    let count = length-append s.rows (r ∷ []) in (
+      (
+        record {
+          some = number.0;
+          few = number.1;
+          counted = not_differs r.number (length r.values) counted;
+          small = line.0;
+        },
+        w.0,
+      ),
+      λ l. (let m = w.1 (omega (arith, count, one)) in omega (arith, count, m)),
+    )
 
 -- and they come to those before and them
-rows_come : (rows before : Rows)
-    → (come (fold_of rows_bytes) (numbers_of rows_bytes) (at before) (rows_parts rows)).own ≡ before ++ rows
-rows_come [] before = sym (append-nil before)
-rows_come (row ∷ rows) before = rows_come rows (before ++ row ∷ []) ∙ append_assoc before (row ∷ []) rows
+rows_come : (rows : Rows) (s : State)
+    → (come (fold_of rows_bytes) (numbers_of rows_bytes) (at s) (rows_parts rows)).own.rows ≡ s.rows ++ rows
+rows_come [] s = sym (append-nil s.rows)
+rows_come (r ∷ rs) s = rows_come rs (behind_row s r) ∙ append_assoc s.rows (r ∷ []) rs
 
 -- so what is printed is read, and what is read is printed
 pub rows_read : RowsAreRead
 rows_read = record {
   printed = λ rows l.
       taken rows_bytes rows_bounded rows_numbers rows_readable RowsValue own_parts rows_lawful rows
-      (text_derived rows l) (rows_stand rows [] l) (rows_text rows) (rows_spell rows)
-      ∙ ap (λ (found : Rows). Stands found) (rows_come rows []);
+      (text_derived rows l.each) (rows_stand rows rows_bytes.begun l.each (let few = l.few in omega (arith, few)))
+      (rows_text rows) (rows_spell rows)
+      ∙ ap (λ (found : Rows). Stands found) (rows_come rows rows_bytes.begun);
   read = λ bytes rows e.
       let w =
       answered rows_bytes rows_bounded rows_numbers rows_readable RowsValue own_parts rows_made rows_lawful bytes
       rows e in
-      let same : w.0 ≡ rows = sym (rows_come w.0 []) ∙ w.3 in
-      (ap rows_text (sym same) ∙ sym (rows_spell w.0) ∙ w.1, subst AreSmallRows same (stand_rows w.0 [] w.2));
+      let same : w.0 ≡ rows = sym (rows_come w.0 rows_bytes.begun) ∙ w.3 in
+      let stands = stand_rows w.0 rows_bytes.begun w.2 in
+      let few : AreFew w.0 = record {
+        each = stands.0;
+        few = (let l = stands.1 (omega arith) in omega (arith, l));
+      } in
+      (ap rows_text (sym same) ∙ sym (rows_spell w.0) ∙ w.1, subst AreFew same few);
 }

@@ -1,6 +1,7 @@
 -- What was worked out by hand of grammars.
 use Rattle.text_grammar.proofs.SmallRowLaws.{rows_read}
 use Rattle.text_grammar.proofs.WorkedRowLaws.{numerals_told, parts_told, byte_texts_told}
+use Rattle.text_grammar.proofs.WorkedValueLaws.{values_told}
 use Rattle.std.proofs.Common.{ℕ, ◌<◌, Bool, true, false, cond, [], ◌∷◌, refl, arith, lit<, inl, inr}
 use Rattle.std.specs.Prelude.{◌==◌}
 use Rattle.text_core.proofs.FirstFaults.{nowhere_begins, whole_ends, answers_all, one_tree_each, one_first_each}
@@ -88,4 +89,5 @@ worked_grammars = record {
   numerals = numerals_told;
   parts = parts_told;
   byte_texts = byte_texts_told;
+  values = values_told;
 }

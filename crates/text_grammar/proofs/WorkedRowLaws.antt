@@ -1,9 +1,9 @@
 -- What was worked out by hand of parts, numbers and texts in single bytes.
-use Rattle.std.proofs.Common.{◌≡◌, ℕ, ◌^◌, List, [], ◌∷◌, refl, ap, arith}
-use Rattle.std.specs.Prelude.{pos}
+use Rattle.std.proofs.Common.{◌≡◌, ℕ, ◌^◌, List, [], ◌∷◌, map, Some, None, refl, ap, arith}
+use Rattle.std.specs.Prelude.{pos, unsigned_abs}
 use Rattle.std.specs.Fmt.{digits}
-use Rattle.text_grammar.specs.ByteTexts.{Spelling, value_rule}
-use Rattle.text_grammar.specs.SmallRows.{Rows}
+use Rattle.text_grammar.specs.ByteTexts.{Spelling, line_rule, values_rule, value_rule}
+use Rattle.text_grammar.specs.SmallRows.{State, rows_bytes}
 use Rattle.text_grammar.specs.WorkedRows.{NumeralsAreTold, PartsAreTold, ByteTextsAreTold}
 use Rattle.text_grammar.proofs.SmallRowLaws.{rows_bounded, rows_numbers}
 
@@ -15,45 +15,68 @@ numerals_told = record {
   value = refl;
   behind_letter = refl;
   capped = refl;
+  short = (omega arith, (omega arith, tt));
+  long = λ h. let l = h.1.0 in omega (arith, l);
+  long_below = λ h. let l = h.1.0 in omega (arith, l);
 }
 
--- a row of 2 isn't one of 1
-two_one : ◌≡◌ {A = List ℕ} (2 ∷ []) (1 ∷ []) → ⊥
-two_one e = let f : ◌≡◌ {A = ℕ} 2 1 = cc in omega (arith, f)
+-- a refusal isn't none
+pub some_none : (kind : ℕ) → Some kind ≡ None → ⊥
+some_none kind e = cc
 
--- rows as plain numbers
-abbrev sizes : Rows → List ℕ
-sizes [] = []
-sizes ([] ∷ rows) = sizes rows
-sizes ((pos n ∷ vs) ∷ rows) = n ∷ sizes rows
-sizes ((v ∷ vs) ∷ rows) = sizes rows
+-- the byte `1` isn't the byte `2`, nor a 2 a 1
+bytes_differ : ◌≡◌ {A = List ℕ} (32 ∷ 49 ∷ 10 ∷ []) (32 ∷ 50 ∷ 10 ∷ []) → ⊥
+bytes_differ e = let f : ◌≡◌ {A = ℕ} 49 50 = cc in omega (arith, f)
+
+sizes_differ : ◌≡◌ {A = List ℕ} (2 ∷ []) (1 ∷ []) → ⊥
+sizes_differ e = let f : ◌≡◌ {A = ℕ} 2 1 = cc in omega (arith, f)
 
 pub parts_told : PartsAreTold
 unfolding digits
 parts_told = record {
   text = refl;
-  events = refl;
-  comes = refl;
-  small = (((omega arith, tt), refl), tt);
-  large = λ h. let l = h.0.0.0 in omega (arith, l);
+  value = refl;
+  natural = refl;
+  line = refl;
+  row_comes = refl;
+  value_comes = refl;
+  small = (refl, tt);
+  large = λ h. some_none 2 h.0;
+  nine = (refl, tt);
+  ten = λ h. some_none 3 h.0;
+  nought = λ h. some_none 3 h.0;
+  counted = (((omega arith, (omega arith, tt)), refl), tt);
+  surplus = λ h. some_none 4 h.0.1;
+  large_line = λ h. let l = h.0.0.1.0 in omega (arith, l);
+  third = (refl, tt);
+  fourth = λ h. some_none 5 h.0;
   itself = record { spells = refl; stands = (((omega arith, tt), refl), tt); comes = refl };
-  no_other = λ h. two_one (ap (λ (s : Spelling Rows). sizes s.own) h.comes);
+  other_text = λ h. bytes_differ h.spells;
+  other_end = λ h. sizes_differ (ap (λ (s : Spelling State). map unsigned_abs s.own.values) h.comes);
+  none_comes = λ h. let l = h.stands.0.0.0 in omega (arith, l);
 }
 
--- no rules aren't those of values
+-- no rules aren't those of values, and of the rules of a line and of what is left of it neither is the other
 no_rules : ([] ≡ value_rule) → ⊥
 no_rules e = cc
+
+not_line : (values_rule ≡ line_rule) → ⊥
+not_line e = cc
+
+not_values : (line_rule ≡ values_rule) → ⊥
+not_values e = cc
 
 pub byte_texts_told : ByteTextsAreTold
 unfolding digits
 byte_texts_told = record {
   bounded = rows_bounded;
-  endless = λ h. let l = h.small [] (2 ^ 64) refl in omega (arith, l);
+  endless = λ h. let l = h.small rows_bytes.begun (2 ^ 64) refl in omega (arith, l);
+  gap = λ h. some_none 3 (h.below rows_bytes.begun 1 2 (omega arith) (omega arith) refl);
+  no_blank = λ h. some_none 1 (h.blank rows_bytes.begun);
+  no_minus = λ h. some_none 1 (h.minus rows_bytes.begun);
   numbers = rows_numbers;
   no_numbers = λ h. no_rules h.value;
-  rows = refl;
-  none = refl;
-  too_large = refl;
-  leading_zero = refl;
-  too_early = refl;
+  other_line = λ h. not_line h.line;
+  other_values = λ h. not_values h.values;
+  answers = refl;
 }

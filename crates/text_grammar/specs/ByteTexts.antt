@@ -137,10 +137,10 @@ abbrev pub AreSmall : List ℤ → Type 0
 AreSmall [] = ⊤
 AreSmall (v ∷ vs) = (unsigned_abs v ≤ value_limit) × AreSmall vs
 
--- each value is below 2^64 in absolute value
-abbrev pub AreNarrow : List ℤ → Type 0
-AreNarrow [] = ⊤
-AreNarrow (v ∷ vs) = (unsigned_abs v < 2 ^ 64) × AreNarrow vs
+-- each value has at most 64 digits, as all of 128 bits have
+abbrev pub AreShort : List ℤ → Type 0
+AreShort [] = ⊤
+AreShort (v ∷ vs) = (unsigned_abs v < 10 ^ 64) × AreShort vs
 
 -- the text of a line of values, each with a blank before it, up to its line feed
 abbrev pub line_text : List ℤ → List ℕ

@@ -14,6 +14,7 @@ pub mod Views
 pub mod Tabled
 pub mod SmallRows
 pub mod WorkedRows
+pub mod WorkedValues
 pub mod Worked
 pub mod Marks
 pub mod Following

@@ -1,40 +1,63 @@
--- A small text in single bytes, whole: rows of values, each behind the word `row`, and a last line `end`.
-use Rattle.std.specs.Prelude.{◌≡◌, ℕ, nat_lt, List, [], ◌∷◌, ◌++◌, codes, length, ℤ, None, ⊤}
+-- A small text in single bytes, whole, with a use for each part of such a text: rows, each behind the word `row` with a
+-- number and so many values, and a last line `end`.
+use Rattle.std.specs.Prelude.{◌≡◌, ◌≤◌, ℕ, zero, suc, Bool, not, ◌||◌, ◌==◌, nat_lt, nat_le, if◌then◌else◌, List, []}
+use Rattle.std.specs.Prelude.{◌∷◌, ◌++◌, codes, length, ℤ, None, ⊤}
+use Rattle.std.specs.Fmt.{decimal}
 use Rattle.text_core.specs.Choices.{when}
 use Rattle.text_core.specs.Reading.{Answer, Stands, answer}
 use Rattle.text_grammar.specs.declared.symbol.Symbol.{Symbol}
-use Rattle.text_grammar.specs.declared.symbol.Symbol.TheVariants.{Piece, Made}
+use Rattle.text_grammar.specs.declared.symbol.Symbol.TheVariants.{Piece, Made, Mark}
+use Rattle.text_grammar.specs.Parts.{Part, Says, Does, Puts}
 use Rattle.text_grammar.specs.Texts.{reader}
-use Rattle.text_grammar.specs.ByteTexts.{ByteText, tokens, texts_of, value_rule, natural_rule, number_rule}
-use Rattle.text_grammar.specs.ByteTexts.{positive_rule, digits_rule, line_rule, values_rule, value_limit, line_text, AreSmall}
+use Rattle.text_grammar.specs.ByteTexts.{ByteText, Numbered, Natural, Line, says, tokens, texts_of, value_rule}
+use Rattle.text_grammar.specs.ByteTexts.{natural_rule, number_rule, positive_rule, digits_rule, line_rule, values_rule}
+use Rattle.text_grammar.specs.ByteTexts.{line_text, AreSmall}
 
--- rows of values
+-- a number and values
+pub record Row : Type 0 where
+  pub number : ℕ
+  pub values : List ℤ
+
 abbrev pub Rows : Type 0
-Rows = List (List ℤ)
+Rows = List Row
 
--- text = rows; the rules of numbers and of lines; rows = "row" line rows | "end" and a line feed
-abbrev pub rows_rules : List (List (List Symbol))
-rows_rules =
-    ((Made 8 ∷ []) ∷ []) ∷ value_rule ∷ natural_rule ∷ number_rule ∷ positive_rule ∷ digits_rule ∷ line_rule
-    ∷ values_rule
-    ∷ ((Piece 6 ∷ Piece 7 ∷ Piece 8 ∷ Made 6 ∷ Made 8 ∷ [])
+-- text = rows; the rules of numbers, and these of lines of values; rows = "row " natural line, mark 6, rows | "end" and
+-- a line feed
+abbrev pub rules_with : List (List Symbol) → List (List Symbol) → List (List (List Symbol))
+rules_with line values =
+    ((Made 8 ∷ []) ∷ []) ∷ value_rule ∷ natural_rule ∷ number_rule ∷ positive_rule ∷ digits_rule ∷ line ∷ values
+    ∷ ((Piece 6 ∷ Piece 7 ∷ Piece 8 ∷ Piece 4 ∷ Made 2 ∷ Made 6 ∷ Mark 6 ∷ Made 8 ∷ [])
     ∷ (Piece 9 ∷ Piece 10 ∷ Piece 11 ∷ Piece 5 ∷ []) ∷ []) ∷ []
 
--- the rows so far are remembered, and nothing stands against them but values that are too large; kind 1 is that of a
--- byte that can't follow, kind 2 that of a number that is too large
-abbrev pub rows_bytes : ByteText Rows Rows ℕ
+-- the rows so far, and the number and the values that have been read of the next one
+pub record State : Type 0 where
+  pub rows : Rows
+  pub number : ℕ
+  pub values : List ℤ
+
+-- a row is done
+abbrev pub with_row : State → State
+with_row s = record s { rows = s.rows ++ record { number = s.number; values = s.values } ∷ [] }
+
+-- a row has no such number
+abbrev pub is_no_number : ℕ → Bool
+is_no_number n = (n == 0) || nat_lt 9 n
+
+-- refusals are of kind 1 where a byte can't follow, 2 where a value is too large, 3 where a row has no such number, 4
+-- where a line has another number of values than its row's, and 5 at the `r` of a row behind three
+abbrev pub rows_bytes : ByteText State Rows ℕ
 rows_bytes = record {
   letters = codes "rowend";
-  rules = rows_rules;
+  rules = rules_with line_rule values_rule;
   rounds = 9;
-  begun = [];
-  natural = λ n rows. rows;
-  line = λ vs rows. rows ++ vs ∷ [];
-  done = λ m rows. rows;
-  against_natural = λ rows n. when (nat_lt value_limit n) 2;
-  against_line = λ rows n. None;
-  against_byte = λ rows b. None;
-  tree = λ rows. rows;
+  begun = record { rows = []; number = 0; values = [] };
+  natural = λ n s. record s { number = n };
+  line = λ vs s. record s { values = vs };
+  done = λ m s. if m == 6 then with_row s else s;
+  against_natural = λ s n. when (is_no_number n) 3;
+  against_line = λ s n. when (not (n == s.number)) 4;
+  against_byte = λ s b. if b == 114 then when (nat_le 3 (length s.rows)) 5 else None;
+  tree = λ s. s.rows;
   number = λ kind. kind;
   syntax = 1;
   too_large = 2;
@@ -47,15 +70,41 @@ answer_to bytes = answer (reader (texts_of rows_bytes)) (length bytes) (tokens b
 -- the text of rows
 abbrev pub rows_text : Rows → List ℕ
 rows_text [] = codes "end" ++ 10 ∷ []
-rows_text (row ∷ rows) = codes "row" ++ (line_text row ++ rows_text rows)
+rows_text (r ∷ rs) = codes "row " ++ (decimal r.number ++ (line_text r.values ++ rows_text rs))
 
--- each value in them is small
-abbrev pub AreSmallRows : Rows → Type 0
-AreSmallRows [] = ⊤
-AreSmallRows (row ∷ rows) = AreSmall row × AreSmallRows rows
+-- a row has a number from 1 to 9, and so many values, each of at most 2^63-1 in absolute value
+pub record IsNumbered (r : Row) : Type 0 where
+  pub some : 1 ≤ r.number
+  pub few : r.number ≤ 9
+  pub counted : length r.values ≡ r.number
+  pub small : AreSmall r.values
 
--- what is printed of rows with small values is read as them, and what is read is printed of such rows
+-- so it is with each row
+abbrev pub AreNumbered : Rows → Type 0
+AreNumbered [] = ⊤
+AreNumbered (r ∷ rs) = IsNumbered r × AreNumbered rs
+
+-- and there are at most three
+pub record AreFew (rows : Rows) : Type 0 where
+  pub each : AreNumbered rows
+  pub few : length rows ≤ 3
+
+-- what is printed of at most three such rows is read as them, and what is read is printed of such rows
 pub record RowsAreRead : Type 0 where
-  pub printed : (rows : Rows) → AreSmallRows rows → answer_to (rows_text rows) ≡ Stands rows
-  pub read : (bytes : List ℕ) (rows : Rows) → answer_to bytes ≡ Stands rows
-      → (rows_text rows ≡ bytes) × AreSmallRows rows
+  pub printed : (rows : Rows) → AreFew rows → answer_to (rows_text rows) ≡ Stands rows
+  pub read : (bytes : List ℕ) (rows : Rows) → answer_to bytes ≡ Stands rows → (rows_text rows ≡ bytes) × AreFew rows
+
+-- the values of the nonterminals, which are rows, and what they are made of
+abbrev pub RowsValue : ℕ → Type 0
+RowsValue zero = Rows
+RowsValue (suc zero) = Rows
+RowsValue (suc (suc n)) = ⊥
+
+abbrev pub rows_parts : Rows → List (Part ℕ Numbered)
+rows_parts [] = says (codes "end") (Says 10 ∷ [])
+rows_parts (r ∷ rs) = says (codes "row ") (Puts (Natural r.number) ∷ Puts (Line r.values) ∷ Does 6 ∷ rows_parts rs)
+
+abbrev pub own_parts : (n : ℕ) → RowsValue n → List (Part ℕ Numbered)
+own_parts zero rows = rows_parts rows
+own_parts (suc zero) rows = rows_parts rows
+own_parts (suc (suc n)) b = absurd b

@@ -11,6 +11,7 @@ use Rattle.text_grammar.specs.Texts.{Text, Writes, reader}
 use Rattle.text_grammar.specs.Silence.{StandsWhereSilent}
 use Rattle.text_grammar.specs.SmallRows.{RowsAreRead}
 use Rattle.text_grammar.specs.WorkedRows.{NumeralsAreTold, PartsAreTold, ByteTextsAreTold}
+use Rattle.text_grammar.specs.WorkedValues.{ValuesAreTold}
 
 -- pieces 0 and 1, and all others as 2
 abbrev pub class_of : ℕ → ℕ
@@ -124,3 +125,4 @@ pub record WorkedGrammars : Type 0 where
   pub numerals : NumeralsAreTold
   pub parts : PartsAreTold
   pub byte_texts : ByteTextsAreTold
+  pub values : ValuesAreTold

@@ -1,11 +1,15 @@
 -- What parts, numbers and texts in single bytes come to, worked out by hand on both sides, at a small text of rows.
-use Rattle.std.specs.Prelude.{◌≡◌, ℕ, ◌^◌, ◌-◌, true, false, List, [], ◌∷◌, codes, pos, negsuc, Some, None, map}
-use Rattle.text_core.specs.Reading.{Stands, Refused}
-use Rattle.text_grammar.specs.Grammars.{Read, Did}
-use Rattle.text_grammar.specs.Parts.{Says, Does, Puts, events_of, spelled, come, Stand, ComesTo}
-use Rattle.text_grammar.specs.ByteTexts.{Numeral, Value, Natural, Line, class_of, only, fresh, signed}
-use Rattle.text_grammar.specs.ByteTexts.{with_byte, fold_of, numbers_of, HasNumbers, IsBounded}
-use Rattle.text_grammar.specs.SmallRows.{rows_bytes, rows_rules, answer_to}
+use Rattle.std.specs.Prelude.{◌≡◌, ℕ, ◌^◌, ◌-◌, ◌==◌, not, true, false, List, [], ◌∷◌, codes, ℤ, pos, negsuc, Some}
+use Rattle.std.specs.Prelude.{None, map}
+use Rattle.text_core.specs.Choices.{when}
+use Rattle.text_core.specs.Reading.{Answer, Stands, Refused}
+use Rattle.text_grammar.specs.declared.numeral.Within.TheVariants.{Words}
+use Rattle.text_grammar.specs.Grammars.{Event, Read, Did}
+use Rattle.text_grammar.specs.Parts.{Part, Says, Does, Puts, events_of, spelled, come, Stand, ComesTo}
+use Rattle.text_grammar.specs.ByteTexts.{Numeral, Numbered, Spelling, Value, Natural, Line, class_of, only, fresh}
+use Rattle.text_grammar.specs.ByteTexts.{signed, with_byte, fold_of, numbers_of, HasNumbers, IsBounded, AreShort}
+use Rattle.text_grammar.specs.ByteTexts.{line_text, line_rule, values_rule}
+use Rattle.text_grammar.specs.SmallRows.{Row, Rows, State, rules_with, rows_bytes, answer_to}
 
 -- the number that is being spelled behind bytes
 abbrev pub spelling : Numeral → List ℕ → Numeral
@@ -25,35 +29,125 @@ pub record NumeralsAreTold : Type 0 where
   pub behind_letter : spelling fresh (codes "12x7") ≡ record { negative = false; number = 7; spelled = 1 }
   pub capped : spelling fresh (codes "99999999999999999999")
       ≡ record { negative = false; number = 2 ^ 64; spelled = 20 }
+  -- a value may have 64 digits, and its sign, and not 65, also where another one stands before it
+  pub short : AreShort (pos (10 ^ 64 - 1) ∷ negsuc (10 ^ 64 - 2) ∷ [])
+  pub long : ¬ AreShort (pos 1 ∷ pos (10 ^ 64) ∷ [])
+  pub long_below : ¬ AreShort (pos 1 ∷ negsuc (10 ^ 64 - 1) ∷ [])
+
+-- what is remembered between rows, behind some, with this number and these values of the next one
+abbrev pub between : Rows → ℕ → List ℤ → Spelling State
+between rows n vs = record {
+  own = record { rows = rows; number = n; values = vs };
+  numeral = fresh;
+  within = Words;
+  values = [];
+}
+
+-- a row of so many values
+abbrev pub row : ℕ → List ℤ → Row
+row n vs = record { number = n; values = vs }
+
+-- the events of parts of rows, what they come to, and when nothing stands against them
+abbrev pub events : List (Part ℕ Numbered) → List (Event ℕ)
+events xs = events_of (fold_of rows_bytes) (numbers_of rows_bytes) xs
+
+abbrev pub comes : Spelling State → List (Part ℕ Numbered) → Spelling State
+comes s xs = come (fold_of rows_bytes) (numbers_of rows_bytes) s xs
+
+abbrev pub StandFrom : Spelling State → List (Part ℕ Numbered) → Type 0
+StandFrom s xs = Stand (fold_of rows_bytes) (numbers_of rows_bytes) s xs
+
+abbrev pub Come : Spelling State → Spelling State → List ℕ → List (Part ℕ Numbered) → Type 0
+Come s t bytes xs = ComesTo (fold_of rows_bytes) (numbers_of rows_bytes) s t bytes xs
 
 -- parts of rows: what is spelled, which events that is, what they come to, and what stands against them
 pub record PartsAreTold : Type 0 where
   pub text : spelled (fold_of rows_bytes) (numbers_of rows_bytes)
-      (Says 114 ∷ Does 6 ∷ Puts (Line (pos 1 ∷ negsuc 1 ∷ [])) ∷ Puts (Natural 30) ∷ []) ≡ codes "r 1 -2\n30"
-  pub events : events_of (fold_of rows_bytes) (numbers_of rows_bytes) (Says 114 ∷ Puts (Value (negsuc 1)) ∷ Does 6 ∷ [])
+      (Says 114 ∷ Does 6 ∷ Puts (Line (pos 1 ∷ negsuc 1 ∷ [])) ∷ Puts (Natural 30) ∷ Puts (Value (negsuc 4)) ∷ [])
+      ≡ codes "r 1 -2\n30-5"
+  pub value : events (Says 114 ∷ Puts (Value (negsuc 1)) ∷ Does 6 ∷ [])
       ≡ Read 114 ∷ Did 0 ∷ Read 45 ∷ Read 50 ∷ Did 1 ∷ Did 6 ∷ []
-  pub comes : (come (fold_of rows_bytes) (numbers_of rows_bytes) (fold_of rows_bytes).begun
-      (Puts (Line (pos 1 ∷ [])) ∷ Puts (Line []) ∷ [])).own ≡ (pos 1 ∷ []) ∷ [] ∷ []
-  -- a value of 2^63-1 stands, and one of 2^63 doesn't
-  pub small : Stand (fold_of rows_bytes) (numbers_of rows_bytes) (fold_of rows_bytes).begun
-      (Puts (Line (pos (2 ^ 63 - 1) ∷ [])) ∷ [])
-  pub large : ¬ Stand (fold_of rows_bytes) (numbers_of rows_bytes) (fold_of rows_bytes).begun
+  pub natural : events (Puts (Natural 30) ∷ []) ≡ Did 3 ∷ Read 51 ∷ Read 48 ∷ Did 2 ∷ []
+  pub line : events (Puts (Line (pos 1 ∷ negsuc 1 ∷ [])) ∷ [])
+      ≡ Did 4 ∷ Read 32 ∷ Did 0 ∷ Read 49 ∷ Did 1 ∷ Read 32 ∷ Did 0 ∷ Read 45 ∷ Read 50 ∷ Did 1 ∷ Read 10 ∷ Did 5 ∷ []
+  -- a row is its number, its line and its mark; a value is one more of those that are read
+  pub row_comes : comes (between [] 0 []) (Puts (Natural 1) ∷ Puts (Line (pos 5 ∷ [])) ∷ Does 6 ∷ [])
+      ≡ between (row 1 (pos 5 ∷ []) ∷ []) 1 (pos 5 ∷ [])
+  pub value_comes : (comes (between [] 0 []) (Puts (Value (pos 5)) ∷ Puts (Value (negsuc 1)) ∷ [])).values
+      ≡ pos 5 ∷ negsuc 1 ∷ []
+  -- a value of -(2^63-1) stands, and one of 2^63 doesn't; the number 9 does, and 0 and 10 don't
+  pub small : StandFrom (between [] 0 []) (Puts (Value (negsuc (2 ^ 63 - 2))) ∷ [])
+  pub large : ¬ StandFrom (between [] 0 []) (Puts (Value (pos (2 ^ 63))) ∷ [])
+  pub nine : StandFrom (between [] 0 []) (Puts (Natural 9) ∷ [])
+  pub ten : ¬ StandFrom (between [] 0 []) (Puts (Natural 10) ∷ [])
+  pub nought : ¬ StandFrom (between [] 0 []) (Puts (Natural 0) ∷ [])
+  -- a line of as many values as the number of its row stands, and not one of more, nor one with a value of 2^63
+  pub counted : StandFrom (between [] 2 []) (Puts (Line (pos 1 ∷ pos 1 ∷ [])) ∷ [])
+  pub surplus : ¬ StandFrom (between [] 1 []) (Puts (Line (pos 1 ∷ pos 1 ∷ [])) ∷ [])
+  pub large_line : ¬ StandFrom (between [] 2 []) (Puts (Line (pos 1 ∷ pos (2 ^ 63) ∷ [])) ∷ [])
+  -- an `r` stands behind two rows, and not behind three
+  pub third : StandFrom (between (row 1 [] ∷ row 1 [] ∷ []) 0 []) (Says 114 ∷ [])
+  pub fourth : ¬ StandFrom (between (row 1 [] ∷ row 1 [] ∷ row 1 [] ∷ []) 0 []) (Says 114 ∷ [])
+  -- a line comes to its values and is spelled as its text, and comes to no others and has no other text; with a value
+  -- of 2^63 it comes to nothing
+  pub itself : Come (between [] 1 []) (between [] 1 (pos 1 ∷ [])) (codes " 1\n") (Puts (Line (pos 1 ∷ [])) ∷ [])
+  pub other_text : ¬ Come (between [] 1 []) (between [] 1 (pos 1 ∷ [])) (codes " 2\n") (Puts (Line (pos 1 ∷ [])) ∷ [])
+  pub other_end : ¬ Come (between [] 1 []) (between [] 1 (pos 1 ∷ [])) (codes " 2\n") (Puts (Line (pos 2 ∷ [])) ∷ [])
+  pub none_comes : ¬ Come (between [] 1 []) (between [] 1 (pos (2 ^ 63) ∷ [])) (line_text (pos (2 ^ 63) ∷ []))
       (Puts (Line (pos (2 ^ 63) ∷ [])) ∷ [])
-  -- a row comes to itself, and to no other
-  pub itself : ComesTo (fold_of rows_bytes) (numbers_of rows_bytes) (fold_of rows_bytes).begun
-      (record (fold_of rows_bytes).begun { own = (pos 1 ∷ []) ∷ [] }) (codes " 1\n") (Puts (Line (pos 1 ∷ [])) ∷ [])
-  pub no_other : ¬ ComesTo (fold_of rows_bytes) (numbers_of rows_bytes) (fold_of rows_bytes).begun
-      (record (fold_of rows_bytes).begun { own = (pos 1 ∷ []) ∷ [] }) (codes " 2\n") (Puts (Line (pos 2 ∷ [])) ∷ [])
 
--- what a text owes, and what it isn't without
+-- the refusal of a kind at a position
+abbrev pub refused : ℕ → ℕ → Answer Rows ℕ
+refused kind at = Refused (record { kind = kind; at = at })
+
+-- a text, and what it is answered with
+pub record Case : Type 0 where
+  pub text : List ℕ
+  pub comes : Answer Rows ℕ
+
+abbrev pub case_of : List ℕ → Answer Rows ℕ → Case
+case_of text comes = record { text = text; comes = comes }
+
+-- texts and their answers
+abbrev pub cases : List Case
+cases =
+    -- no row, two, and one with the most values
+    case_of (codes "end\n") (Stands [])
+    ∷ case_of (codes "row 2 1 -2\nrow 1 0\nend\n") (Stands (row 2 (pos 1 ∷ negsuc 1 ∷ []) ∷ row 1 (pos 0 ∷ []) ∷ []))
+    ∷ case_of (codes "row 9 1 1 1 1 1 1 1 1 1\nend\n")
+    (Stands (row 9 (pos 1 ∷ pos 1 ∷ pos 1 ∷ pos 1 ∷ pos 1 ∷ pos 1 ∷ pos 1 ∷ pos 1 ∷ pos 1 ∷ []) ∷ []))
+    -- numbers that no row has are refused where they begin, and `01` for its `0`
+    ∷ case_of (codes "row 0\nend\n") (refused 3 4)
+    ∷ case_of (codes "row 10\nend\n") (refused 3 4)
+    ∷ case_of (codes "row 01 1\nend\n") (refused 3 4)
+    -- too few values and too many are refused at the line feed
+    ∷ case_of (codes "row 2 1\nend\n") (refused 4 7)
+    ∷ case_of (codes "row 1 1 2\nend\n") (refused 4 9)
+    -- three rows, and a fourth one, which is refused at its `r`
+    ∷ case_of (codes "row 1 1\nrow 1 1\nrow 1 1\nend\n")
+    (Stands (row 1 (pos 1 ∷ []) ∷ row 1 (pos 1 ∷ []) ∷ row 1 (pos 1 ∷ []) ∷ []))
+    ∷ case_of (codes "row 1 1\nrow 1 1\nrow 1 1\nrow 1 1\nend\n") (refused 5 24)
+    -- a value of 2^63 is refused where it begins, its sign included
+    ∷ case_of (codes "row 1 9223372036854775807\nend\n") (Stands (row 1 (pos 9223372036854775807 ∷ []) ∷ []))
+    ∷ case_of (codes "row 1 9223372036854775808\nend\n") (refused 2 6)
+    ∷ case_of (codes "row 1 -9223372036854775808\nend\n") (refused 2 6)
+    -- bytes that can't follow: a leading zero, a sign before a row's number, and a text without its last line
+    ∷ case_of (codes "row 1 01\nend\n") (refused 1 7)
+    ∷ case_of (codes "row -1\nend\n") (refused 1 4)
+    ∷ case_of (codes "row 1 1\n") (refused 1 8)
+    ∷ []
+
+-- what a text owes, and what it isn't without; and what bytes are answered with
 pub record ByteTextsAreTold : Type 0 where
   pub bounded : IsBounded rows_bytes
-  pub endless : ¬ IsBounded (record rows_bytes { against_natural = λ rows n. None })
-  pub numbers : HasNumbers rows_rules
+  -- not where any number is taken, where 2 is taken and 1 isn't, and where a blank or a `-` is refused
+  pub endless : ¬ IsBounded (record rows_bytes { against_natural = λ s n. None })
+  pub gap : ¬ IsBounded (record rows_bytes { against_natural = λ s n. when (not (n == 2)) 3 })
+  pub no_blank : ¬ IsBounded (record rows_bytes { against_byte = λ s b. when (b == 32) 1 })
+  pub no_minus : ¬ IsBounded (record rows_bytes { against_byte = λ s b. when (b == 45) 1 })
+  -- the rules of numbers are those, with both of lines of values in their place
+  pub numbers : HasNumbers rows_bytes.rules
   pub no_numbers : ¬ HasNumbers []
-  -- rows, none, a value of 2^63, one with a zero before it, and a text without its last line
-  pub rows : answer_to (codes "row 1 -2\nrow\nend\n") ≡ Stands ((pos 1 ∷ negsuc 1 ∷ []) ∷ [] ∷ [])
-  pub none : answer_to (codes "end\n") ≡ Stands []
-  pub too_large : answer_to (codes "row 9223372036854775808\nend\n") ≡ Refused (record { kind = 2; at = 4 })
-  pub leading_zero : answer_to (codes "row 01\nend\n") ≡ Refused (record { kind = 1; at = 5 })
-  pub too_early : answer_to (codes "row 1\n") ≡ Refused (record { kind = 1; at = 6 })
+  pub other_line : ¬ HasNumbers (rules_with values_rule values_rule)
+  pub other_values : ¬ HasNumbers (rules_with line_rule line_rule)
+  pub answers : map (λ c. answer_to c.text) cases ≡ map (λ c. c.comes) cases

@@ -21,7 +21,8 @@ use std::alloc::{AllocError, Global};
 use std::mem::replace;
 
 /// A text in bytes: what it remembers of natural numbers, lines of values and marks of its own, what stands against
-/// them and against a byte, and what it makes of them all.
+/// them and against a byte, and what it makes of them all. Values come to it in lines alone, and the limit of each is
+/// `VALUE_LIMIT`; at the line feed of such a line `against_line` is asked, and `against_byte` isn't.
 pub trait ByteText {
     type Kind: Copy;
 

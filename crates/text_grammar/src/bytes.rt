@@ -23,7 +23,8 @@ pub const BLANK: u32 = 4;
 pub const LINE_FEED: u32 = 5;
 
 /// The nonterminals of a value with a sign, of a natural number, of what they are spelled by, of a line of values, and
-/// of such a line behind its beginning.
+/// of such a line behind its beginning. What a text gets of values is its lines of them: a value that stands elsewhere
+/// is read and kept from it.
 pub const VALUE: u32 = 1;
 /// See `VALUE`.
 pub const NATURAL: u32 = 2;
@@ -51,7 +52,7 @@ pub const LINE_BEGINS: u32 = 4;
 /// See `VALUE_BEGINS`.
 pub const LINE_READ: u32 = 5;
 
-/// A value is at most so large, in absolute value.
+/// A value is at most so large, in absolute value, whatever the text.
 pub const VALUE_LIMIT: u128 = (1 << 63) - 1;
 
 const CAP: u128 = 1 << 64;

@@ -5,10 +5,10 @@ ghost use Rattle.text_grammar.specs.Worked.{TextsAreRead, WorkedGrammars};
 
 use crate::text::Text;
 
-/// Which grammars can be read, which rules items spell, what brackets derive, and what numbers, parts and a small text
-/// in single bytes come to is what was worked out by hand, on both sides; the reader of brackets keeps the laws, and of
-/// the small text what is printed of rows with values up to 2^63-1 is read, and what is read is printed of such rows. It
-/// has no code: its contract is the law.
+/// Which grammars can be read, which rules items spell, what brackets derive, and what numbers, parts, values of
+/// nonterminals and a small text in single bytes come to is what was worked out by hand, on both sides; the reader of
+/// brackets keeps the laws, and of the small text what is printed of rows within its limits is read, and what is read
+/// is printed of such rows. It has no code: its contract is the law.
 pub fn worked_grammars_hold()
     ensures { WorkedGrammars }
 {}
