@@ -34,9 +34,9 @@ runs_told = record {
   no_places = refl;
   blank_alone = refl;
   surplus_start = refl;
-  short = record { start = (omega arith, tt); steps = (omega arith, ((omega arith, tt), tt)) };
+  short = record { start = (omega arith, tt); steps = (omega arith, (omega arith, tt), tt) };
   long_start = λ h. let l = h.start.1.0 in omega (arith, l);
-  long_rule = λ h. let l = h.steps.1.0 in omega (arith, l);
-  long_value = λ h. let l = h.steps.0.1.1.0 in omega (arith, l);
+  long_rule = λ h. let l = h.steps.2.0 in omega (arith, l);
+  long_value = λ h. let l = h.steps.1.1.0 in omega (arith, l);
   spelled = refl;
 }
