@@ -1,12 +1,13 @@
 -- A text is that of one run at most.
-use Rattle.std.proofs.Common.{◌≡◌, ℕ, List, [], ◌∷◌, ◌++◌, refl, ap, ◌∙◌, arith}
+use Rattle.std.proofs.Common.{◌≡◌, ℕ, List, [], ◌∷◌, ◌++◌, refl, ap, sym, ◌∙◌, arith}
 use Rattle.std.specs.Prelude.{ℤ}
 use Rattle.std.specs.Fmt.{decimal}
+use Rattle.its_model.specs.model.Programs.{Program}
 use Rattle.its_model.specs.model.Runs.{Step}
-use Rattle.text_grammar.specs.ByteTexts.{line_text}
+use Rattle.text_grammar.specs.ByteTexts.{line_text, AreSmall, AreShort}
 use Rattle.text_grammar.proofs.Apart.{decimal_apart, line_apart, line_ends}
 use Rattle.run_replay.specs.Runs.{Run}
-use Rattle.run_replay.specs.Spelled.{steps_text, text_of, AreShortSteps, IsShort, OneRun}
+use Rattle.run_replay.specs.Spelled.{steps_text, text_of, AreStepsOf, IsWithin, AreShortSteps, IsShort, OneRun}
 
 -- the lines of steps are those of one list of steps
 steps_apart : (ss ts : List Step) → AreShortSteps ss → AreShortSteps ts → steps_text ss ≡ steps_text ts → ss ≡ ts
@@ -24,9 +25,25 @@ steps_apart (s ∷ ss) (t ∷ ts) h k e =
     ∙ ap (λ (vs : List ℤ). record { rule = t.rule; free = vs } ∷ ss) free.0
     ∙ ap (λ (us : List Step). t ∷ us) (steps_apart ss ts h.2 k.2 free.1)
 
+-- small values have at most 64 digits, and so have all numbers of a run within the limits
+small_short : (vs : List ℤ) → AreSmall vs → AreShort vs
+small_short [] h = tt
+small_short (v ∷ vs) h = ((let l = h.0 in omega (arith, l)), small_short vs h.1)
+
+steps_short : (p : Program) (ss : List Step) → AreStepsOf p ss → AreShortSteps ss
+steps_short p [] h = tt
+steps_short p (s ∷ ss) h =
+    ((let l = h.0.held in omega (arith, l)), small_short s.free h.0.small, steps_short p ss h.1)
+
+within_short : (p : Program) (r : Run) → IsWithin p r → IsShort r
+within_short p r h = record { start = small_short r.start h.values; steps = steps_short p r.steps h.steps }
+
 -- so is a text
 pub one_run : OneRun
-one_run = record { each = go }
+one_run = record {
+  each = go;
+  within = λ p bytes a b h k. go a b (within_short p a h.within) (within_short p b k.within) (h.text ∙ sym k.text);
+}
   where
     go : (a b : Run) → IsShort a → IsShort b → text_of a ≡ text_of b → a ≡ b
     go a b h k e =

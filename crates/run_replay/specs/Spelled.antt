@@ -51,6 +51,8 @@ pub record IsShort (r : Run) : Type 0 where
   pub start : AreShort r.start
   pub steps : AreShortSteps r.steps
 
--- a text is that of one run at most, whatever the program and the limits, where no number has more than 64 digits
+-- a text is that of one run at most, whatever the program and the limits, where no number has more than 64 digits; so
+-- bytes are the text of one run within the limits at most
 pub record OneRun : Type 0 where
   pub each : (a b : Run) → IsShort a → IsShort b → text_of a ≡ text_of b → a ≡ b
+  pub within : (p : Program) (bytes : List ℕ) (a b : Run) → IsTextWithin p bytes a → IsTextWithin p bytes b → a ≡ b
