@@ -9,8 +9,8 @@ use Rattle.text_grammar.specs.declared.numeral.Within.TheVariants.{Words}
 use Rattle.text_grammar.specs.Grammars.{alternatives}
 use Rattle.text_grammar.specs.Sounding.{is_readable}
 use Rattle.text_grammar.specs.Texts.{IsLawful}
-use Rattle.text_grammar.specs.Parts.{Part, AllMake, spelled, come, Stand}
-use Rattle.text_grammar.specs.ByteTexts.{Spelling, Numbered, fresh, only, fold_of, numbers_of, grammar_of}
+use Rattle.text_grammar.specs.Parts.{AllMake, spelled, come, Stand}
+use Rattle.text_grammar.specs.ByteTexts.{Spelling, fresh, only, fold_of, numbers_of, grammar_of}
 use Rattle.text_grammar.specs.ByteTexts.{texts_of, line_text, HasNumbers, IsBounded}
 use Rattle.text_grammar.specs.ByteParts.{ValueOf, parts_of, OwnAreMade}
 use Rattle.text_grammar.specs.SmallRows.{Row, Rows, State, is_no_number, rows_bytes, rows_text, AreNumbered, AreFew}

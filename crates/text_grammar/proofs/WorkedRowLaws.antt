@@ -1,6 +1,6 @@
 -- What was worked out by hand of parts, numbers and texts in single bytes.
 use Rattle.std.proofs.Common.{◌≡◌, ℕ, ◌^◌, List, [], ◌∷◌, map, Some, None, refl, ap, arith}
-use Rattle.std.specs.Prelude.{pos, unsigned_abs}
+use Rattle.std.specs.Prelude.{unsigned_abs}
 use Rattle.std.specs.Fmt.{digits}
 use Rattle.text_grammar.specs.ByteTexts.{Spelling, line_rule, values_rule, value_rule}
 use Rattle.text_grammar.specs.SmallRows.{State, rows_bytes}

@@ -1,5 +1,5 @@
 -- Values of nonterminals, worked out by hand on both sides, at a small text of rows.
-use Rattle.std.specs.Prelude.{ℕ, List, [], ◌∷◌, codes, ℤ, pos, negsuc, Some, ⊤}
+use Rattle.std.specs.Prelude.{ℕ, List, [], ◌∷◌, codes, pos, negsuc, Some, ⊤}
 use Rattle.text_grammar.specs.declared.symbol.Symbol.{Symbol}
 use Rattle.text_grammar.specs.declared.symbol.Symbol.TheVariants.{Piece, Made}
 use Rattle.text_grammar.specs.Grammars.{Event}
