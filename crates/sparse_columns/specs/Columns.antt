@@ -18,6 +18,13 @@ pub record IsMultiple (column : Column) (wide : List Wide) (den : ℤ) : Type 0 
   pub numbers : (i : ℕ) → numerator column i *ℤ divisor ≡ wide_number wide i
   pub over : column.den *ℤ divisor ≡ den
 
+-- the column is the left numbers times f and the right ones times g over the denominator, all divided by one number over 0
+pub record IsCombination (column : Column) (left : List Cell) (f : ℤ) (right : List Cell) (g den : ℤ) : Type 0 where
+  pub divisor : ℤ
+  pub positive : pos 0 <ℤ divisor
+  pub numbers : (i : ℕ) → numerator column i *ℤ divisor ≡ number_of left i *ℤ f +ℤ number_of right i *ℤ g
+  pub over : column.den *ℤ divisor ≡ den
+
 -- the new column is the old one less a multiple of the shifted numbers, by the ratio of its number in row r to the pivot,
 -- all times one number and divided by another
 pub record IsCleared (old new : Column) (r : ℕ) (pivot : ℤ) (shifted : List Cell) : Type 0 where

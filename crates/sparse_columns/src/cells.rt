@@ -76,6 +76,20 @@ impl Cells {
         self.insert(cell)
     }
 
+    /// Puts a number behind the others, if its row comes behind theirs and it is below 2^31 in absolute value; 0 needs no
+    /// room. The answer is whether it was put.
+    pub(crate) fn push(&mut self, row: u32, value: i64) -> Result<bool, AllocError>
+        ensures { IfOk result (λ is_put. is_put ≡ true → Puts self.old self.new row value) }
+    {
+        if value == 0 {
+            return Ok(true);
+        }
+        let Some(cell) = Cell::new(row, value) else {
+            return Ok(false);
+        };
+        self.append(cell)
+    }
+
     /// Appends a cell, if its row comes behind those of all others. The answer is whether it was appended; else the cells
     /// are as before.
     fn append(&mut self, cell: Cell) -> Result<bool, AllocError>

@@ -6,6 +6,7 @@ ghost use Rattle.sparse_columns.specs.Wide.{wide_number};
 
 use crate::cell::{Cell, LIMIT};
 use crate::cells::Cells;
+use crate::narrow::combined_cells;
 use crate::ratio::{Ratio, common_divisor};
 use crate::wide::{Wide, combined, product};
 use std::alloc::{AllocError, Global};
@@ -20,7 +21,7 @@ pub struct Column {
 }
 
 impl Column {
-    ghost use Rattle.sparse_columns.specs.Columns.{numerator, IsCleared, IsMultiple, PutsNumerator};
+    ghost use Rattle.sparse_columns.specs.Columns.{numerator, IsCleared, IsCombination, IsMultiple, PutsNumerator};
 
     /// The column of zeros.
     pub fn zeros(alloc: Global) -> Column
@@ -90,8 +91,7 @@ impl Column {
         if !own.put(row, self.den)? {
             return Ok(None);
         }
-        let wide = combined(alloc, self.cells.as_slice(), 1, own.as_slice(), -1)?;
-        divided_cells(alloc, wide.as_slice(), 1)
+        combined_cells(alloc, self.cells.as_slice(), 1, own.as_slice(), -1)
     }
 
     /// The column with the multiple of another taken from it that makes its number in a row that over the pivot. The
@@ -112,27 +112,83 @@ impl Column {
         ensures { IfOk result (λ cleared. IfSome cleared (λ column. IsCleared self.now column row pivot shifted.now)) }
     {
         let ratio = Ratio::new(self.cells.at(row), pivot);
-        let wide = combined(
+        let den = product(self.den, ratio.under);
+        Column::combination(
             alloc,
             self.cells.as_slice(),
             ratio.under,
             shifted,
             -ratio.over,
-        )?;
-        let den = product(self.den, ratio.under);
-        Column::of_multiple(alloc, wide.as_slice(), den)
+            den,
+        )
     }
 
-    /// The column of numbers over a denominator, divided by a common divisor where they have no room else. None where
-    /// they have none at all.
-    fn of_multiple(alloc: Global, wide: &[Wide], den: i64) -> Result<Option<Column>, AllocError>
-        requires { pos 0 <ℤ den }
-        ensures { IfOk result (λ found. IfSome found (λ column. IsMultiple column wide.now den)) }
+    /// The column of the left numbers times one factor and the right ones times another, over a denominator, all divided
+    /// by a common divisor where they have no room else. None where they have none at all.
+    fn combination(
+        alloc: Global,
+        left: &[Cell],
+        left_factor: i64,
+        right: &[Cell],
+        right_factor: i64,
+        den: i64,
+    ) -> Result<Option<Column>, AllocError>
+        requires left { unsigned_abs left_factor < 2 ^ 31 }
+        requires right { unsigned_abs right_factor < 2 ^ 31 }
+        requires den { pos 0 <ℤ den }
+        ensures { IfOk result (λ found. IfSome found (λ column.
+            IsCombination column left.now left_factor right.now right_factor den)) }
     {
-        match Column::divided(alloc, wide, den, 1)? {
+        match Column::at_once(alloc, left, left_factor, right, right_factor, den)? {
             Some(column) => Ok(Some(column)),
-            None => Column::divided(alloc, wide, den, divisor_of(wide, den)),
+            None => Column::by_divisor(alloc, left, left_factor, right, right_factor, den),
         }
+    }
+
+    /// That column, if the numbers have room as they are.
+    fn at_once(
+        alloc: Global,
+        left: &[Cell],
+        left_factor: i64,
+        right: &[Cell],
+        right_factor: i64,
+        den: i64,
+    ) -> Result<Option<Column>, AllocError>
+        requires left { unsigned_abs left_factor < 2 ^ 31 }
+        requires right { unsigned_abs right_factor < 2 ^ 31 }
+        requires den { pos 0 <ℤ den }
+        ensures { IfOk result (λ found. IfSome found (λ column.
+            IsCombination column left.now left_factor right.now right_factor den)) }
+    {
+        if den.unsigned_abs() >= LIMIT {
+            return Ok(None);
+        }
+        match combined_cells(alloc, left, left_factor, right, right_factor)? {
+            Some(cells) => Ok(Some(Column { cells, den })),
+            None => Ok(None),
+        }
+    }
+
+    /// That column, if the numbers have room when they are divided by a common divisor.
+    fn by_divisor(
+        alloc: Global,
+        left: &[Cell],
+        left_factor: i64,
+        right: &[Cell],
+        right_factor: i64,
+        den: i64,
+    ) -> Result<Option<Column>, AllocError>
+        requires left { unsigned_abs left_factor < 2 ^ 31 }
+        requires right { unsigned_abs right_factor < 2 ^ 31 }
+        requires den { pos 0 <ℤ den }
+        ensures { IfOk result (λ found. IfSome found (λ column.
+            IsCombination column left.now left_factor right.now right_factor den)) }
+    {
+        let Some(wide) = combined(alloc, left, left_factor, right, right_factor)? else {
+            return Ok(None);
+        };
+        let divisor = divisor_of(wide.as_slice(), den);
+        Column::divided(alloc, wide.as_slice(), den, divisor)
     }
 
     /// The column of numbers over a denominator, all divided by a number. None where it doesn't divide one of them, or

@@ -4,7 +4,9 @@
 mod cell;
 mod cells;
 mod column;
+mod narrow;
 mod ratio;
+mod sums;
 mod totals;
 mod wide;
 

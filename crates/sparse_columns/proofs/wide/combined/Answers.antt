@@ -1,50 +1,16 @@
-use Rattle.std.proofs.Common.{◌≡◌, arith, ap, ◌∙◌, List, to_z, of_z, sym, refl}
-use Rattle.std.specs.Prelude.{ℤ, ◌+ℤ◌, ◌*ℤ◌}
+use Rattle.std.proofs.Common.{◌≡◌, arith, ap, List}
+use Rattle.std.specs.Prelude.{ℤ, pos, ◌*ℤ◌}
 use Rattle.std.specs.Int.{w64}
 use Rattle.std.proofs.lemmas.Int.{ints, to_z-of_z}
-use Rattle.sparse_columns.specs.declared.cell.Cell.{Cell}
+use Rattle.sparse_columns.specs.declared.wide.Wide.{Wide}
 use Rattle.sparse_columns.specs.Numbers.{number_of}
 use Rattle.sparse_columns.specs.Wide.{wide_number}
-use Rattle.sparse_columns.proofs.Merging.{multiple-put, sum-put}
 use Rattle.sparse_columns.proofs.wide.combined.Goals as goal
-
-pub merging-preserved-then-a-b : goal.merging-preserved-then-a-b
-merging-preserved-then-a-b c i =
-    let f = to_z w64 (of_z w64 c.args.left_factor) in
-    let y = number_of c.merging.right_rest.now i *ℤ to_z w64 (of_z w64 c.args.right_factor) in
-    let w = wide_number c.merging.wide.items i in
-    let put = multiple-put w (wide_number c.put_multiple.new.wide.items i) y c.in-Some.a.now c.in-Some.behind_a.now f i (c.in_ok-put_multiple.ensures i) in
-    put ∙ (ap (λ (xs : List Cell). w +ℤ (number_of xs i *ℤ f +ℤ y)) (sym c.in-Some.ensures.cases.0) ∙ c.merging.invariant i)
-
-pub merging-preserved-then-b-a : goal.merging-preserved-then-b-a
-merging-preserved-then-b-a c i =
-    let f = to_z w64 (of_z w64 c.args.right_factor) in
-    let y = number_of c.merging.left_rest.now i *ℤ to_z w64 (of_z w64 c.args.left_factor) in
-    let w = wide_number c.merging.wide.items i in
-    let put = multiple-put w (wide_number c.put_multiple-then-b-a.new.wide.items i) y c.in-Some-split_first.b.now c.in-Some-split_first.behind_b.now f i (c.in_ok-put_multiple-2.ensures i) in
-    let same = ap (λ (xs : List Cell). number_of xs i *ℤ f) c.in-Some-split_first.ensures.cases.0 in
-    let before = c.merging.invariant i in
-    omega (arith, ints, put, same, before)
-
-pub merging-preserved : goal.merging-preserved
-merging-preserved c i =
-    let f = to_z w64 (of_z w64 c.args.left_factor) in
-    let g = to_z w64 (of_z w64 c.args.right_factor) in
-    let w = wide_number c.merging.wide.items i in
-    let a = c.in-Some.a.now in
-    let b = c.in-Some-split_first.b.now in
-    let row : a.row ≡ b.row = let l = c.if-a-b.false in let k = c.if-b-a.false in omega arith in
-    let put = sum-put w (wide_number c.put_sum.new.wide.items i) _ a b c.in-Some.behind_a.now c.in-Some-split_first.behind_b.now f g i row refl (c.in_ok-put_sum.ensures i) in
-    let left = ap (λ (xs : List Cell). number_of xs i *ℤ f) c.in-Some.ensures.cases.0 in
-    let right = ap (λ (xs : List Cell). number_of xs i *ℤ g) c.in-Some-split_first.ensures.cases.0 in
-    let before = c.merging.invariant i in
-    omega (arith, ints, put, left, right, before)
 
 pub returns : goal.returns
 returns c i =
-    let left = c.in_ok-put_multiples.ensures i in
-    let right = c.in_ok-put_multiples-2.ensures i in
-    let before = c.merging.invariant i in
+    let sum = c.in_ok-add_combined.ensures c.if-not-branch.false i in
+    let none : wide_number c.in_ok-wide.wide.items i ≡ pos 0 = ap (λ (ws : List Wide). wide_number ws i) c.in_ok-wide.ensures.items in
     let plain_left = ap (λ (z : ℤ). number_of c.args.left.now i *ℤ z) (to_z-of_z w64 c.args.left_factor c.ranges.left_factor) in
     let plain_right = ap (λ (z : ℤ). number_of c.args.right.now i *ℤ z) (to_z-of_z w64 c.args.right_factor c.ranges.right_factor) in
-    omega (arith, ints, left, right, before, plain_left, plain_right)
+    omega (arith, ints, sum, none, plain_left, plain_right)

@@ -6,14 +6,12 @@ use Rattle.std.proofs.lemmas.Result.{IfOk-weaker}
 use Rattle.std.proofs.lemmas.Option.{IfSome_then}
 use Rattle.int_laws.proofs.OrderLaws.{mul-positive_ℤ, mul-sub_ℤ}
 use Rattle.sparse_columns.specs.declared.cell.Cell.{Cell}
-use Rattle.sparse_columns.specs.declared.wide.Wide.{Wide}
 use Rattle.sparse_columns.specs.Numbers.{number_of}
-use Rattle.sparse_columns.specs.Wide.{wide_number}
 use Rattle.sparse_columns.specs.Columns.{numerator}
 use Rattle.sparse_columns.proofs.column.Column.cleared.Goals as goal
 
-pub of_multiple-requires : goal.of_multiple-requires
-of_multiple-requires c =
+pub combination-requires-clause-den : goal.combination-requires-clause-den
+combination-requires-clause-den c =
     let under : to_z w64 (of_z w64 c.new-ratio.result.under) ≡ c.new-ratio.result.under = search rules in
     let den : to_z w64 (of_z w64 c.args.self.now.den) ≡ c.args.self.now.den = search rules in
     let plain : to_z w64 (of_z w64 c.product-den.result) ≡ c.product-den.result = search rules in
@@ -23,7 +21,7 @@ of_multiple-requires c =
 
 pub returns : goal.returns
 returns c =
-    IfOk-weaker c.of_multiple.result _ _
+    IfOk-weaker c.combination.result _ _
     (λ found told. IfSome_then found told (λ column multiple. record {
       over = c.new-ratio.result.over;
       under = c.new-ratio.result.under;
@@ -34,7 +32,7 @@ returns c =
       numbers = λ i. multiple.numbers i ∙ numbers i;
       den = multiple.over ∙ den;
     }))
-    c.of_multiple.ensures
+    c.combination.ensures
   where
     number_plain : to_z w64 (of_z w64 c.at.result) ≡ numerator c.args.self.now c.args.row
     number_plain = let plain : to_z w64 (of_z w64 c.at.result) ≡ c.at.result = search rules in plain ∙ c.at.ensures.value
@@ -50,16 +48,14 @@ returns c =
     over_plain : to_z w64 (of_z w64 (pos 0 -ℤ to_z w64 (of_z w64 c.new-ratio.result.over))) ≡ pos 0 -ℤ c.new-ratio.result.over
     over_plain = let small = c.new-ratio.result.over_small in omega (arith, ints, small)
 
-    numbers : (i : ℕ) → wide_number c.as_slice-2.result.now i ≡ numerator c.args.self.now i *ℤ c.new-ratio.result.under -ℤ number_of c.args.shifted.now i *ℤ c.new-ratio.result.over
+    numbers : (i : ℕ) → number_of c.as_slice.result.now i *ℤ to_z w64 (of_z w64 c.new-ratio.result.under)
+        +ℤ number_of c.args.shifted.now i *ℤ to_z w64 (of_z w64 (pos 0 -ℤ to_z w64 (of_z w64 c.new-ratio.result.over))) ≡ numerator c.args.self.now i *ℤ c.new-ratio.result.under -ℤ number_of c.args.shifted.now i *ℤ c.new-ratio.result.over
     numbers i =
         let left : number_of c.as_slice.result.now i ≡ numerator c.args.self.now i = ap (λ (xs : List Cell). number_of xs i) c.as_slice.ensures.items in
-        let all : wide_number c.as_slice-2.result.now i ≡ number_of c.as_slice.result.now i *ℤ to_z w64 (of_z w64 c.new-ratio.result.under)
-        +ℤ number_of c.args.shifted.now i *ℤ to_z w64 (of_z w64 (pos 0 -ℤ to_z w64 (of_z w64 c.new-ratio.result.over)))
-        = ap (λ (ws : List Wide). wide_number ws i) c.as_slice-2.ensures.value ∙ c.in_ok-wide.ensures i in
         let first = ap (λ (z : ℤ). z *ℤ to_z w64 (of_z w64 c.new-ratio.result.under)) left ∙ ap (λ (z : ℤ). numerator c.args.self.now i *ℤ z) under_plain in
         let second = ap (λ (z : ℤ). number_of c.args.shifted.now i *ℤ z) over_plain in
         let negated = mul-sub_ℤ (number_of c.args.shifted.now i) (pos 0) c.new-ratio.result.over in
-        omega (arith, ints, all, first, second, negated)
+        omega (arith, ints, first, second, negated)
 
     den : to_z w64 (of_z w64 c.product-den.result) ≡ c.args.self.now.den *ℤ c.new-ratio.result.under
     den =

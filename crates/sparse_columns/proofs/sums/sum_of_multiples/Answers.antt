@@ -2,7 +2,7 @@ use Rattle.std.proofs.Common.{rules, ◌≡◌, arith, ap, ◌∙◌, to_z, of_z
 use Rattle.std.specs.Prelude.{ℤ, ◌*ℤ◌}
 use Rattle.std.specs.Int.{w64}
 use Rattle.std.proofs.lemmas.Int.{ints, to_z-of_z}
-use Rattle.sparse_columns.proofs.wide.sum_of_multiples.Goals as goal
+use Rattle.sparse_columns.proofs.sums.sum_of_multiples.Goals as goal
 
 pub returns : goal.returns
 returns c =

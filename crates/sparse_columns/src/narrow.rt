@@ -1,0 +1,39 @@
+//! The numbers of a column made at once, where each is below 2^31 in absolute value.
+
+ghost use Rattle.std.specs.Prelude.{◌≡◌, ℕ, ◌<◌, ◌^◌, ℤ, ◌+ℤ◌, ◌*ℤ◌, unsigned_abs, IfOk, IfSome};
+ghost use Rattle.sparse_columns.specs.Numbers.{number, number_of};
+
+use crate::cell::Cell;
+use crate::cells::Cells;
+use crate::sums::{Sums, add_combined};
+use std::alloc::{AllocError, Global};
+
+impl Sums for Cells {
+    ghost use Rattle.sparse_columns.specs.Numbers.{number};
+
+    ghost held = { λ cells. number cells };
+
+    fn add(&mut self, row: u32, number: i64) -> Result<bool, AllocError> {
+        self.push(row, number)
+    }
+}
+
+/// The left numbers times one factor and the right ones times another, added row by row. None where a sum has no room.
+pub(crate) fn combined_cells(
+    alloc: Global,
+    left: &[Cell],
+    left_factor: i64,
+    right: &[Cell],
+    right_factor: i64,
+) -> Result<Option<Cells>, AllocError>
+    requires left { unsigned_abs left_factor < 2 ^ 31 }
+    requires right { unsigned_abs right_factor < 2 ^ 31 }
+    ensures { IfOk result (λ found. IfSome found (λ cells. (i : ℕ) → number cells i
+        ≡ number_of left.now i *ℤ left_factor +ℤ number_of right.now i *ℤ right_factor)) }
+{
+    let mut cells = Cells::with_capacity(alloc, left.len().saturating_add(right.len()))?;
+    if !add_combined(&mut cells, left, left_factor, right, right_factor)? {
+        return Ok(None);
+    }
+    Ok(Some(cells))
+}

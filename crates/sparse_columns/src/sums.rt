@@ -1,0 +1,113 @@
+//! The sums of multiples of two columns' numbers.
+
+ghost use Rattle.std.specs.Prelude.{◌≡◌, ℕ, ◌<◌, ◌^◌, ℤ, ◌+ℤ◌, ◌*ℤ◌, unsigned_abs, IfOk, true};
+ghost use Rattle.sparse_columns.specs.Numbers.{alone, number_of};
+
+use crate::cell::Cell;
+use crate::wide::product;
+use std::alloc::AllocError;
+
+/// What sums are added to, row by row.
+pub(crate) trait Sums {
+    ghost held: { Self → ℕ → ℤ };
+
+    /// Adds a number in a row. The answer is whether it has room.
+    fn add(&mut self, row: u32, number: i64) -> Result<bool, AllocError>
+        ensures { IfOk result (λ is_added. is_added ≡ true → (i : ℕ)
+            → held self.new i ≡ held self.old i +ℤ alone row number i) };
+}
+
+/// Adds the left numbers times one factor and the right ones times another, row by row. The answer is whether all have
+/// room.
+pub(crate) fn add_combined<S: Sums>(
+    sums: &mut S,
+    left: &[Cell],
+    left_factor: i64,
+    right: &[Cell],
+    right_factor: i64,
+) -> Result<bool, AllocError>
+    requires left { unsigned_abs left_factor < 2 ^ 31 }
+    requires right { unsigned_abs right_factor < 2 ^ 31 }
+    ensures { IfOk result (λ is_added. is_added ≡ true → (i : ℕ) → S.held sums.new i
+        ≡ S.held sums.old i +ℤ (number_of left.now i *ℤ left_factor +ℤ number_of right.now i *ℤ right_factor)) }
+{
+    let mut left_rest = left;
+    let mut right_rest = right;
+    'merging: loop {
+        let Some((a, behind_a)) = left_rest.split_first() else {
+            break;
+        };
+        let Some((b, behind_b)) = right_rest.split_first() else {
+            break;
+        };
+        if a.row < b.row {
+            if !add_multiple(sums, *a, left_factor)? {
+                return Ok(false);
+            }
+            left_rest = behind_a;
+        } else if b.row < a.row {
+            if !add_multiple(sums, *b, right_factor)? {
+                return Ok(false);
+            }
+            right_rest = behind_b;
+        } else {
+            if !add_sum(sums, *a, left_factor, *b, right_factor)? {
+                return Ok(false);
+            }
+            left_rest = behind_a;
+            right_rest = behind_b;
+        }
+    }
+    if !add_multiples(sums, left_rest, left_factor)? {
+        return Ok(false);
+    }
+    add_multiples(sums, right_rest, right_factor)
+}
+
+/// Adds the multiple of a number. The answer is whether it has room.
+fn add_multiple<S: Sums>(sums: &mut S, cell: Cell, factor: i64) -> Result<bool, AllocError>
+    requires { unsigned_abs factor < 2 ^ 31 }
+    ensures { IfOk result (λ is_added. is_added ≡ true → (i : ℕ)
+        → S.held sums.new i ≡ S.held sums.old i +ℤ alone cell.row (cell.number *ℤ factor) i) }
+{
+    sums.add(cell.row, product(cell.value(), factor))
+}
+
+/// Adds the sum of the multiples of two numbers in the first one's row. The answer is whether it has room.
+fn add_sum<S: Sums>(
+    sums: &mut S,
+    a: Cell,
+    a_factor: i64,
+    b: Cell,
+    b_factor: i64,
+) -> Result<bool, AllocError>
+    requires a { unsigned_abs a_factor < 2 ^ 31 }
+    requires b { unsigned_abs b_factor < 2 ^ 31 }
+    ensures { IfOk result (λ is_added. is_added ≡ true → (i : ℕ) → S.held sums.new i
+        ≡ S.held sums.old i +ℤ alone a.row (a.number *ℤ a_factor +ℤ b.number *ℤ b_factor) i) }
+{
+    sums.add(a.row, sum_of_multiples(a, a_factor, b, b_factor))
+}
+
+/// The sum of the multiples of two numbers.
+fn sum_of_multiples(a: Cell, a_factor: i64, b: Cell, b_factor: i64) -> i64
+    requires a { unsigned_abs a_factor < 2 ^ 31 }
+    requires b { unsigned_abs b_factor < 2 ^ 31 }
+    ensures { result ≡ a.number *ℤ a_factor +ℤ b.number *ℤ b_factor }
+{
+    product(a.value(), a_factor) + product(b.value(), b_factor)
+}
+
+/// Adds the multiples of numbers. The answer is whether all have room.
+fn add_multiples<S: Sums>(sums: &mut S, cells: &[Cell], factor: i64) -> Result<bool, AllocError>
+    requires { unsigned_abs factor < 2 ^ 31 }
+    ensures { IfOk result (λ is_added. is_added ≡ true → (i : ℕ)
+        → S.held sums.new i ≡ S.held sums.old i +ℤ number_of cells.now i *ℤ factor) }
+{
+    for cell in cells {
+        if !add_multiple(sums, *cell, factor)? {
+            return Ok(false);
+        }
+    }
+    Ok(true)
+}
