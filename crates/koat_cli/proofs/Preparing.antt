@@ -14,6 +14,7 @@ use Rattle.outcome.specs.Holding.{ReportHolds}
 use Rattle.outcome.specs.Views.{report_of}
 use Rattle.time_bounds.specs.Analysis.{IsAnalysis}
 use Rattle.time_bounds.specs.AnalysisLemmas.{HasLemmas}
+use Rattle.time_bounds.specs.Whys.{ReasonsAreTrue}
 use Rattle.koat_cli.specs.declared.status.Status.{Status}
 use Rattle.koat_cli.specs.declared.status.Status.TheVariants.{Done, Usage}
 use Rattle.koat_cli.specs.declared.status_text.StatusText.{StatusText}
@@ -58,8 +59,13 @@ generated_text n p x e told spelled =
 
 -- the figures of a program that is another
 pub summary_of : (p q : Program) (o : Outcome) (s : Status) (x : List ℕ) → p ≡ q → IsAnalysis p default_pivots (report_of o)
-    → ReportHolds p (report_of o) → HasLemmas p default_pivots o → x ≡ text_of_figures p (report_of o) (length o.lemmas.items)
-    → s ≡ status_of (report_of o) → IsSummaryOf q s x
-summary_of p q o s x e found holds lemmas told ends =
-    subst (λ (r : Program). IsSummaryOf r s x) e
-    (record { outcome = o; found = record { found = found; true_on_all_runs = holds }; lemmas = lemmas; told = told; ends = ends })
+    → ReportHolds p (report_of o) → ReasonsAreTrue p default_pivots (report_of o) → HasLemmas p default_pivots o
+    → x ≡ text_of_figures p (report_of o) (length o.lemmas.items) → s ≡ status_of (report_of o) → IsSummaryOf q s x
+summary_of p q o s x e found holds reasons lemmas told ends =
+    subst (λ (r : Program). IsSummaryOf r s x) e record {
+      outcome = o;
+      found = record { found = found; true_on_all_runs = holds; reasons = reasons };
+      lemmas = lemmas;
+      told = told;
+      ends = ends;
+    }

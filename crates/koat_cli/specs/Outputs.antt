@@ -13,16 +13,19 @@ use Rattle.outcome.specs.Views.{report_of}
 use Rattle.report_text.specs.States.{States}
 use Rattle.time_bounds.specs.Analysis.{IsAnalysis}
 use Rattle.time_bounds.specs.AnalysisLemmas.{HasLemmas}
+use Rattle.time_bounds.specs.Whys.{ReasonsAreTrue}
 use Rattle.koat_cli.specs.declared.status.Status.{Status}
 use Rattle.koat_cli.specs.declared.status.Status.TheVariants.{Done, Unknown, Usage}
 use Rattle.koat_cli.specs.Figures.{text_of_figures}
 use Rattle.koat_cli.specs.Report.{usage_text}
 
--- the report is that of the analysis of the program with so many pivots for each linear program; and every bound in it
--- holds on every run of the program, from any integers and by any choice of rules
+-- the report is that of the analysis of the program with so many pivots for each linear program; every bound in it holds
+-- on every run of the program, from any integers and by any choice of rules; and each reason in it, why a bound is
+-- missing, is so of the program
 pub record IsFound (program : Program) (pivots : ℕ) (report : Report) : Type 0 where
   pub found : IsAnalysis program pivots report
   pub true_on_all_runs : ReportHolds program report
+  pub reasons : ReasonsAreTrue program pivots report
 
 -- the status of a report: whether every rule has a time
 abbrev pub status_of : Report → Status

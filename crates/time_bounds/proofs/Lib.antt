@@ -73,6 +73,18 @@ pub mod ReportEntries
 pub mod Analysed
 pub mod WholeAnalysis
 pub mod FoundLemmas
+-- each reason in a report is so of the program
+pub mod FindKeys
+pub mod SaidKnown
+pub mod FailingChecks
+pub mod NeededMembers
+pub mod ArmlessPlaces
+pub mod PassedForms
+pub mod TrueTimeWhys
+pub mod FirstLacks
+pub mod TrueSizeWhys
+pub mod TrueWhys
+pub mod WorkedWhys
 -- what is found can be printed
 pub mod Printables
 pub mod PrintableOutcomes

@@ -1,17 +1,19 @@
--- A component that doesn't loop has one member.
-use Rattle.std.proofs.Common.{◌≡◌, inl, inr, ℕ, zero, suc, ◌<◌, ◌||◌, Bool, true, false, List, [], ◌∷◌, ◌++◌}
+-- A component that doesn't loop has one member, and so has one with a member into which no value flows.
+use Rattle.std.proofs.Common.{◌≡◌, inl, inr, ℕ, zero, suc, ◌<◌, ◌==◌, ◌||◌, Bool, true, false, List, [], ◌∷◌, ◌++◌}
 use Rattle.std.proofs.Common.{length, map, refl, sym, ◌∙◌, ap, subst, arith, Contains}
 use Rattle.std.specs.List.{list_any}
 use Rattle.std.proofs.lemmas.List.{append_assoc}
 use Rattle.model.specs.Paths.{Path, Here, Onward}
-use Rattle.model.proofs.Membership.{no_is_not_yes}
+use Rattle.model.proofs.Membership.{same_number, told_same, no_is_not_yes}
 use Rattle.its_graph.specs.Components.{IsNext, IsListing}
 use Rattle.proof_tree.specs.proof_nodes.Nodes.{Spot}
 use Rattle.proof_tree.specs.proof_nodes.Setting.{Setting}
 use Rattle.bound_rounds.specs.Components.{IsOneOf}
+use Rattle.bound_rounds.specs.Keys.{has_key}
 use Rattle.rvg_components.specs.Flows.{Locals, value_flows, live_spots, loops}
 use Rattle.rvg_components.specs.Listing.{spot_at, HasFlow, AreComponents}
 use Rattle.model.proofs.PathLaws.{Path-then as joined}
+use Rattle.time_bounds.proofs.SpotLists.{chosen-told}
 
 -- a path to another node ends with an edge
 record LastEdge (E : ℕ → ℕ → Type 0) (a b : ℕ) : Type 0 where
@@ -88,3 +90,50 @@ module _ (s : Setting) (is_live : ℕ → Bool) (local : Locals) where
       → (m : Spot) × (c ≡ m ∷ [])
   lone cs found c one h =
       found_member found.positions [] found.positions refl found.listing c (subst (λ (ds : List (List Spot)). IsOneOf ds c) found.spots one) h
+
+  -- a member into which no value flows has no other beside it
+  alone_at : (ps : List ℕ) (nodes : ℕ) (before : List (List ℕ)) → IsNext flow nodes before ps → (b : ℕ) → Contains ps b
+      → ((a : ℕ) → flow a b → ⊥) → (a : ℕ) → Contains ps a → a ≡ b
+  alone_at ps nodes before next b in_b none a in_a = go (a == b) refl
+    where
+      go : (v : Bool) → (a == b) ≡ v → a ≡ b
+      go true e = told_same a b e
+      go false e =
+          let to_a = (next.members a).0 in_a in
+          let to_b = (next.members b).0 in_b in
+          let last = last_edge flow a b (joined flow a next.least b to_a.back to_b.onward)
+          (λ same. no_is_not_yes (a == b) e (subst (λ (n : ℕ). (a == n) ≡ true) same (same_number a))) in
+          absurd (none last.from last.edge)
+
+  one_alone : (ps : List ℕ) (nodes : ℕ) (before : List (List ℕ)) → IsNext flow nodes before ps → (b : ℕ) → Contains ps b
+      → ((a : ℕ) → flow a b → ⊥) → ps ≡ b ∷ []
+  one_alone [] nodes before next b (n, l, same) none = absurd (omega (arith, l))
+  one_alone (a ∷ []) nodes before next b in_b none =
+      ap (λ (n : ℕ). n ∷ []) (alone_at (a ∷ []) nodes before next b in_b none a (0, omega arith, refl))
+  one_alone (a ∷ c ∷ ps) nodes before next b in_b none =
+      let less : a < c = next.ascending 0 (omega arith) in
+      let first = alone_at (a ∷ c ∷ ps) nodes before next b in_b none a (0, omega arith, refl) in
+      let second = alone_at (a ∷ c ∷ ps) nodes before next b in_b none c (1, omega arith, refl) in
+      absurd (omega (arith, less, first, second))
+
+  -- no value flows into this place
+  abbrev TakesNothing : Spot → Type 0
+  TakesNothing m = (k : Spot) → value_flows s local k m ≡ true → ⊥
+
+  found_alone : (positions before rest : List (List ℕ)) → positions ≡ before ++ rest → IsListing flow (length all) positions → (c : List Spot)
+      → IsOneOf (map (map at) rest) c → (m : Spot) → has_key c m.rule m.place ≡ true → TakesNothing m → c ≡ m ∷ []
+  found_alone positions before [] e listing c one m h none = absurd one
+  found_alone positions before (ps ∷ rest) e listing c (inl same) m h none =
+      let there = chosen-told all ps m.rule m.place (subst (λ (x : List Spot). has_key x m.rule m.place ≡ true) (sym same) h) in
+      let alone = one_alone ps (length all) before (listing.each before rest ps e) there.0 there.1
+      (λ a k. none (at a) (subst (λ (x : Spot). value_flows s local (at a) x ≡ true) there.2 k.flow)) in
+      sym same ∙ (ap (map at) alone ∙ ap (λ (x : Spot). x ∷ []) there.2)
+  found_alone positions before (ps ∷ rest) e listing c (inr one) m h none =
+      found_alone positions (before ++ ps ∷ []) rest (e ∙ sym (append_assoc before (ps ∷ []) rest)) listing c one m h none
+
+  -- a component with a member into which no value flows has no other
+  pub taking_none : (cs : List (List Spot)) → AreComponents s is_live local cs → (c : List Spot) → IsOneOf cs c → (m : Spot)
+      → has_key c m.rule m.place ≡ true → TakesNothing m → c ≡ m ∷ []
+  taking_none cs found c one m h none =
+      found_alone found.positions [] found.positions refl found.listing c
+      (subst (λ (ds : List (List Spot)). IsOneOf ds c) found.spots one) m h none

@@ -30,7 +30,7 @@ same_report : (r q : Report) → r.times ≡ q.times → r.total ≡ q.total →
 same_report r q times total sizes = λ i. record { times = times i; total = total i; sizes = sizes i }
 
 -- one reason of a time is told in one way
-time_reason_back : NoBound → Option NoTime
+pub time_reason_back : NoBound → Option NoTime
 time_reason_back (searches.NoFunction g) = Some (NoFunction g)
 time_reason_back (searches.Loose side ray kept) = None
 time_reason_back (searches.Tripped t) = Some (TimeTripped t)
@@ -39,14 +39,14 @@ time_reason_back (searches.Bent m) = None
 time_reason_back (searches.Untimed t) = None
 time_reason_back (searches.TooLarge n) = Some (TimeLarge n)
 
-time_back : (why : NoTime) → time_reason_back (reasons.time_reason why) ≡ Some why
+pub time_back : (why : NoTime) → time_reason_back (reasons.time_reason why) ≡ Some why
 unfolding time_reason_back
 time_back (NoFunction g) = refl
 time_back (TimeTripped t) = refl
 time_back (TimeLarge n) = refl
 
 -- and so is one of a size
-size_reason_back : NoBound → Option NoSize
+pub size_reason_back : NoBound → Option NoSize
 size_reason_back (searches.NoFunction g) = None
 size_reason_back (searches.Loose side ray kept) = Some (SizeLoose side ray kept)
 size_reason_back (searches.Tripped t) = Some (SizeTripped t)
@@ -55,7 +55,7 @@ size_reason_back (searches.Bent m) = Some (SizeBent m)
 size_reason_back (searches.Untimed t) = Some (SizeUntimed t)
 size_reason_back (searches.TooLarge n) = Some (SizeLarge n)
 
-size_back : (why : NoSize) → size_reason_back (reasons.size_reason why) ≡ Some why
+pub size_back : (why : NoSize) → size_reason_back (reasons.size_reason why) ≡ Some why
 unfolding size_reason_back
 size_back (SizeLoose side ray kept) = refl
 size_back (SizeTripped t) = refl
@@ -65,7 +65,7 @@ size_back (SizeUntimed t) = refl
 size_back (SizeLarge n) = refl
 
 -- what is read back as one is one
-read_back : {A : Type 0} (back : NoBound → Option A) (forth : A → NoBound) → ((a : A) → back (forth a) ≡ Some a)
+pub read_back : {A : Type 0} (back : NoBound → Option A) (forth : A → NoBound) → ((a : A) → back (forth a) ≡ Some a)
     → (v w : A) → forth v ≡ forth w → v ≡ w
 read_back back forth h v w e = same_bound v w (sym (h v) ∙ (ap back e ∙ h w))
 

@@ -46,7 +46,7 @@ module _ (p : Program) (pivots : ℕ) where
 
   module _ (empties_one : EmptyAnswersAreOne) (locals_one : LocalAnswersAreOne) where
     -- what is answered of a place is one
-    local_one : (t i : ℕ) (x y : Local) → IsLocalOf p pivots t i x → IsLocalOf p pivots t i y → x ≡ y
+    pub local_one : (t i : ℕ) (x y : Local) → IsLocalOf p pivots t i x → IsLocalOf p pivots t i y → x ≡ y
     local_one t i x y h k =
         locals_one.each (prepared k.rule) (key t i) pivots h.empty k.empty x y
         (empties_one.each (prepared k.rule) t pivots h.empty k.empty

@@ -71,7 +71,7 @@ total_told times =
     (λ h. sym e ∙ h, λ h. e ∙ h)
 
 -- what is said of each rule
-said_at : (q : Searches) (p : Program) (fs : List Find) (k : ℕ) (times : List Time) (i : ℕ) (x : Time) → AreTimesOf q p fs k times
+pub said_at : (q : Searches) (p : Program) (fs : List Find) (k : ℕ) (times : List Time) (i : ℕ) (x : Time) → AreTimesOf q p fs k times
     → slice_get times i ≡ Some x → IsTimeOf q p fs (k + i) x
 said_at q p fs k [] i x h e = absurd (let f : ⊥ = cc in f)
 said_at q p fs k (y ∷ times) zero x h e =
@@ -81,7 +81,7 @@ said_at q p fs k (y ∷ times) (suc i) x h e =
     subst (λ (n : ℕ). IsTimeOf q p fs n x) (let z : suc k + i ≡ k + suc i = omega arith in z) (said_at q p fs (suc k) times i x h.1 e)
 
 -- what is said of each place of a rule, and of each rule's places
-size_said_at : (q : Searches) (p : Program) (fs : List Find) (t k : ℕ) (sizes : List Size) (i : ℕ) (x : Size)
+pub size_said_at : (q : Searches) (p : Program) (fs : List Find) (t k : ℕ) (sizes : List Size) (i : ℕ) (x : Size)
     → AreSizesOf q p fs t k sizes → slice_get sizes i ≡ Some x → IsSizeOf q p fs t (k + i) x
 size_said_at q p fs t k [] i x h e = absurd (let f : ⊥ = cc in f)
 size_said_at q p fs t k (y ∷ sizes) zero x h e =
@@ -92,7 +92,7 @@ size_said_at q p fs t k (y ∷ sizes) (suc i) x h e =
     subst (λ (n : ℕ). IsSizeOf q p fs t n x) (let z : suc k + i ≡ k + suc i = omega arith in z)
     (size_said_at q p fs t (suc k) sizes i x h.1 e)
 
-row_said_at : (q : Searches) (p : Program) (fs : List Find) (k : ℕ) (rows : List (List Size)) (t : ℕ) (row : List Size)
+pub row_said_at : (q : Searches) (p : Program) (fs : List Find) (k : ℕ) (rows : List (List Size)) (t : ℕ) (row : List Size)
     → AreSizeRowsOf q p fs k rows → slice_get rows t ≡ Some row → AreSizesOf q p fs (k + t) 1 row
 row_said_at q p fs k [] t row h e = absurd (let f : ⊥ = cc in f)
 row_said_at q p fs k (y ∷ rows) zero row h e =

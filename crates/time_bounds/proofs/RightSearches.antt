@@ -145,7 +145,7 @@ module _ (accepted : EmptyNodesAreAccepted) (functions : RankedNodesRank) (nodes
             by (empties.Tripped y) h = h
 
     -- the trip that is told is that of the first rule that trips
-    first_told : (x : Trip) (ts : List ℕ) → ((u : ℕ) → is_in u ts ≡ true → IsRule p u) → first_trip answers ts ≡ Some x
+    pub first_told : (x : Trip) (ts : List ℕ) → ((u : ℕ) → is_in u ts ≡ true → IsRule p u) → first_trip answers ts ≡ Some x
         → IsFirstTrip (searches_of_program p pivots) ts x
     first_told x [] rules e = absurd (none_trip x e)
     first_told x (t ∷ ts) rules e =

@@ -57,12 +57,12 @@ use Rattle.time_bounds.proofs.RightSearches.{emptiness_right, ranking_right}
 use Rattle.local_size.proofs.NewValues.{form_at-is as form_there}
 
 -- one of two reasons
-one_of : (a b : Option NoSize) (why : NoSize) → or_else a b ≡ Some why → (a ≡ Some why) ⊎ (b ≡ Some why)
+pub one_of : (a b : Option NoSize) (why : NoSize) → or_else a b ≡ Some why → (a ≡ Some why) ⊎ (b ≡ Some why)
 one_of None b why e = inr e
 one_of (Some v) b why e = inl e
 
 -- the first reason is that of one of the places
-reason_told : (P : Spot → Type 0) (reason : Local → Option NoSize) (local : Locals) (spots : List Spot) (why : NoSize)
+pub reason_told : (P : Spot → Type 0) (reason : Local → Option NoSize) (local : Locals) (spots : List Spot) (why : NoSize)
     → AllByRecursion P spots → first_reason reason local spots ≡ Some why
     → (m : Spot) × (has_key spots m.rule m.place ≡ true) × P m × (reason (local m.rule m.place) ≡ Some why)
 reason_told P reason local [] why h e = absurd (none_some why e)
@@ -90,7 +90,7 @@ reason_told P reason local (m ∷ spots) why h e =
         )
 
 -- a place is a spot of its rule
-spot_of_rule : (p : Program) (m : Spot) (r : Rule) → rule_at p m.rule ≡ Some r → IsPlace p m.rule m.place
+pub spot_of_rule : (p : Program) (m : Spot) (r : Rule) → rule_at p m.rule ≡ Some r → IsPlace p m.rule m.place
     → IsSpotOf p m r
 spot_of_rule p m r numbered place = record {
   numbered = numbered;

@@ -31,6 +31,12 @@ pub mod Analysis
 pub mod AnalysisLemmas
 -- a program has one analysis
 pub mod AnalysisLaws
+-- what each reason in a report says of the program
+pub mod SaidBounds
+pub mod TimeWhys
+pub mod SizeWhys
+pub mod Whys
+pub mod WorkedWhys
 -- what is found can be printed
 pub mod PrintableLaws
 -- the crates below, which callers name through this one

@@ -15,6 +15,7 @@ ghost use Rattle.time_bounds.specs.Fates.{AreFates};
 ghost use Rattle.time_bounds.specs.ProgramSearches.{searches_of_program};
 ghost use Rattle.time_bounds.specs.Questions.{IsReady, program_in};
 ghost use Rattle.time_bounds.specs.RoundsMade.{AreMade, IsRoundMade};
+ghost use Rattle.time_bounds.specs.Whys.{ReasonsAreTrue};
 
 use crate::candidates::{Candidate, candidates};
 use crate::context::{Context, context_of};
@@ -42,6 +43,7 @@ pub fn analyse(alloc: Global, p: &Program, pivots: u32) -> Result<Outcome, Memor
     requires { IsValid (program_of p.now) }
     ensures found { IfOk result (λ o. IsAnalysis (program_of p.now) pivots (report_of o)) }
     ensures holds { IfOk result (λ o. ReportHolds (program_of p.now) (report_of o)) }
+    ensures reasons { IfOk result (λ o. ReasonsAreTrue (program_of p.now) pivots (report_of o)) }
     ensures fits { IfOk result (λ o. IsReportOn (program_of p.now) (report_of o)) }
     ensures printable { IfOk result (λ o. IsPrintableOutcome (length p.now.start_names.items) o) }
     ensures lemmas { IfOk result (λ o. HasLemmas (program_of p.now) pivots o) }

@@ -4,6 +4,8 @@ ghost use Rattle.time_bounds.specs.AnalysisLaws.{AnalysesAreOne};
 ghost use Rattle.time_bounds.specs.Laws.{TotalsHold};
 ghost use Rattle.time_bounds.specs.PrintableLaws.{FoundBoundsArePrintable};
 ghost use Rattle.time_bounds.specs.SearchLaws.{ProgramSearchesAreRight, ProgramSearchesAreOne};
+ghost use Rattle.time_bounds.specs.Whys.{AnalysesGiveReasons};
+ghost use Rattle.time_bounds.specs.WorkedWhys.{WhysAreWorkedOut};
 
 /// The law that where each rule's time holds on all runs, every run has at most as many steps as the total says. It has
 /// no code: its contract is the law.
@@ -36,4 +38,20 @@ pub fn searches_are_right()
 /// its contract is the law.
 pub fn searches_are_one()
     ensures { ProgramSearchesAreOne }
+{}
+
+/// The law that each reason in the report of the analysis of a valid program is so of the program, over the times and
+/// sizes that the report itself says. Of a rule without a time: no affine function of the arguments with known sizes
+/// ranks it over its set; or the linear program that asks for one passes the limit that is told; or the time that is
+/// composed is large. Of a place without a size: the new value passes every affine form in the arguments, along a ray
+/// and from a point; or a linear program passes a limit; or the size rests on one that isn't known, bends in a loop,
+/// grows by a rule without a time, or is large. It has no code: its contract is the law.
+pub fn reasons_are_true()
+    ensures { AnalysesGiveReasons }
+{}
+
+/// What reasons say of small programs was worked out by hand: what holds and what doesn't. It has no code: its contract
+/// is these values.
+pub fn reasons_are_as_worked_out()
+    ensures { WhysAreWorkedOut }
 {}

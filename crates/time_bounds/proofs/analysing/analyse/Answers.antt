@@ -9,9 +9,11 @@ use Rattle.outcome.specs.Views.{report_of}
 use Rattle.time_bounds.specs.Analysis.{IsAnalysis}
 use Rattle.time_bounds.specs.AnalysisLemmas.{HasLemmas}
 use Rattle.time_bounds.specs.Questions.{program_in}
+use Rattle.time_bounds.specs.Whys.{ReasonsAreTrue}
 use Rattle.time_bounds.proofs.AnswerLaws.{both}
 use Rattle.time_bounds.proofs.PrintableOutcomes.{analysis_printable}
 use Rattle.time_bounds.proofs.ReportEntries.{report_holds, report_fits}
+use Rattle.time_bounds.proofs.TrueWhys.{reasons_so}
 use Rattle.time_bounds.proofs.analysing.analyse.Goals as goal
 
 pub returns-clause-found : goal.returns-clause-found
@@ -27,6 +29,12 @@ returns-clause-holds c =
     IfOk-weaker c.analysed.result (λ o. IsAnalysis (program_of c.args.p.now) c.args.pivots (report_of o))
     (λ o. ReportHolds (program_of c.args.p.now) (report_of o))
     (λ o h. report_holds (program_of c.args.p.now) c.args.pivots c.requires (report_of o) h) (returns-clause-found c)
+
+pub returns-clause-reasons : goal.returns-clause-reasons
+returns-clause-reasons c =
+    IfOk-weaker c.analysed.result (λ o. IsAnalysis (program_of c.args.p.now) c.args.pivots (report_of o))
+    (λ o. ReasonsAreTrue (program_of c.args.p.now) c.args.pivots (report_of o))
+    (λ o h. reasons_so (program_of c.args.p.now) c.args.pivots c.requires (report_of o) h) (returns-clause-found c)
 
 pub returns-clause-fits : goal.returns-clause-fits
 returns-clause-fits c =

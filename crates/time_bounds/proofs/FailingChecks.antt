@@ -1,0 +1,113 @@
+-- What follows where a check of a size is the first that fails: what follows of that check.
+use Rattle.std.proofs.Common.{◌≡◌, inl, inr, ℕ, List, [], ◌∷◌}
+use Rattle.std.specs.List.{AllByRecursion}
+use Rattle.model.specs.Bounds.{Bound}
+use Rattle.model.specs.Paths.{pre}
+use Rattle.proof_tree.specs.proof_nodes.AcceptsSizes.{IsStraightArm, spread_size, cycle_size}
+use Rattle.proof_tree.specs.proof_nodes.Checks.{large_nodes, check_size, check_time, check_up, check_low, check_small}
+use Rattle.proof_tree.specs.proof_nodes.Checks.{needed_into, needed_times, straight_from, straight_into, spread_checks}
+use Rattle.proof_tree.specs.proof_nodes.Checks.{cycle_checks}
+use Rattle.proof_tree.specs.proof_nodes.Known.{IsKnown, Table}
+use Rattle.proof_tree.specs.proof_nodes.Limits.{IsSmallComposed}
+use Rattle.proof_tree.specs.proof_nodes.Nodes.{Spot, Member}
+use Rattle.proof_tree.specs.proof_nodes.Reasons.{Reason, Shape, ArmUp, ArmLow, MissingTime, MissingSize, Bent, Large}
+use Rattle.proof_tree.specs.proof_nodes.Reasons.{Check, for_each, IsFirstAmong}
+use Rattle.proof_tree.specs.proof_nodes.Setting.{Setting}
+
+-- what holds of each thing holds of all of a list
+pub of_all : {A : Type 0} (P : A → Type 0) → ((x : A) → P x) → (xs : List A) → AllByRecursion P xs
+of_all P h [] = tt
+of_all P h (x ∷ xs) = (h x, of_all P h xs)
+
+module _ (r : Reason) (S : Type 0) where
+  -- of each check, if it fails with the reason, this follows
+  abbrev pub AllGive : List Check → Type 0
+  AllGive [] = Unit {0}
+  AllGive (c ∷ cs) = ((c.holds → ⊥) → c.reason ≡ r → S) × AllGive cs
+
+  -- so it follows where the first that fails has the reason
+  pub first_gives : (cs : List Check) → IsFirstAmong cs r → AllGive cs → S
+  first_gives [] h all = absurd h
+  first_gives (c ∷ cs) (inl h) all = all.0 h.0 h.1
+  first_gives (c ∷ cs) (inr h) all = first_gives cs h.1 all.1
+
+  -- so it is of a check for each of a list
+  pub each_gives : {A : Type 0} (f : A → Check) (xs : List A) (rest : List Check)
+      → AllByRecursion (λ x. ((f x).holds → ⊥) → (f x).reason ≡ r → S) xs → AllGive rest → AllGive (for_each f xs rest)
+  each_gives f [] rest h all = all
+  each_gives f (x ∷ xs) rest h all = (h.0, each_gives f xs rest h.1 all)
+
+  module _ (s : Setting) (members : List Member) where
+    -- of both arms of a member after a rule, if one bends with the reason, this follows
+    abbrev pub BendGives : Member → ℕ → Type 0
+    BendGives m e = ((IsStraightArm s members m e m.local.up → ⊥) → Bent m.spot.rule m.spot.place ≡ r → S)
+        × ((IsStraightArm s members m e m.local.low → ⊥) → Bent m.spot.rule m.spot.place ≡ r → S)
+
+    pub from_gives : (m : Member) (es : List ℕ) (rest : List Check) → AllByRecursion (BendGives m) es → AllGive rest
+        → AllGive (straight_from s members m es rest)
+    from_gives m [] rest h all = all
+    from_gives m (e ∷ es) rest h all = (h.0.0, (h.0.1, from_gives m es rest h.1 all))
+
+    pub into_gives : (ms : List Member) (rest : List Check)
+        → AllByRecursion (λ m. AllByRecursion (BendGives m) (pre s.program m.spot.rule)) ms → AllGive rest
+        → AllGive (straight_into s members ms rest)
+    into_gives [] rest h all = all
+    into_gives (m ∷ ms) rest h all =
+        from_gives m (pre s.program m.spot.rule) (straight_into s members ms rest) h.0 (into_gives ms rest h.1 all)
+
+  -- where neither the shape nor an arm is what fails, and what is missing, bends or is large gives this
+  module _ (s : Setting) (tab : Table) (shape : Shape ≡ r → ⊥) (up : (t i : ℕ) → ArmUp t i ≡ r → ⊥)
+      (low : (t i : ℕ) → ArmLow t i ≡ r → ⊥) where
+    abbrev pub SizeGives : Spot → Type 0
+    SizeGives m = (IsKnown (tab.size m.rule m.place) → ⊥) → MissingSize m.rule m.place ≡ r → S
+
+    abbrev pub TimeGives : ℕ → Type 0
+    TimeGives t = (IsKnown (tab.time t) → ⊥) → MissingTime t ≡ r → S
+
+    abbrev pub LargeGives : Bound → Type 0
+    LargeGives b = (IsSmallComposed s.rewrite b → ⊥) → Large (large_nodes s.rewrite b) ≡ r → S
+
+    -- of a place that doesn't loop
+    pub spread_gives : (m : Member) → AllByRecursion SizeGives (needed_into s [] (m ∷ [])) → LargeGives (spread_size s tab m)
+        → IsFirstAmong (spread_checks s tab m) r → S
+    spread_gives m sizes large h =
+        first_gives (spread_checks s tab m) h (
+          (λ fails e. absurd (shape e)),
+          (
+            (λ fails e. absurd (up m.spot.rule m.spot.place e)),
+            (
+              (λ fails e. absurd (low m.spot.rule m.spot.place e)),
+              each_gives (check_size tab) (needed_into s [] (m ∷ [])) (check_small s (spread_size s tab m) ∷ []) sizes (large, tt),
+            ),
+          ),
+        )
+
+    -- the checks of members that loop, from the last ones on
+    abbrev size_checks : List Member → List Check
+    size_checks ms = check_small s (cycle_size s tab ms) ∷ []
+
+    abbrev time_checks : List Member → List Check
+    time_checks ms = for_each (check_time tab) (needed_times s tab ms) (size_checks ms)
+
+    abbrev bent_checks : List Member → List Check
+    bent_checks ms = straight_into s ms ms (time_checks ms)
+
+    abbrev needed_checks : List Member → List Check
+    needed_checks ms = for_each (check_size tab) (needed_into s ms ms) (bent_checks ms)
+
+    -- and of members that do
+    pub cycle_gives : (ms : List Member) → AllByRecursion SizeGives (needed_into s ms ms)
+        → AllByRecursion (λ m. AllByRecursion (BendGives s ms m) (pre s.program m.spot.rule)) ms
+        → AllByRecursion TimeGives (needed_times s tab ms) → LargeGives (cycle_size s tab ms)
+        → IsFirstAmong (cycle_checks s tab ms) r → S
+    cycle_gives ms sizes bends times large h =
+        first_gives (cycle_checks s tab ms) h (
+          (λ fails e. absurd (shape e)),
+          each_gives (check_up s) ms (for_each (check_low s) ms (needed_checks ms))
+              (of_all _ (λ m fails e. absurd (up m.spot.rule m.spot.place e)) ms)
+              (each_gives (check_low s) ms (needed_checks ms)
+              (of_all _ (λ m fails e. absurd (low m.spot.rule m.spot.place e)) ms)
+              (each_gives (check_size tab) (needed_into s ms ms) (bent_checks ms) sizes
+              (into_gives s ms ms (time_checks ms) bends
+              (each_gives (check_time tab) (needed_times s tab ms) (size_checks ms) times (large, tt))))),
+        )

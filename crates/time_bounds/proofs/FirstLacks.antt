@@ -1,0 +1,272 @@
+-- What the first check of a size that fails says of the members of a component.
+use Rattle.std.proofs.Common.{◌≡◌, ℕ, ◌||◌, Bool, true, false, List, [], ◌∷◌, map, None, refl}
+use Rattle.std.proofs.Common.{sym, ap, subst}
+use Rattle.std.specs.List.{AllByRecursion, Contains}
+use Rattle.std.proofs.lemmas.List.Elements.{All-contains_itself, recursion_from_All}
+use Rattle.model.specs.Entries.{is_in}
+use Rattle.model.specs.Paths.{pre}
+use Rattle.model.specs.Programs.{Program}
+use Rattle.model.proofs.Membership.{filter-in}
+use Rattle.outcome.specs.Reports.{NoSize, SizeLoose, SizeTripped, SizeMissing, SizeBent, SizeUntimed, SizeLarge}
+use Rattle.proof_tree.specs.proof_nodes.AcceptsSizes.{IsStraight, spread_size, cycle_size}
+use Rattle.proof_tree.specs.proof_nodes.Checks.{large_nodes, needed_into, needed_times, spread_checks, cycle_checks}
+use Rattle.proof_tree.specs.proof_nodes.ComposedSizes.{rules_of, flows, multiplies, adds}
+use Rattle.proof_tree.specs.proof_nodes.Known.{IsKnown}
+use Rattle.proof_tree.specs.proof_nodes.Limits.{IsSmallComposed}
+use Rattle.proof_tree.specs.proof_nodes.Nodes.{Spot, Member}
+use Rattle.proof_tree.specs.proof_nodes.Reasons as reasons
+use Rattle.proof_tree.specs.proof_nodes.Reasons.{Reason}
+use Rattle.proof_tree.specs.proof_nodes.Setting.{Setting}
+use Rattle.proof_tree.specs.proof_setting.Setting.{setting_of}
+use Rattle.proof_tree.proofs.proof_nodes.CheckLists.{in-each}
+use Rattle.bound_rounds.specs.Keys.{Bounds, has_key, over}
+use Rattle.bound_rounds.specs.Loops.{do_loop}
+use Rattle.bound_rounds.specs.Right.{IsReasonFor}
+use Rattle.bound_rounds.specs.Searches as searches
+use Rattle.bound_rounds.specs.Searches.{NoBound, Unsized}
+use Rattle.bound_rounds.proofs.Cases.{either}
+use Rattle.bound_rounds.proofs.ListMembers.{contains-cases, contains-none}
+use Rattle.time_bounds.specs.ProgramSizes.{IsSizingBy}
+use Rattle.time_bounds.specs.Reasons.{size_reason}
+use Rattle.time_bounds.specs.SizeWhys.{IsComponentOf, LacksFirst, RestsOnSize}
+use Rattle.time_bounds.specs.SizeWhys.{TakesFrom, BendsAt, GrowsUntimed, composed_size, SizeIsLarge}
+use Rattle.time_bounds.specs.SizeWhys.{HasNoSize}
+use Rattle.time_bounds.proofs.FailingChecks.{of_all, BendGives, spread_gives, cycle_gives}
+use Rattle.time_bounds.proofs.NeededMembers.{IsNeeded, into_needed, outside_keys, outside_alone, size_missing, time_missing}
+
+-- what holds of each of a list by two facts of it
+pub from_both : {A : Type 0} (P Q R : A → Type 0) → ((x : A) → P x → Q x → R x) → (xs : List A) → AllByRecursion P xs → AllByRecursion Q xs
+    → AllByRecursion R xs
+from_both P Q R f [] h k = tt
+from_both P Q R f (x ∷ xs) h k = (f x h.0 k.0, from_both P Q R f xs h.1 k.1)
+
+-- each of a list, with the fact that it is one of it, gives what follows
+each_member : {A : Type 0} (P Q : A → Type 0) (xs : List A) → ((x : A) → Contains xs x → P x → Q x) → AllByRecursion P xs → AllByRecursion Q xs
+each_member P Q xs f h =
+    from_both (Contains xs) P Q f xs (recursion_from_All (Contains xs) xs (All-contains_itself xs)) h
+
+-- spots with the same parts are the same
+same_spot : (m n : Spot) → m.rule ≡ n.rule → m.place ≡ n.place → m ≡ n
+same_spot m n rule place = λ i. record { rule = rule i; place = place i }
+
+module _ (p : Program) (pivots : ℕ) where
+  abbrev s : Setting
+  s = setting_of p
+
+  module _ (b : Bounds) (t i : ℕ) where
+    -- a size that is needed and isn't known, where the places that are needed are no members
+    module _ (m : Spot) (members : List Member) (component : IsComponentOf p pivots t i members)
+        (first : LacksFirst s b members (searches.Missing m)) (inside : List Member)
+        (outer : (x : Spot) → IsNeeded s inside members x → has_key (map (λ k. k.spot) members) x.rule x.place ≡ false) where
+      rests : (x : Spot) → IsNeeded s inside members x → (IsKnown ((over b).size x.rule x.place) → ⊥)
+          → reasons.MissingSize x.rule x.place ≡ reasons.MissingSize m.rule m.place → RestsOnSize p pivots b t i m
+      rests x needed fails e =
+          let rule : x.rule ≡ m.rule = cc in
+          let place : x.place ≡ m.place = cc in
+          let there = subst (λ (k : Spot). IsNeeded s inside members k) (same_spot x m rule place) needed in
+          record {
+            members = members;
+            component = component;
+            member = there.member;
+            among = there.among;
+            takes = there.takes;
+            outside = outer m there;
+            missing = subst (λ (k : Spot). b k.rule k.place ≡ None) (same_spot x m rule place)
+                (size_missing b x.rule x.place needed.takes.place fails);
+            first = first;
+          }
+
+      all_rest : (spots : List Spot) → AllByRecursion (IsNeeded s inside members) spots
+          → AllByRecursion (λ x. (IsKnown ((over b).size x.rule x.place) → ⊥)
+          → reasons.MissingSize x.rule x.place ≡ reasons.MissingSize m.rule m.place → RestsOnSize p pivots b t i m) spots
+      all_rest [] h = tt
+      all_rest (x ∷ spots) h = (rests x h.0, all_rest spots h.1)
+
+    -- a size that is the first to be missing
+    size_so : (m : Spot) (members : List Member) → IsComponentOf p pivots t i members → (v : Bool) → do_loop s members ≡ v
+        → IsSizingBy v s (over b) members (Unsized (searches.Missing m)) → RestsOnSize p pivots b t i m
+    size_so m [] component false e h = absurd h
+    size_so m (n ∷ []) component false e (r, is, failed) =
+        spread_gives (reasons.MissingSize m.rule m.place) (RestsOnSize p pivots b t i m) s (over b)
+        (λ k. let none : ⊥ = cc in none) (λ a c k. let none : ⊥ = cc in none) (λ a c k. let none : ⊥ = cc in none) n
+        (all_rest m (n ∷ []) component
+        (subst (λ (w : Bool). IsSizingBy w s (over b) (n ∷ []) (Unsized (searches.Missing m))) (sym e) (r, is, failed)) []
+        alone (needed_into s [] (n ∷ []))
+        (into_needed s [] (n ∷ []) (n ∷ []) (recursion_from_All (Contains (n ∷ [])) (n ∷ []) (All-contains_itself (n ∷ [])))))
+        (λ fails k. absurd (let none : ⊥ = cc in none))
+        (subst (λ (q : Reason). reasons.IsFirstAmong (spread_checks s (over b) n) q) is failed)
+      where
+        alone : (x : Spot) → IsNeeded s [] (n ∷ []) x → has_key (map (λ k. k.spot) (n ∷ [])) x.rule x.place ≡ false
+        alone x needed =
+            let only = either (contains-cases needed.member n [] needed.among) (λ f. sym f)
+            (λ later. absurd (contains-none needed.member later)) in
+            outside_alone s n x e (subst (λ (k : Member). TakesFrom s k x) only needed.takes)
+    size_so m (n ∷ k ∷ members) component false e h = absurd h
+    size_so m members component true e (r, is, failed) =
+        cycle_gives (reasons.MissingSize m.rule m.place) (RestsOnSize p pivots b t i m) s (over b)
+        (λ k. let none : ⊥ = cc in none) (λ a c k. let none : ⊥ = cc in none) (λ a c k. let none : ⊥ = cc in none) members
+        (all_rest m members component
+        (subst (λ (w : Bool). IsSizingBy w s (over b) members (Unsized (searches.Missing m))) (sym e) (r, is, failed)) members
+        (λ x needed. outside_keys members x.rule x.place needed.takes.place needed.outside) (needed_into s members members)
+        (into_needed s members members members
+        (recursion_from_All (Contains members) members (All-contains_itself members))))
+        (of_all _ (λ n. of_all _ (λ u. (
+          (λ fails k. absurd (let none : ⊥ = cc in none)),
+          λ fails k. absurd (let none : ⊥ = cc in none),
+        )) (pre p n.spot.rule)) members)
+        (of_all _ (λ u fails k. absurd (let none : ⊥ = cc in none)) (needed_times s (over b) members))
+        (λ fails k. absurd (let none : ⊥ = cc in none))
+        (subst (λ (q : Reason). reasons.IsFirstAmong (cycle_checks s (over b) members) q) is failed)
+
+    -- a member that bends first
+    bent_so : (m : Spot) (members : List Member) → IsComponentOf p pivots t i members → (v : Bool) → do_loop s members ≡ v
+        → IsSizingBy v s (over b) members (Unsized (searches.Bent m)) → BendsAt p pivots b t i m
+    bent_so m [] component false e h = absurd h
+    bent_so m (n ∷ []) component false e (r, is, failed) =
+        spread_gives (reasons.Bent m.rule m.place) (BendsAt p pivots b t i m) s (over b)
+        (λ k. let none : ⊥ = cc in none) (λ a c k. let none : ⊥ = cc in none) (λ a c k. let none : ⊥ = cc in none) n
+        (of_all _ (λ x fails k. absurd (let none : ⊥ = cc in none)) (needed_into s [] (n ∷ [])))
+        (λ fails k. absurd (let none : ⊥ = cc in none))
+        (subst (λ (q : Reason). reasons.IsFirstAmong (spread_checks s (over b) n) q) is failed)
+    bent_so m (n ∷ k ∷ members) component false e h = absurd h
+    bent_so m members component true e (r, is, failed) =
+        cycle_gives (reasons.Bent m.rule m.place) (BendsAt p pivots b t i m) s (over b)
+        (λ k. let none : ⊥ = cc in none) (λ a c k. let none : ⊥ = cc in none) (λ a c k. let none : ⊥ = cc in none) members
+        (of_all _ (λ x fails k. absurd (let none : ⊥ = cc in none)) (needed_into s members members))
+        (each_member (λ n. Unit {0}) (λ n. AllByRecursion (BendGives (reasons.Bent m.rule m.place) (BendsAt p pivots b t i m) s members n)
+        (pre p n.spot.rule)) members (λ n among one. bends n among) (of_all (λ n. Unit {0}) (λ n. tt) members))
+        (of_all _ (λ u fails k. absurd (let none : ⊥ = cc in none)) (needed_times s (over b) members))
+        (λ fails k. absurd (let none : ⊥ = cc in none))
+        (subst (λ (q : Reason). reasons.IsFirstAmong (cycle_checks s (over b) members) q) is failed)
+      where
+        bends_at : (n : Member) → Contains members n → (IsStraight s members n → ⊥)
+            → reasons.Bent n.spot.rule n.spot.place ≡ reasons.Bent m.rule m.place → BendsAt p pivots b t i m
+        bends_at n among fails k =
+            let rule : n.spot.rule ≡ m.rule = cc in
+            let place : n.spot.place ≡ m.place = cc in
+            record {
+              members = members;
+              component = component;
+              member = n;
+              among = among;
+              same = same_spot n.spot m rule place;
+              bent = fails;
+              first = subst (λ (w : Bool). IsSizingBy w s (over b) members (Unsized (searches.Bent m))) (sym e) (r, is, failed);
+            }
+
+        bends : (n : Member) → Contains members n
+            → AllByRecursion (BendGives (reasons.Bent m.rule m.place) (BendsAt p pivots b t i m) s members n) (pre p n.spot.rule)
+        bends n among =
+            in-each (BendGives (reasons.Bent m.rule m.place) (BendsAt p pivots b t i m) s members n) (pre p n.spot.rule)
+            (λ u k. (
+              (λ fails same. bends_at n among (λ straight. fails (straight.up u k)) same),
+              λ fails same. bends_at n among (λ straight. fails (straight.low u k)) same,
+            ))
+
+    -- a time that is the first to be missing
+    untimed_so : (u : ℕ) (members : List Member) → IsComponentOf p pivots t i members → (v : Bool) → do_loop s members ≡ v
+        → IsSizingBy v s (over b) members (Unsized (searches.Untimed u)) → GrowsUntimed p pivots b t i u
+    untimed_so u [] component false e h = absurd h
+    untimed_so u (n ∷ []) component false e (r, is, failed) =
+        spread_gives (reasons.MissingTime u) (GrowsUntimed p pivots b t i u) s (over b)
+        (λ k. let none : ⊥ = cc in none) (λ a c k. let none : ⊥ = cc in none) (λ a c k. let none : ⊥ = cc in none) n
+        (of_all _ (λ x fails k. absurd (let none : ⊥ = cc in none)) (needed_into s [] (n ∷ [])))
+        (λ fails k. absurd (let none : ⊥ = cc in none))
+        (subst (λ (q : Reason). reasons.IsFirstAmong (spread_checks s (over b) n) q) is failed)
+    untimed_so u (n ∷ k ∷ members) component false e h = absurd h
+    untimed_so u members component true e (r, is, failed) =
+        cycle_gives (reasons.MissingTime u) (GrowsUntimed p pivots b t i u) s (over b)
+        (λ k. let none : ⊥ = cc in none) (λ a c k. let none : ⊥ = cc in none) (λ a c k. let none : ⊥ = cc in none) members
+        (of_all _ (λ x fails k. absurd (let none : ⊥ = cc in none)) (needed_into s members members))
+        (of_all _ (λ n. of_all _ (λ w. (
+          (λ fails k. absurd (let none : ⊥ = cc in none)),
+          λ fails k. absurd (let none : ⊥ = cc in none),
+        )) (pre p n.spot.rule)) members)
+        (in-each (λ w. (IsKnown ((over b).time w) → ⊥) → reasons.MissingTime w ≡ reasons.MissingTime u → GrowsUntimed p pivots b t i u)
+        (needed_times s (over b) members) grows)
+        (λ fails k. absurd (let none : ⊥ = cc in none))
+        (subst (λ (q : Reason). reasons.IsFirstAmong (cycle_checks s (over b) members) q) is failed)
+      where
+        grows : (w : ℕ) → is_in w (needed_times s (over b) members) ≡ true → (IsKnown ((over b).time w) → ⊥)
+            → reasons.MissingTime w ≡ reasons.MissingTime u → GrowsUntimed p pivots b t i u
+        grows w k fails same =
+            let rule : w ≡ u = cc in
+            let listed = filter-in (λ j. multiplies (flows s members (over b).size) j || adds s (flows s members (over b).size) j)
+            (rules_of s members) u (subst (λ (j : ℕ). is_in j (needed_times s (over b) members) ≡ true) rule k) in
+            record {
+              members = members;
+              component = component;
+              uses = listed.0;
+              grows = listed.1;
+              missing = subst (λ (j : ℕ). b j 0 ≡ None) rule (time_missing b w fails);
+              first = subst (λ (x : Bool). IsSizingBy x s (over b) members (Unsized (searches.Untimed u))) (sym e) (r, is, failed);
+            }
+
+    -- a composed size that is large
+    large_so : (n : ℕ) (members : List Member) → IsComponentOf p pivots t i members → (v : Bool) → do_loop s members ≡ v
+        → IsSizingBy v s (over b) members (Unsized (searches.TooLarge n)) → SizeIsLarge p pivots b t i n
+    large_so n [] component false e h = absurd h
+    large_so n (m ∷ []) component false e (r, is, failed) =
+        spread_gives (reasons.Large n) (SizeIsLarge p pivots b t i n) s (over b)
+        (λ k. let none : ⊥ = cc in none) (λ a c k. let none : ⊥ = cc in none) (λ a c k. let none : ⊥ = cc in none) m
+        (of_all _ (λ x fails k. absurd (let none : ⊥ = cc in none)) (needed_into s [] (m ∷ []))) large
+        (subst (λ (q : Reason). reasons.IsFirstAmong (spread_checks s (over b) m) q) is failed)
+      where
+        large : (IsSmallComposed s.rewrite (spread_size s (over b) m) → ⊥)
+            → reasons.Large (large_nodes s.rewrite (spread_size s (over b) m)) ≡ reasons.Large n → SizeIsLarge p pivots b t i n
+        large fails k =
+            let nodes : large_nodes s.rewrite (spread_size s (over b) m) ≡ n = cc in
+            record {
+              members = m ∷ [];
+              component = component;
+              size = spread_size s (over b) m;
+              composed = ap (λ (x : Bool). composed_size x s (over b) (m ∷ [])) (sym e);
+              large = fails;
+              nodes = sym nodes;
+              first = subst (λ (x : Bool). IsSizingBy x s (over b) (m ∷ []) (Unsized (searches.TooLarge n))) (sym e) (r, is, failed);
+            }
+    large_so n (m ∷ k ∷ members) component false e h = absurd h
+    large_so n members component true e (r, is, failed) =
+        cycle_gives (reasons.Large n) (SizeIsLarge p pivots b t i n) s (over b)
+        (λ k. let none : ⊥ = cc in none) (λ a c k. let none : ⊥ = cc in none) (λ a c k. let none : ⊥ = cc in none) members
+        (of_all _ (λ x fails k. absurd (let none : ⊥ = cc in none)) (needed_into s members members))
+        (of_all _ (λ m. of_all _ (λ w. (
+          (λ fails k. absurd (let none : ⊥ = cc in none)),
+          λ fails k. absurd (let none : ⊥ = cc in none),
+        )) (pre p m.spot.rule)) members)
+        (of_all _ (λ u fails k. absurd (let none : ⊥ = cc in none)) (needed_times s (over b) members)) large
+        (subst (λ (q : Reason). reasons.IsFirstAmong (cycle_checks s (over b) members) q) is failed)
+      where
+        large : (IsSmallComposed s.rewrite (cycle_size s (over b) members) → ⊥)
+            → reasons.Large (large_nodes s.rewrite (cycle_size s (over b) members)) ≡ reasons.Large n → SizeIsLarge p pivots b t i n
+        large fails k =
+            let nodes : large_nodes s.rewrite (cycle_size s (over b) members) ≡ n = cc in
+            record {
+              members = members;
+              component = component;
+              size = cycle_size s (over b) members;
+              composed = ap (λ (x : Bool). composed_size x s (over b) members) (sym e);
+              large = fails;
+              nodes = sym nodes;
+              first = subst (λ (x : Bool). IsSizingBy x s (over b) members (Unsized (searches.TooLarge n))) (sym e) (r, is, failed);
+            }
+
+    -- checks fail for no other reason
+    never : (w : NoBound) → ((r : Reason) → IsReasonFor w r → ⊥) → (members : List Member) (v : Bool)
+        → IsSizingBy v s (over b) members (Unsized w) → ⊥
+    never w fails [] false h = h
+    never w fails (n ∷ []) false (r, is, failed) = fails r is
+    never w fails (n ∷ k ∷ members) false h = h
+    never w fails members true (r, is, failed) = fails r is
+
+    -- what is judged of members with local bounds
+    pub judged_so : (why : NoSize) (members : List Member) → IsComponentOf p pivots t i members
+        → IsSizingBy (do_loop s members) s (over b) members (Unsized (size_reason why)) → HasNoSize p pivots b t i why
+    judged_so (SizeLoose side ray kept) members component h =
+        absurd (never (searches.Loose side ray kept) (λ r k. k) members (do_loop s members) h)
+    judged_so (SizeTripped x) members component h =
+        absurd (never (searches.Tripped x) (λ r k. k) members (do_loop s members) h)
+    judged_so (SizeMissing m) members component h = size_so m members component (do_loop s members) refl h
+    judged_so (SizeBent m) members component h = bent_so m members component (do_loop s members) refl h
+    judged_so (SizeUntimed u) members component h = untimed_so u members component (do_loop s members) refl h
+    judged_so (SizeLarge n) members component h = large_so n members component (do_loop s members) refl h

@@ -1,0 +1,179 @@
+-- What is told of a place without a size is so of the program.
+use Rattle.std.proofs.Common.{◌≡◌, ◌⊎◌, inl, inr, ℕ, Bool, true, List, [], Option, Some, None, refl}
+use Rattle.std.proofs.Common.{sym, subst}
+use Rattle.std.specs.List.{AllByRecursion}
+use Rattle.std.proofs.lemmas.List.Elements.{All-from_recursion, recursion_from_All}
+use Rattle.model.specs.Programs.{Program}
+use Rattle.model.proofs.Cases.{none_some, some_same}
+use Rattle.its_model.specs.Valid.{IsValid}
+use Rattle.outcome.specs.Reports.{NoSize, SizeLoose, SizeTripped}
+use Rattle.proof_tree.specs.proof_nodes.Known.{Table}
+use Rattle.proof_tree.specs.proof_nodes.Nodes.{Spot, Member}
+use Rattle.proof_tree.specs.proof_nodes.Setting.{Setting}
+use Rattle.proof_tree.specs.proof_setting.Setting.{setting_of}
+use Rattle.proof_tree.specs.declared.answer.EmptyAnswer.{EmptyAnswer}
+use Rattle.proof_tree.specs.declared.answer.EmptyAnswer.TheVariants as empties
+use Rattle.proof_tree.specs.declared.answer.Trip.{Trip}
+use Rattle.proof_tree.proofs.proof_nodes.CheckLists.{map-each}
+use Rattle.guard_prep.specs.Prepared.{prepared}
+use Rattle.rank_search.specs.rule_questions.EmptyAnswers.{IsEmptyAnswer}
+use Rattle.rank_search.specs.rule_questions.RuleAnswers.{trip_in}
+use Rattle.local_size.specs.Places.{value_on}
+use Rattle.local_size.specs.LocalAnswers.{Local, HasBound, IsLooseOn, HasTripped, IsOwnTrip, IsEmptyTrip}
+use Rattle.local_size.proofs.LooseAnswers.{loose-answers}
+use Rattle.rvg_components.specs.Flows.{Locals}
+use Rattle.bound_rounds.specs.Answers.{Lacks, TellsSizing, TellsSize}
+use Rattle.bound_rounds.specs.Components.{IsOneOf}
+use Rattle.bound_rounds.specs.Keys.{Bounds, key, has_key, over}
+use Rattle.bound_rounds.specs.Searches.{NoBound, Sizing, SizedBy, Unsized}
+use Rattle.bound_rounds.proofs.Cases.{either}
+use Rattle.bound_rounds.proofs.Keys.{has_key-cases, has_key-none}
+use Rattle.time_bounds.specs.ProgramSearches.{searches_of_program}
+use Rattle.time_bounds.specs.ProgramSizes.{IsLocalOf, AreLocalsOf, loose_reason, trip_reason, first_reason, lacks_arms}
+use Rattle.time_bounds.specs.ProgramSizes.{IsSizingBy, IsJudged, IsSizingOf}
+use Rattle.time_bounds.specs.Reasons.{size_reason}
+use Rattle.time_bounds.specs.SizeWhys.{PointTripsSo, IsComponentOf}
+use Rattle.time_bounds.specs.SizeWhys.{HasNoSize}
+use Rattle.time_bounds.proofs.ArmlessPlaces.{ReadsNothing, armless_alone}
+use Rattle.time_bounds.proofs.FirstLacks.{from_both, judged_so}
+use Rattle.time_bounds.proofs.MemberLoops.{loop_told}
+use Rattle.time_bounds.proofs.OneAnalysis.{size_reason_back, size_back, read_back}
+use Rattle.time_bounds.proofs.PassedForms.{loose_passes}
+use Rattle.time_bounds.proofs.RightSizings.{one_of, reason_told, spot_of_rule}
+
+module _ (p : Program) (pivots : ℕ) (valid : IsValid p) where
+  abbrev s : Setting
+  s = setting_of p
+
+  -- a loose answer is so of its place
+  loose_so : (m : Spot) (x : Local) → IsLocalOf p pivots m.rule m.place x → (why : NoSize) → loose_reason x ≡ Some why
+      → ReadsNothing p m x × ((b : Bounds) → HasNoSize p pivots b m.rule m.place why)
+  loose_so m (HasBound l) is why e = absurd (none_some why e)
+  loose_so m (HasTripped t) is why e = absurd (none_some why e)
+  loose_so m (IsLooseOn side ray kept) is why e =
+      let here = spot_of_rule p m is.rule is.numbered is.place in
+      let shown = loose-answers.ray p is.rule m pivots is.empty side ray kept valid here is.is_empty_answer is.local in (
+        (λ j. refl),
+        λ b. subst (λ (w : NoSize). HasNoSize p pivots b m.rule m.place w) (some_same (SizeLoose side ray kept) why e)
+            record {
+              rule = is.rule;
+              numbered = is.numbered;
+              straight = is.local.asked;
+              from = shown.1;
+              along = shown.0;
+              passes = loose_passes (prepared is.rule).rows (prepared is.rule).left (value_on side (prepared is.rule) m.place) kept ray
+                  shown.1 shown.0;
+              none = loose-answers.none p is.rule m pivots is.empty side ray kept valid here is.is_empty_answer is.local;
+            },
+      )
+
+  -- and so is one that tripped
+  trip_so : (m : Spot) (x : Local) → IsLocalOf p pivots m.rule m.place x → (why : NoSize) → trip_reason x ≡ Some why
+      → ReadsNothing p m x × ((b : Bounds) → HasNoSize p pivots b m.rule m.place why)
+  trip_so m (HasBound l) is why e = absurd (none_some why e)
+  trip_so m (IsLooseOn side ray kept) is why e = absurd (none_some why e)
+  trip_so m (HasTripped x) is why e = (
+    (λ j. refl),
+    λ b. subst (λ (w : NoSize). HasNoSize p pivots b m.rule m.place w) (some_same (SizeTripped x) why e)
+        record { rule = is.rule; numbered = is.numbered; trips = cases is.local },
+  )
+    where
+      emptiness : (a : EmptyAnswer) → IsEmptyAnswer (prepared is.rule) m.rule pivots a → trip_in (Some a) ≡ Some x
+          → IsEmptyAnswer (prepared is.rule) m.rule pivots (empties.Tripped x)
+      emptiness (empties.Empty n) h k = absurd (none_some x k)
+      emptiness (empties.Point z) h k = absurd (none_some x k)
+      emptiness (empties.Tripped u) h k =
+          subst (λ (v : Trip). IsEmptyAnswer (prepared is.rule) m.rule pivots (empties.Tripped v)) (some_same u x k) h
+
+      cases : IsOwnTrip (prepared is.rule) m pivots x ⊎ IsEmptyTrip (prepared is.rule) m.place pivots is.empty x
+          → IsOwnTrip (prepared is.rule) (key m.rule m.place) pivots x
+          ⊎ PointTripsSo p pivots m.rule m.place is.rule x
+      cases (inl own) = inl own
+      cases (inr h) = inr record {
+        straight = h.asked;
+        side = h.lacks.0;
+        ray = h.lacks.1.0;
+        lacks = h.lacks.1.1;
+        trips = record {
+          rule = is.rule;
+          numbered = is.numbered;
+          trips = emptiness is.empty is.is_empty_answer h.trip;
+        };
+      }
+
+  module _ (b : Bounds) (t i : ℕ) where
+    module _ (cs : List (List Spot)) (are : (searches_of_program p pivots).AreComponents cs) (keys : List Spot)
+        (one : IsOneOf cs keys) (has : has_key keys t i ≡ true) (local : Locals) (locals : AreLocalsOf p pivots local keys) where
+      abbrev Place : Spot → Type 0
+      Place m = IsLocalOf p pivots m.rule m.place (local m.rule m.place)
+
+      places : AllByRecursion Place keys
+      places = recursion_from_All Place keys locals
+
+      -- the members of the place's component
+      component_of : (tab : Table) (answer : Sizing) (h : IsJudged s tab local keys answer) → IsComponentOf p pivots t i h.members
+      component_of tab answer h = record {
+        components = cs;
+        are_components = are;
+        among = subst (λ (ks : List Spot). IsOneOf cs ks) h.are_members.spots_are one;
+        inside = subst (λ (ks : List Spot). has_key ks t i ≡ true) h.are_members.spots_are has;
+        bounds =
+            All-from_recursion (λ (m : Member). IsLocalOf p pivots m.spot.rule m.spot.place (HasBound m.local)) h.members
+            (from_both (λ (m : Member). Place m.spot) (λ (m : Member). local m.spot.rule m.spot.place ≡ HasBound m.local)
+            (λ (m : Member). IsLocalOf p pivots m.spot.rule m.spot.place (HasBound m.local))
+            (λ m k e. subst (λ (x : Local). IsLocalOf p pivots m.spot.rule m.spot.place x) e k) h.members
+            (map-each Place (λ (m : Member). m.spot) h.members
+            (subst (λ (ks : List Spot). AllByRecursion Place ks) h.are_members.spots_are places))
+            (recursion_from_All (λ (m : Member). local m.spot.rule m.spot.place ≡ HasBound m.local) h.members
+            h.are_members.bounds_are));
+      }
+
+      -- a place that lacks local bounds is the place itself
+      lacking_so : (m : Spot) → has_key keys m.rule m.place ≡ true → (x : Local) → IsLocalOf p pivots m.rule m.place x
+          → (why : NoSize) → ReadsNothing p m x × ((c : Bounds) → HasNoSize p pivots c m.rule m.place why)
+          → HasNoSize p pivots b t i why
+      lacking_so m h x is why so =
+          let alone = armless_alone p pivots cs are keys one m h x is so.0 in
+          let same : m ≡ key t i =
+          either (has_key-cases m [] t i (subst (λ (ks : List Spot). has_key ks t i ≡ true) alone has)) (λ e. e)
+          (λ later. absurd (has_key-none t i later)) in
+          subst (λ (k : Spot). HasNoSize p pivots b k.rule k.place why) same (so.1 b)
+
+      lacks_so : (why : NoSize) → lacks_arms local keys ≡ Some why → HasNoSize p pivots b t i why
+      lacks_so why e =
+          either (one_of (first_reason loose_reason local keys) (first_reason trip_reason local keys) why e) loose trips
+        where
+          loose : first_reason loose_reason local keys ≡ Some why → HasNoSize p pivots b t i why
+          loose k =
+              let x = reason_told Place loose_reason local keys why places k in
+              lacking_so x.0 x.1 (local x.0.rule x.0.place) x.2 why (loose_so x.0 (local x.0.rule x.0.place) x.2 why x.3)
+
+          trips : first_reason trip_reason local keys ≡ Some why → HasNoSize p pivots b t i why
+          trips k =
+              let x = reason_told Place trip_reason local keys why places k in
+              lacking_so x.0 x.1 (local x.0.rule x.0.place) x.2 why (trip_so x.0 (local x.0.rule x.0.place) x.2 why x.3)
+
+      sizing_so : (why : NoSize) (o : Option NoSize) → lacks_arms local keys ≡ o
+          → IsSizingOf s (over b) local keys o (Unsized (size_reason why)) → HasNoSize p pivots b t i why
+      sizing_so why (Some w) e h =
+          let same : size_reason why ≡ size_reason w = cc in
+          subst (λ (v : NoSize). HasNoSize p pivots b t i v) (sym (read_back size_reason_back size_reason size_back why w same))
+          (lacks_so w e)
+      sizing_so why None e h =
+          judged_so p pivots b t i why h.members (component_of (over b) (Unsized (size_reason why)) h)
+          (subst (λ (v : Bool). IsSizingBy v s (over b) h.members (Unsized (size_reason why)))
+          (sym (loop_told s local keys h.members h.are_members)) h.sizing)
+
+    -- so it is with what is told of a component of the place
+    pub place_so : (cs : List (List Spot)) → (searches_of_program p pivots).AreComponents cs → (keys : List Spot) → IsOneOf cs keys
+        → has_key keys t i ≡ true → (why : NoSize)
+        → TellsSize (searches_of_program p pivots) s b keys (Lacks (size_reason why)) → HasNoSize p pivots b t i why
+    place_so cs are keys one has why h = go h.answer h.answered h.tells
+      where
+        go : (answer : Sizing) → (searches_of_program p pivots).Sizes b keys answer
+            → TellsSizing s b answer (Lacks (size_reason why)) → HasNoSize p pivots b t i why
+        go (SizedBy node) answered told = absurd (let none : ⊥ = cc in none)
+        go (Unsized v) (local, locals, is) told =
+            let same : size_reason why ≡ v = cc in
+            sizing_so cs are keys one has local locals why (lacks_arms local keys) refl
+            (subst (λ (w : NoBound). IsSizingOf s (over b) local keys (lacks_arms local keys) (Unsized w)) (sym same) is)

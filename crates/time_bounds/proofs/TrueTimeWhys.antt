@@ -1,0 +1,189 @@
+-- What the answer to a rank question tells of a rule without a time is so of the program.
+use Rattle.std.proofs.Common.{◌≡◌, ◌⊎◌, inl, inr, ℕ, List, [], ◌∷◌, refl, sym, subst}
+use Rattle.model.specs.Programs.{Program}
+use Rattle.its_model.specs.Valid.{IsValid}
+use Rattle.guard_prep.specs.Prepared.{prepared}
+use Rattle.outcome.specs.Reports.{NoTime, NoFunction, TimeTripped, TimeLarge}
+use Rattle.proof_tree.specs.rule_forms.Ranking.{NoRank}
+use Rattle.proof_tree.specs.proof_nodes.AcceptsPlain.{IsRule}
+use Rattle.proof_tree.specs.proof_nodes.AcceptsRank.{rank_time}
+use Rattle.proof_tree.specs.proof_nodes.Checks.{large_nodes}
+use Rattle.proof_tree.specs.proof_nodes.Gaps.{SymbolPlace, Gap}
+use Rattle.proof_tree.specs.proof_nodes.Known.{IsKnown}
+use Rattle.proof_tree.specs.proof_nodes.Nodes.{RankNode}
+use Rattle.proof_tree.specs.proof_setting.Setting.{setting_of}
+use Rattle.proof_tree.specs.declared.answer.EmptyAnswer.{EmptyAnswer}
+use Rattle.proof_tree.specs.declared.answer.EmptyAnswer.TheVariants as empties
+use Rattle.proof_tree.specs.declared.answer.Trip.{Trip}
+use Rattle.proof_tree.specs.Views.{rank_of}
+use Rattle.rank_search.specs.RankAnswers.{IsRankNode, IsRankAnswer, IsOwnTrip, IsEmptyTrip}
+use Rattle.rank_search.specs.declared.answer.RankAnswer.{RankAnswer}
+use Rattle.rank_search.specs.declared.answer.RankAnswer.TheVariants as ranks
+use Rattle.rank_search.specs.rule_questions.EmptyAnswers.{IsEmptyAnswer}
+use Rattle.rank_search.specs.rule_questions.ProgramQuestions.{ranked_set}
+use Rattle.rank_search.proofs.rule_questions.Exact.{nodes-accepted as empty_nodes-accepted}
+use Rattle.rank_search.proofs.Accepted.{nodes-accepted}
+use Rattle.rank_search.proofs.NodeLaws.{nodes-rank}
+use Rattle.rank_search.proofs.RankExact.{answers-exact}
+use Rattle.bound_rounds.specs.Answers.{Lacks, TellsRanking, TellsTime}
+use Rattle.bound_rounds.specs.Keys.{Bounds, over}
+use Rattle.bound_rounds.specs.Right.{IsFirstTrip, IsGapOf, IsQuestion}
+use Rattle.bound_rounds.specs.Searches.{EmptyTripped, Ranking, Ranked, Unranked}
+use Rattle.bound_rounds.specs.Searches.{RankTripped}
+use Rattle.bound_rounds.specs.Searches as searches
+use Rattle.bound_rounds.specs.Sets.{IsSetOfRule, AreShutOf}
+use Rattle.bound_rounds.proofs.AcceptedRanks.{is_question}
+use Rattle.time_bounds.specs.ProgramRules.{emptiness_of, ranking_of}
+use Rattle.time_bounds.specs.ProgramSearches.{searches_of_program}
+use Rattle.time_bounds.specs.Reasons.{time_reason}
+use Rattle.time_bounds.specs.TimeWhys.{EmptyTripsSo, FirstTripsSo, IsSought, NoFunctionRanks, PointsTripSo, RankTripsSo}
+use Rattle.time_bounds.specs.TimeWhys.{HasNoTime}
+use Rattle.time_bounds.proofs.RightSearches.{first_told, ranking_right}
+
+module _ (p : Program) (pivots : ℕ) where
+  -- an answer of emptiness that trips is the trip of the rule's own linear program
+  pub empty_trip : (t : ℕ) (x : Trip) → (searches_of_program p pivots).Empties t (EmptyTripped x)
+      → EmptyTripsSo p pivots t x
+  empty_trip t x (r, numbered, (a, same, is)) = go a same is
+    where
+      go : (a : EmptyAnswer) → emptiness_of a ≡ EmptyTripped x → IsEmptyAnswer (prepared r) t pivots a
+          → EmptyTripsSo p pivots t x
+      go (empties.Empty n) e h = absurd (let none : ⊥ = cc in none)
+      go (empties.Point z) e h = absurd (let none : ⊥ = cc in none)
+      go (empties.Tripped y) e h =
+          let same_trip : y ≡ x = cc in
+          record {
+            rule = r;
+            numbered = numbered;
+            trips = subst (λ (z : Trip). IsEmptyAnswer (prepared r) t pivots (empties.Tripped z)) same_trip h;
+          }
+
+  -- and such a trip is answered
+  trip_answered : (t : ℕ) (x : Trip) → EmptyTripsSo p pivots t x
+      → (searches_of_program p pivots).Empties t (EmptyTripped x)
+  trip_answered t x h = (h.rule, h.numbered, (empties.Tripped x, refl, h.trips))
+
+  -- the first rule that is answered so
+  first_trip_so : (ts : List ℕ) (x : Trip) → IsFirstTrip (searches_of_program p pivots) ts x → FirstTripsSo p pivots ts x
+  first_trip_so [] x h = absurd h
+  first_trip_so (t ∷ ts) x (inl h) = inl (empty_trip t x h)
+  first_trip_so (t ∷ ts) x (inr h) = inr ((λ y k. h.0 (y, trip_answered t y k)), first_trip_so ts x h.1)
+
+  module _ (valid : IsValid p) (b : Bounds) (begun : IsKnown (b 0 0)) (t : ℕ) (rule : IsRule p t) (set : List ℕ)
+      (shut : List SymbolPlace) (sought : IsSought p b t set shut) where
+    question : IsQuestion p set t
+    question = is_question (setting_of p) b begun t set rule sought.is_set
+
+    -- a gap shows that no function ranks the rule
+    none_ranks : (g : Gap) → IsGapOf (setting_of p) set t shut g → NoFunctionRanks p b t g
+    none_ranks g h = record {
+      rule = h.rule;
+      sought = record {
+        is_set = subst (λ (xs : List ℕ). IsSetOfRule p b t xs) (sym h.same_set) sought.is_set;
+        are_shut = subst (λ (xs : List ℕ). AreShutOf p b xs g.shut) (sym h.same_set)
+            (subst (λ (ss : List SymbolPlace). AreShutOf p b set ss) (sym h.same_shut) sought.are_shut);
+      };
+      none = subst (λ (xs : List ℕ). NoRank (ranked_set p xs t g.shut)) (sym h.same_set)
+          (subst (λ (ss : List SymbolPlace). NoRank (ranked_set p set t ss)) (sym h.same_shut) h.none);
+      shown = h.holds;
+    }
+
+    -- the node of an answer is the one that was found
+    node_found : (node : RankNode) → (searches_of_program p pivots).Ranks set t shut (Ranked node)
+        → IsRankNode (ranked_set p set t shut) pivots node
+    node_found node (answers, are, (a, same, is)) = go a same is
+      where
+        go : (a : RankAnswer) → ranking_of a ≡ Ranked node → IsRankAnswer (ranked_set p set t shut) shut pivots answers a
+            → IsRankNode (ranked_set p set t shut) pivots node
+        go (ranks.Ranked n) e h =
+            let same_node : rank_of n ≡ node = cc in
+            subst (λ (m : RankNode). IsRankNode (ranked_set p set t shut) pivots m) same_node h.0
+        go (ranks.NoRank gap) e h = absurd (let none : ⊥ = cc in none)
+        go (ranks.Tripped y) e h = absurd (let none : ⊥ = cc in none)
+
+    -- the trip of an answer is that of the rank question
+    trip_so : (x : Trip) → (searches_of_program p pivots).Ranks set t shut (RankTripped x) → RankTripsSo p pivots b t x
+    trip_so x (answers, are, (a, same, is)) = go a same is
+      where
+        cases : (y : Trip)
+            → IsOwnTrip (ranked_set p set t shut) pivots y ⊎ IsEmptyTrip (ranked_set p set t shut) pivots answers y
+            → IsOwnTrip (ranked_set p set t shut) pivots y ⊎ PointsTripSo p pivots (ranked_set p set t shut) y
+        cases y (inl own) = inl own
+        cases y (inr h) = inr record {
+          untripped = h.untripped;
+          unsolved = h.unsolved;
+          first = first_trip_so set y
+              (first_told empty_nodes-accepted nodes-rank nodes-accepted answers-exact p pivots valid answers are y set
+              question.rules h.first);
+        }
+
+        go : (a : RankAnswer) → ranking_of a ≡ RankTripped x
+            → IsRankAnswer (ranked_set p set t shut) shut pivots answers a → RankTripsSo p pivots b t x
+        go (ranks.Ranked n) e h = absurd (let none : ⊥ = cc in none)
+        go (ranks.NoRank gap) e h = absurd (let none : ⊥ = cc in none)
+        go (ranks.Tripped y) e h =
+            let same_trip : y ≡ x = cc in
+            subst (λ (z : Trip). RankTripsSo p pivots b t z) same_trip
+            record { set = set; shut = shut; sought = sought; trips = cases y h }
+
+    -- what each answer tells
+    told_so : (answer : Ranking) → (searches_of_program p pivots).Ranks set t shut answer → (why : NoTime)
+        → TellsRanking (setting_of p) b answer (Lacks (time_reason why)) → HasNoTime p pivots b t why
+    told_so (Ranked node) h (NoFunction g) told =
+        let e : searches.NoFunction g ≡ searches.TooLarge (large_nodes (setting_of p).rewrite
+        (rank_time (setting_of p) node (over b))) = told.1 in absurd (let none : ⊥ = cc in none)
+    told_so (Ranked node) h (TimeTripped x) told =
+        let e : searches.Tripped x ≡ searches.TooLarge (large_nodes (setting_of p).rewrite
+        (rank_time (setting_of p) node (over b))) = told.1 in absurd (let none : ⊥ = cc in none)
+    told_so (Ranked node) h (TimeLarge n) told =
+        let e : searches.TooLarge n ≡ searches.TooLarge (large_nodes (setting_of p).rewrite
+        (rank_time (setting_of p) node (over b))) = told.1 in
+        record {
+          set = set;
+          shut = shut;
+          sought = sought;
+          node = node;
+          ranks = ranking_right p pivots valid set t shut (Ranked node) question h;
+          found = node_found node h;
+          large = told.0;
+          nodes = same_number n _ e;
+        }
+      where
+        same_number : (k m : ℕ) → searches.TooLarge k ≡ searches.TooLarge m → k ≡ m
+        same_number k m e = cc
+    told_so (Unranked g) h why told = by why lacking
+      where
+        one : (v w : searches.NoBound) → Lacks v ≡ Lacks w → v ≡ w
+        one v w e = cc
+
+        lacking : time_reason why ≡ searches.NoFunction g
+        lacking = one (time_reason why) (searches.NoFunction g) told
+
+        by : (v : NoTime) → time_reason v ≡ searches.NoFunction g → HasNoTime p pivots b t v
+        by (NoFunction f) e =
+            let same : f ≡ g = cc in
+            subst (λ (k : Gap). NoFunctionRanks p b t k) (sym same)
+            (none_ranks g (ranking_right p pivots valid set t shut (Unranked g) question h).0)
+        by (TimeTripped x) e = absurd (let none : ⊥ = cc in none)
+        by (TimeLarge n) e = absurd (let none : ⊥ = cc in none)
+    told_so (RankTripped x) h why told = by why lacking
+      where
+        one : (v w : searches.NoBound) → Lacks v ≡ Lacks w → v ≡ w
+        one v w e = cc
+
+        lacking : time_reason why ≡ searches.Tripped x
+        lacking = one (time_reason why) (searches.Tripped x) told
+
+        by : (v : NoTime) → time_reason v ≡ searches.Tripped x → HasNoTime p pivots b t v
+        by (NoFunction f) e = absurd (let none : ⊥ = cc in none)
+        by (TimeTripped y) e =
+            let same : y ≡ x = cc in
+            subst (λ (z : Trip). RankTripsSo p pivots b t z) (sym same) (trip_so x h)
+        by (TimeLarge n) e = absurd (let none : ⊥ = cc in none)
+
+  -- so it is with what is told of a rule
+  pub time_so : IsValid p → (b : Bounds) → IsKnown (b 0 0) → (t : ℕ) → IsRule p t → (why : NoTime)
+      → TellsTime (searches_of_program p pivots) (setting_of p) b t (Lacks (time_reason why)) → HasNoTime p pivots b t why
+  time_so valid b begun t rule why h =
+      told_so valid b begun t rule h.asked.set h.asked.shut
+      (record { is_set = h.asked.is_set; are_shut = h.asked.are_shut }) h.asked.answer h.asked.answered why h.tells

@@ -1,0 +1,87 @@
+-- Each reason in the report of an analysis is so of the program.
+use Rattle.std.proofs.Common.{◌≡◌, ℕ, zero, suc, List, Option, Some, None, refl, sym, subst, slice_get}
+use Rattle.model.specs.Bounds.{Constant}
+use Rattle.model.specs.Programs.{Program}
+use Rattle.model.proofs.Cases.{none_some}
+use Rattle.its_model.specs.Valid.{IsValid}
+use Rattle.outcome.specs.Holding.{numbered_entry, place_entry}
+use Rattle.outcome.specs.Reports.{NoTime, Untimed, NoSize, Size, Unsized, Report}
+use Rattle.proof_tree.specs.proof_nodes.Known.{IsKnown}
+use Rattle.proof_tree.specs.proof_setting.Setting.{setting_of}
+use Rattle.bound_rounds.specs.Answers.{Target, TimeOf, SizesOf, Lacks, TellsTime, Tells}
+use Rattle.bound_rounds.specs.Finds.{Find, bounds_of}
+use Rattle.bound_rounds.specs.Keys.{Bounds}
+use Rattle.bound_rounds.specs.Rounds.{IsAskedFor, IsNoBound}
+use Rattle.time_bounds.specs.Analysis.{IsAnalysis}
+use Rattle.time_bounds.specs.ProgramSearches.{searches_of_program}
+use Rattle.time_bounds.specs.Reasons.{time_reason, size_reason}
+use Rattle.time_bounds.specs.SaidBounds.{bounds_said}
+use Rattle.time_bounds.specs.SizeWhys.{HasNoSize}
+use Rattle.time_bounds.specs.TimeWhys.{HasNoTime}
+use Rattle.time_bounds.specs.Whys.{ReasonsAreTrue, AnalysesGiveReasons}
+use Rattle.time_bounds.proofs.SaidKnown.{time_told, size_told, said_known}
+use Rattle.time_bounds.proofs.TrueSizeWhys.{place_so}
+use Rattle.time_bounds.proofs.TrueTimeWhys.{time_so}
+
+module _ (p : Program) (pivots : ℕ) (valid : IsValid p) (fs : List Find) where
+  -- the virtual entry has a time with any finds
+  begun : IsKnown (bounds_of p fs 0 0)
+  begun = (Constant 1, refl)
+
+  -- why a rule has no time with the finds
+  no_time_so : (t : ℕ) (why : NoTime) → IsNoBound (searches_of_program p pivots) (setting_of p) fs t 0 (time_reason why)
+      → HasNoTime p pivots (bounds_of p fs) t why
+  no_time_so t why h = go h.target h.asked h.tells
+    where
+      go : (g : Target) → IsAskedFor (searches_of_program p pivots) (setting_of p) t 0 g
+          → Tells (searches_of_program p pivots) (setting_of p) (bounds_of p fs) g (Lacks (time_reason why))
+          → HasNoTime p pivots (bounds_of p fs) t why
+      go (TimeOf u) asked tells =
+          time_so p pivots valid (bounds_of p fs) begun t asked.0 why
+          (subst (λ (n : ℕ). TellsTime (searches_of_program p pivots) (setting_of p) (bounds_of p fs) n (Lacks (time_reason why)))
+          asked.1 tells)
+      go (SizesOf keys) asked tells = absurd asked
+
+  -- why a place has no size with them
+  no_size_so : (t j : ℕ) (why : NoSize)
+      → IsNoBound (searches_of_program p pivots) (setting_of p) fs t (suc j) (size_reason why)
+      → HasNoSize p pivots (bounds_of p fs) t (suc j) why
+  no_size_so t j why h = go h.target h.asked h.tells
+    where
+      go : (g : Target) → IsAskedFor (searches_of_program p pivots) (setting_of p) t (suc j) g
+          → Tells (searches_of_program p pivots) (setting_of p) (bounds_of p fs) g (Lacks (size_reason why))
+          → HasNoSize p pivots (bounds_of p fs) t (suc j) why
+      go (TimeOf u) asked tells = absurd asked
+      go (SizesOf keys) (cs, are, one, has) tells =
+          place_so p pivots valid (bounds_of p fs) t (suc j) cs are keys one has why tells
+
+module _ (p : Program) (pivots : ℕ) (valid : IsValid p) (r : Report) (h : IsAnalysis p pivots r) where
+  -- each reason of a time
+  time_why : (t : ℕ) (why : NoTime) → numbered_entry r.times t ≡ Some (Untimed why)
+      → HasNoTime p pivots (bounds_said p r) t why
+  time_why zero why e = absurd (none_some (Untimed why) e)
+  time_why (suc k) why e =
+      subst (λ (b : Bounds). HasNoTime p pivots b (suc k) why) (sym (said_known p pivots valid r h))
+      (no_time_so p pivots valid h.finds (suc k) why (time_told p pivots valid r h k (Untimed why) e))
+
+  -- and of a size
+  place_why : (k i : ℕ) (why : NoSize) (o : Option (List Size)) → slice_get r.sizes k ≡ o
+      → place_entry o i ≡ Some (Unsized why) → HasNoSize p pivots (bounds_said p r) (suc k) i why
+  place_why k i why None e f = absurd (none_some (Unsized why) f)
+  place_why k zero why (Some row) e f = absurd (none_some (Unsized why) f)
+  place_why k (suc j) why (Some row) e f =
+      subst (λ (b : Bounds). HasNoSize p pivots b (suc k) (suc j) why) (sym (said_known p pivots valid r h))
+      (no_size_so p pivots valid h.finds (suc k) j why (size_told p pivots valid r h k j row (Unsized why) e f))
+
+  size_why : (t i : ℕ) (why : NoSize) → place_entry (numbered_entry r.sizes t) i ≡ Some (Unsized why)
+      → HasNoSize p pivots (bounds_said p r) t i why
+  size_why zero i why e = absurd (none_some (Unsized why) e)
+  size_why (suc k) i why e = place_why k i why (slice_get r.sizes k) refl e
+
+  -- all of them
+  pub reasons_so : ReasonsAreTrue p pivots r
+  reasons_so = record { times = time_why; sizes = size_why }
+
+-- so it is of each analysis of a valid program
+pub analyses_give_reasons : AnalysesGiveReasons
+analyses_give_reasons = record { each = λ p pivots r valid h. reasons_so p pivots valid r h }

@@ -1,0 +1,26 @@
+-- The bounds that a report says, by key.
+use Rattle.std.specs.Prelude.{zero, suc, Option, Some, None}
+use Rattle.model.specs.Bounds.{Bound}
+use Rattle.model.specs.Programs.{Program}
+use Rattle.outcome.specs.Holding.{numbered_entry, place_entry}
+use Rattle.outcome.specs.Reports.{Time, Size, Sized, Unsized, Report}
+use Rattle.bound_rounds.specs.Keys.{Bounds, start_bounds}
+use Rattle.time_bounds.specs.Analysis.{bound_in}
+
+-- the bound of what is said of a rule, where something is said and it is one
+abbrev pub time_said : Option Time → Option Bound
+time_said None = None
+time_said (Some x) = bound_in x
+
+-- and of what is said of a place after it
+abbrev pub size_said : Option Size → Option Bound
+size_said None = None
+size_said (Some (Sized b)) = Some b
+size_said (Some (Unsized why)) = None
+
+-- the bounds that a report says: of the virtual entry those that are known at first, of a rule its time, and of a place
+-- after it its size
+abbrev pub bounds_said : Program → Report → Bounds
+bounds_said p r zero i = start_bounds p zero i
+bounds_said p r (suc t) zero = time_said (numbered_entry r.times (suc t))
+bounds_said p r (suc t) (suc i) = size_said (place_entry (numbered_entry r.sizes (suc t)) (suc i))

@@ -1,0 +1,151 @@
+-- Why a place after a rule has no size, as sentences about the program.
+use Rattle.std.specs.Prelude.{◌≡◌, ◌⊎◌, ℕ, ◌-◌, ◌≤◌, ◌||◌, Bool, true, false, List, [], ◌∷◌, map, ℤ, pos, ◌+ℤ◌}
+use Rattle.std.specs.Prelude.{◌*ℤ◌, ◌<ℤ◌, Some, None}
+use Rattle.std.specs.List.{All, Contains}
+use Rattle.model.specs.Bounds.{Bound, Constant}
+use Rattle.model.specs.Programs.{Program, Rule, rule_at}
+use Rattle.model.specs.Entries.{is_in}
+use Rattle.model.specs.Paths.{pre}
+use Rattle.its_model.specs.linear_forms.Forms.{Form, at, form_value}
+use Rattle.its_model.specs.linear_forms.Points.{IsPoint}
+use Rattle.guard_prep.specs.Prepared.{prepared}
+use Rattle.outcome.specs.Reports.{NoSize, SizeLoose, SizeTripped, SizeMissing, SizeBent, SizeUntimed, SizeLarge}
+use Rattle.proof_tree.specs.rule_forms.Bounds.{HasNone, IsLooseRay}
+use Rattle.proof_tree.specs.rule_forms.Kinds.{Affine, IsOfKind}
+use Rattle.proof_tree.specs.proof_nodes.AcceptsSizes.{Side, IsStraight, spread_size, cycle_size}
+use Rattle.proof_tree.specs.proof_nodes.Checks.{large_nodes}
+use Rattle.proof_tree.specs.proof_nodes.ComposedSizes.{poly_at, reads, rules_of, flows, multiplies, adds}
+use Rattle.proof_tree.specs.proof_nodes.Gaps.{ScaledPoint}
+use Rattle.proof_tree.specs.proof_nodes.Known.{Table}
+use Rattle.proof_tree.specs.proof_nodes.Limits.{IsSmallComposed}
+use Rattle.proof_tree.specs.proof_nodes.Nodes.{Spot, Member}
+use Rattle.proof_tree.specs.proof_nodes.Setting.{Setting}
+use Rattle.proof_tree.specs.proof_setting.Setting.{setting_of}
+use Rattle.proof_tree.specs.declared.answer.Trip.{Trip}
+use Rattle.local_size.specs.LocalAnswers.{HasBound, LacksForm, IsOwnTrip}
+use Rattle.local_size.specs.Places.{value_on, is_polynomial_at}
+use Rattle.bound_rounds.specs.Components.{IsOneOf}
+use Rattle.bound_rounds.specs.Keys.{Bounds, key, has_key, over}
+use Rattle.bound_rounds.specs.Loops.{do_loop}
+use Rattle.bound_rounds.specs.Searches.{NoBound, Missing, Bent, Untimed, TooLarge, Unsized}
+use Rattle.time_bounds.specs.ProgramSearches.{searches_of_program}
+use Rattle.time_bounds.specs.ProgramSizes.{IsLocalOf, IsSizingBy}
+use Rattle.time_bounds.specs.TimeWhys.{EmptyTripsSo}
+
+-- the point that lies so often the ray from a point, over the same denominator: its numerators
+abbrev pub moved : ScaledPoint → List ℤ → ℕ → ℕ → ℤ
+moved kept ray n u = at kept.parts u +ℤ pos n *ℤ at ray u
+
+-- from the point along the ray, within the rows, a value passes every affine form in the left arguments: from some
+-- point on the way on, q times the value is more than the form
+pub record PassesForms (rows : List Form) (left : ℕ) (value : Form) (kept : ScaledPoint) (ray : List ℤ) : Type 0 where
+  pub inside : (n : ℕ) → IsPoint rows (moved kept ray n) (pos kept.den)
+  pub passes : (g : Form) (q : ℕ) → 1 ≤ q → IsOfKind left Affine g q → (n : ℕ)
+      × ((m : ℕ) → n ≤ m
+      → form_value g (moved kept ray m) (pos kept.den) <ℤ (pos q *ℤ form_value value (moved kept ray m) (pos kept.den)))
+
+-- the new value at a place, or its negation on the low side, passes every affine form in the arguments: from the point
+-- along the ray, on which no argument moves and the value rises; so no affine form in the arguments is at least the
+-- value on all rational points of the rule's rows. And the update isn't a polynomial of degree 2 or more in the
+-- arguments alone, which would bound it
+pub record PassesEveryForm (p : Program) (t i : ℕ) (side : Side) (ray : List ℤ) (kept : ScaledPoint) : Type 0 where
+  pub rule : Rule
+  pub numbered : rule_at p t ≡ Some rule
+  pub straight : is_polynomial_at (prepared rule) i ≡ false
+  pub from : IsPoint (prepared rule).rows (at kept.parts) (pos kept.den)
+  pub along : IsLooseRay (prepared rule).rows (prepared rule).left (value_on side (prepared rule) i) (at ray)
+  pub passes : PassesForms (prepared rule).rows (prepared rule).left (value_on side (prepared rule) i) kept ray
+  pub none : HasNone (prepared rule).rows (prepared rule).left (value_on side (prepared rule) i) Affine
+
+-- no linear program of a place passes a limit, and on a side none comes to a form; but it isn't known that the rule has
+-- a point: the linear program which asks for it passes this limit
+pub record PointTripsSo (p : Program) (pivots t i : ℕ) (rule : Rule) (x : Trip) : Type 0 where
+  pub straight : is_polynomial_at (prepared rule) i ≡ false
+  pub side : Side
+  pub ray : List ℤ
+  pub lacks : LacksForm (prepared rule) i pivots side ray
+  pub trips : EmptyTripsSo p pivots t x
+
+-- the first linear program of a place that passes a limit passes this one, or the one for a point does
+pub record PlaceTripsSo (p : Program) (pivots t i : ℕ) (x : Trip) : Type 0 where
+  pub rule : Rule
+  pub numbered : rule_at p t ≡ Some rule
+  pub trips : IsOwnTrip (prepared rule) (key t i) pivots x ⊎ PointTripsSo p pivots t i rule x
+
+-- the places that have one size with a place, since values flow from it into them and back, each with its local bounds:
+-- the members of its component in the graph of places
+pub record IsComponentOf (p : Program) (pivots t i : ℕ) (members : List Member) : Type 0 where
+  pub components : List (List Spot)
+  pub are_components : (searches_of_program p pivots).AreComponents components
+  pub among : IsOneOf components (map (λ m. m.spot) members)
+  pub inside : has_key (map (λ m. m.spot) members) t i ≡ true
+  pub bounds : All (λ m. IsLocalOf p pivots m.spot.rule m.spot.place (HasBound m.local)) members
+
+-- of what the size of members needs over these bounds, this is the first that is missing
+abbrev pub LacksFirst : Setting → Bounds → List Member → NoBound → Type 0
+LacksFirst s b members why = IsSizingBy (do_loop s members) s (over b) members (Unsized why)
+
+-- a member takes its value from a place: the rule of the place can come just before the member's rule, and a local
+-- bound of the member reads the place
+pub record TakesFrom (s : Setting) (n : Member) (m : Spot) : Type 0 where
+  pub place : 1 ≤ m.place
+  pub before : is_in m.rule (pre s.program n.spot.rule) ≡ true
+  pub reads : (reads (poly_at s n.spot) n.local.up (m.place - 1) || reads (poly_at s n.spot) n.local.low (m.place - 1))
+      ≡ true
+
+-- the size rests on that of another place, which isn't known: a member takes its value from there, and it is no member
+pub record RestsOnSize (p : Program) (pivots : ℕ) (b : Bounds) (t i : ℕ) (m : Spot) : Type 0 where
+  pub members : List Member
+  pub component : IsComponentOf p pivots t i members
+  pub member : Member
+  pub among : Contains members member
+  pub takes : TakesFrom (setting_of p) member m
+  pub outside : has_key (map (λ n. n.spot) members) m.rule m.place ≡ false
+  pub missing : b m.rule m.place ≡ None
+  pub first : LacksFirst (setting_of p) b members (Missing m)
+
+-- in a loop the value at this place multiplies members: its local bound is a polynomial of degree 2 or more that reads
+-- one
+pub record BendsAt (p : Program) (pivots : ℕ) (b : Bounds) (t i : ℕ) (m : Spot) : Type 0 where
+  pub members : List Member
+  pub component : IsComponentOf p pivots t i members
+  pub member : Member
+  pub among : Contains members member
+  pub same : member.spot ≡ m
+  pub bent : ¬ (IsStraight (setting_of p) members member)
+  pub first : LacksFirst (setting_of p) b members (Bent m)
+
+-- in a loop the value grows with each use of this rule, which multiplies it or adds to it; and the rule has no time
+pub record GrowsUntimed (p : Program) (pivots : ℕ) (b : Bounds) (t i u : ℕ) : Type 0 where
+  pub members : List Member
+  pub component : IsComponentOf p pivots t i members
+  pub uses : is_in u (rules_of (setting_of p) members) ≡ true
+  pub grows : (multiplies (flows (setting_of p) members (over b).size) u
+      || adds (setting_of p) (flows (setting_of p) members (over b).size) u) ≡ true
+  pub missing : b u 0 ≡ None
+  pub first : LacksFirst (setting_of p) b members (Untimed u)
+
+-- the size that members compose, where they loop and where there is but one
+abbrev pub composed_size : Bool → Setting → Table → List Member → Bound
+composed_size true s tab members = cycle_size s tab members
+composed_size false s tab [] = Constant 0
+composed_size false s tab (m ∷ members) = spread_size s tab m
+
+-- the size that is composed of known times and sizes is large, and has so many nodes
+pub record SizeIsLarge (p : Program) (pivots : ℕ) (b : Bounds) (t i n : ℕ) : Type 0 where
+  pub members : List Member
+  pub component : IsComponentOf p pivots t i members
+  pub size : Bound
+  pub composed : size ≡ composed_size (do_loop (setting_of p) members) (setting_of p) (over b) members
+  pub large : ¬ (IsSmallComposed (setting_of p).rewrite size)
+  pub nodes : n ≡ large_nodes (setting_of p).rewrite size
+  pub first : LacksFirst (setting_of p) b members (TooLarge n)
+
+-- what each reason says of a place without a size, where these bounds are known
+abbrev pub HasNoSize : Program → ℕ → Bounds → ℕ → ℕ → NoSize → Type 0
+HasNoSize p pivots b t i (SizeLoose side ray kept) = PassesEveryForm p t i side ray kept
+HasNoSize p pivots b t i (SizeTripped x) = PlaceTripsSo p pivots t i x
+HasNoSize p pivots b t i (SizeMissing m) = RestsOnSize p pivots b t i m
+HasNoSize p pivots b t i (SizeBent m) = BendsAt p pivots b t i m
+HasNoSize p pivots b t i (SizeUntimed u) = GrowsUntimed p pivots b t i u
+HasNoSize p pivots b t i (SizeLarge n) = SizeIsLarge p pivots b t i n
