@@ -25,9 +25,9 @@ pub mod OneSizes
 pub mod OneSearches
 pub mod OneProgram
 pub mod OneAnalysis
--- a table by key, and what is known with finds
+pub mod OneOutcome
+-- a table by key
 pub mod TablesOver
-pub mod MadeFinds
 -- the finds before the first round
 pub mod StartLists
 pub mod FirstOrder
