@@ -70,7 +70,7 @@ pub mod CarriedTimes
 pub mod CarriedSizes
 -- what is found of a program is its analysis
 pub mod ReportEntries
-pub mod Analysed
+pub mod FoundIsAnalysis
 pub mod WholeAnalysis
 pub mod FoundLemmas
 -- what is found can be printed

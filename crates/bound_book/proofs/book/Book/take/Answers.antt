@@ -1,6 +1,6 @@
 use Rattle.std.proofs.Common.{map, ap}
 use Rattle.proof_tree.specs.Views.{spot_of}
-use Rattle.bound_book.proofs.Indexed.{taken}
+use Rattle.bound_book.proofs.IndexStays.{taken}
 use Rattle.bound_book.proofs.book.Book.take.Goals as goal
 
 pub returns-clause-book : goal.returns-clause-book
