@@ -5,12 +5,12 @@ pub mod Writes
 -- there is room for what is found
 pub mod Room
 -- the table stays the index of the list
-pub mod Indexed
+pub mod IndexStays
 -- the lemmas of finds
 pub mod Cites
 -- what is known at first
-pub mod Started
+pub mod StartIndex
 -- times, sizes and numbers by key
-pub mod Known
+pub mod TablesByKey
 -- worked values
 pub mod WorkedValues

@@ -6,13 +6,11 @@ ghost use Rattle.model.specs.Programs.{Program};
 ghost use Rattle.proof_tree.specs.Views.{spot_of};
 ghost use Rattle.bound_book.specs.ByKey.{IsWritten};
 ghost use Rattle.bound_book.specs.Books.{IsBook, AreOpen};
-ghost use Rattle.bound_book.specs.Views.{node_of, finds_of};
+ghost use Rattle.bound_book.specs.Views.{find_of, finds_of};
 
-use crate::find::{Find, Node};
+use crate::find::Find;
 use crate::writing::put_each;
-use bound_expr::Bound;
 use model::Memory;
-use proof_tree::Spot;
 use size_bounds::Table;
 use std::alloc::Global;
 
@@ -25,41 +23,24 @@ pub struct Book {
 }
 
 impl Book {
-    /// Appends what was found: a node for these keys, the keys of the bounds that it needs, and the bound, a copy of
-    /// which is written at each of its keys, with the number of the find.
+    /// Appends what was found, and writes a copy of its bound at each of its keys, with the number of the find.
     ///
     /// # Errors
     ///
     /// `Memory` where an allocation fails.
-    pub fn take(
-        &mut self,
-        alloc: Global,
-        keys: Vec<Spot>,
-        node: Node,
-        needs: Vec<Spot>,
-        bound: Bound,
-    ) -> Result<(), Memory>
+    pub fn take(&mut self, alloc: Global, find: Find) -> Result<(), Memory>
         requires few { length self.old.finds.items + 1 < 2 ^ 32 - 1 }
-        ensures finds { OnOk result (finds_of self.new.finds.items ≡ finds_of self.old.finds.items ++ record {
-          keys = map spot_of keys.items;
-          node = node_of node;
-          needs = map spot_of needs.items;
-          bound = bound_of bound;
-        } ∷ []) }
-        ensures written { OnOk result (IsWritten self.old.table (map spot_of keys.items) (bound_of bound)
+        ensures finds { OnOk result (finds_of self.new.finds.items
+            ≡ finds_of self.old.finds.items ++ find_of find ∷ []) }
+        ensures written { OnOk result (IsWritten self.old.table (map spot_of find.keys.items) (bound_of find.bound)
             (length self.old.finds.items + 1) self.new.table) }
         ensures book { OnOk result ((p : Program) → IsBook p self.old.table self.old.finds.items
-            → AreOpen p (finds_of self.old.finds.items) (map spot_of keys.items)
+            → AreOpen p (finds_of self.old.finds.items) (map spot_of find.keys.items)
             → IsBook p self.new.table self.new.finds.items) }
     {
         let number = self.next_number();
-        put_each(alloc, &mut self.table, &keys, &bound, number)?;
-        self.finds.push(Find {
-            keys,
-            node,
-            needs,
-            bound,
-        })?;
+        put_each(alloc, &mut self.table, &find.keys, &find.bound, number)?;
+        self.finds.push(find)?;
         Ok(())
     }
 

@@ -17,4 +17,4 @@ pub use citing::lemmas;
 pub use find::{Find, Node};
 pub use starting::book_of_start;
 pub use worked::{books_have_their_finds, tables_are_read_by_key, values_are_put_by_key};
-pub use writing::{put, put_place};
+pub use writing::put_place;

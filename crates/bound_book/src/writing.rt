@@ -12,8 +12,8 @@ use proof_tree::Spot;
 use size_bounds::Table;
 use std::alloc::Global;
 
-/// Writes what is stored of a key, where nothing is. A key that the table has no position for is left alone.
-pub fn put(table: &mut Table, key: Spot, stored: Stored)
+// Writes what is stored of a key, where nothing is. A key that the table has no position for is left alone.
+fn put(table: &mut Table, key: Spot, stored: Stored)
     ensures times { table.new.times.items ≡ put_time table.old.times.items key.rule key.place stored }
     ensures sizes { rows_of table.new ≡ put_place (rows_of table.old) key.rule key.place stored }
 {

@@ -5,7 +5,7 @@ use Rattle.std.proofs.Common.{Option, Some, None, refl, sym, ◌∙◌, ap}
 use Rattle.std.specs.List.{Contains}
 use Rattle.rule_questions.specs.model.Programs.{Program}
 use Rattle.rule_questions.specs.model.Bounds.{Bound}
-use Rattle.bound_rounds.specs.Keys.{has_key, start_bounds}
+use Rattle.bound_rounds.specs.Keys.{has_key, lacks, start_bounds}
 use Rattle.bound_rounds.specs.Finds.{Find, bound_found, first_of, bounds_of, number_from, number_in}
 use Rattle.bound_rounds.proofs.Cases.{told, none_some, some_same}
 use Rattle.bound_rounds.proofs.ListMembers.{contains-first, contains-later}
@@ -60,6 +60,24 @@ pub bounds_of-kept : (p : Program) (fs gs : List Find) (t i : ℕ) (b : Bound) �
     → bounds_of p (fs ++ gs) t i ≡ Some b
 bounds_of-kept p fs gs t i b e =
     bounds_of-append p fs gs t i ∙ first_of-some (bounds_of p fs t i) (bound_found gs t i) b e
+
+-- so what isn't missing isn't missing with more finds
+pub known_stays : (p : Program) (fs gs : List Find) (t i : ℕ) → lacks (bounds_of p fs t i) ≡ false
+    → lacks (bounds_of p (fs ++ gs) t i) ≡ false
+known_stays p fs gs t i e = ap lacks (bounds_of-append p fs gs t i) ∙ first (bounds_of p fs t i) e
+  where
+    first : (o : Option Bound) → lacks o ≡ false → lacks (first_of o (bound_found gs t i)) ≡ false
+    first None k = absurd (let none : ⊥ = cc in none)
+    first (Some b) k = refl
+
+-- and neither is what is found in them
+pub found_known : (p : Program) (fs gs : List Find) (t i : ℕ) → lacks (bound_found gs t i) ≡ false
+    → lacks (bounds_of p (fs ++ gs) t i) ≡ false
+found_known p fs gs t i e = ap lacks (bounds_of-append p fs gs t i) ∙ second (bounds_of p fs t i)
+  where
+    second : (o : Option Bound) → lacks (first_of o (bound_found gs t i)) ≡ false
+    second None = e
+    second (Some b) = refl
 
 -- of a key that isn't known, what added finds say is known
 pub bounds_of-new : (p : Program) (fs gs : List Find) (t i : ℕ) → bounds_of p fs t i ≡ None

@@ -38,6 +38,8 @@ pub mod FirstFindsStand
 pub mod TimesStand
 pub mod UniformComponents
 pub mod SizesStand
+-- empty rules have times
+pub mod EmptyTimes
 -- rounds end
 pub mod MissingFalls
 pub mod RoundsEnd

@@ -8,19 +8,20 @@ use Rattle.bound_rounds.specs.Keys.{Bounds, at_key, rule_numbers}
 use Rattle.bound_rounds.specs.Finds.{Node, EmptyBy, UnreachedBy, NeverBy, RankBy, SpreadBy, CycleBy, Find, bounds_of}
 use Rattle.bound_rounds.specs.Finds.{keys_of}
 use Rattle.bound_rounds.specs.Needs.{needs_of}
-use Rattle.bound_rounds.specs.Standing.{composed_bound, Stands, StandAfter}
-use Rattle.bound_rounds.specs.Searches.{Searches, searches_of, Answers, Sizing, SizedBy, Unsized}
+use Rattle.bound_rounds.specs.Standing.{composed_bound, Stands, StandAfter, AllStand}
+use Rattle.bound_rounds.specs.Searches.{Searches, searches_of, Sizing, SizedBy, Unsized}
 use Rattle.bound_rounds.specs.Answers.{SizesOf, are_open, is_open, Answer, Found, Lacks, finds_by, TellsSizing}
 use Rattle.bound_rounds.specs.Answers.{TellsSize}
 use Rattle.bound_rounds.specs.Components.{IsOneOf, AreComponentsOf}
 use Rattle.bound_rounds.specs.Rounds.{Tries, TriesAll, InTurn, IsRound, IsMade, Begun, Made}
-use Rattle.bound_rounds.specs.Right.{AcceptsSizing, AreRight}
+use Rattle.bound_rounds.specs.Right.{AcceptsSizing, AreRight, AreOne}
 use Rattle.bound_rounds.specs.Laws.{MadeFindsStand}
 use Rattle.bound_rounds.proofs.Cases.{false_true}
 use Rattle.bound_rounds.proofs.MissingBounds.{all-has_key}
 use Rattle.bound_rounds.proofs.FreshFinds.{FreshAfter, begins_itself, stand_over, stand-append}
 use Rattle.bound_rounds.proofs.KnownNeeds.{spread_known, cycle_known}
 use Rattle.bound_rounds.proofs.FirstFindsStand.{first_stand}
+use Rattle.bound_rounds.proofs.FindsAreOne.{answers_one}
 use Rattle.bound_rounds.proofs.TimesStand.{by_answer, round_times_stand}
 use Rattle.bound_rounds.proofs.UniformComponents.{IsWhole, open_all, tried_whole, times_whole, uniform_bounds}
 use Rattle.bound_rounds.proofs.UniformComponents.{made_whole}
@@ -120,32 +121,30 @@ module _ (q : Searches) (s : Setting) (right : AreRight q s) where
             All-append (IsWhole c) fs first (whole c one)
             (tried_whole q s cs are c one fs d (all d (inl refl)) first tries)
 
-module _ (a : Answers) (s : Setting) (right : AreRight (searches_of a) s) where
-  -- the components are those of the places of live rules
-  live_components : AreComponentsOf (searches_of a) s.program a.components
-  live_components = right.components a.components refl
-
+module _ (q : Searches) (s : Setting) (right : AreRight q s) (one : AreOne q) where
   -- what is found in a round stands after the finds before it
-  round_stands : (fs : List Find) → IsMade (searches_of a) s fs → (more : List Find)
-      → IsRound (searches_of a) s fs more → StandAfter s fs more
+  round_stands : (fs : List Find) → IsMade q s fs → (more : List Find) → IsRound q s fs more → StandAfter s fs more
   round_stands fs made more n =
       subst (λ (xs : List Find). StandAfter s fs xs) (sym n.all)
-      (stand-append s fs n.times n.sizes (round_times_stand (searches_of a) s right fs n.times n.timed)
-      (sizes_stand (searches_of a) s right a.components live_components (fs ++ n.times) whole n.components
-      (λ d k. subst (λ (cs : List (List Spot)). IsOneOf cs d) (sym n.are_components) k) n.sizes n.sized))
+      (stand-append s fs n.times n.sizes (round_times_stand q s right fs n.times n.timed)
+      (sizes_stand q s right n.components n.live (fs ++ n.times) whole n.components (λ d k. k) n.sizes n.sized))
     where
-      whole : (c : List Spot) → IsOneOf a.components c → All (IsWhole c) (fs ++ n.times)
-      whole c one =
-          All-append (IsWhole c) fs n.times (made_whole a s live_components fs made c one)
-          (times_whole (searches_of a) s a.components live_components c one fs (rule_numbers s.program)
-          n.times n.timed)
+      whole : (c : List Spot) → IsOneOf n.components c → All (IsWhole c) (fs ++ n.times)
+      whole c is =
+          All-append (IsWhole c) fs n.times
+          (made_whole q s n.components n.live (λ ds h. one.components ds n.components h n.are_components) fs made c is)
+          (times_whole q s n.components n.live c is fs (rule_numbers s.program) n.times n.timed)
 
   -- so all that rounds find stands
-  made_stand : (fs : List Find) → IsMade (searches_of a) s fs → StandAfter s [] fs
-  made_stand fs (Begun h) = first_stand (searches_of a) s fs h right
+  made_stand : (fs : List Find) → IsMade q s fs → StandAfter s [] fs
+  made_stand fs (Begun h) = first_stand q s fs h right
   made_stand fs (Made {fs = old} {more = more} m n) =
       stand-append s [] old more (made_stand old m) (round_stands old m more n)
 
+  -- of searches whose answers are right, and one to each question
+  pub all_stand : (fs : List Find) → IsMade q s fs → AllStand s fs
+  all_stand fs made = record { each = made_stand fs made }
+
 -- what rounds find stands, where the answers of the searches are right
 pub finds_stand : MadeFindsStand
-finds_stand = record { each = λ a s right fs made. record { each = made_stand a s right fs made } }
+finds_stand = record { each = λ a s right fs made. all_stand (searches_of a) s right (answers_one a) fs made }

@@ -3,13 +3,14 @@ use Rattle.std.proofs.Common.{◌≡◌, ◌⊎◌, inl, inr, ℕ, zero, suc, tr
 use Rattle.std.proofs.Common.{ap, subst}
 use Rattle.std.proofs.lemmas.List.{append_assoc}
 use Rattle.std.specs.List.{Contains}
-use Rattle.rule_questions.specs.model.Bounds.{Bound}
+use Rattle.rule_questions.specs.model.Bounds.{Bound, IsBased}
 use Rattle.rule_questions.specs.model.Facts.{Fact, Holds}
 use Rattle.rule_questions.specs.proof_nodes.Nodes.{Spot}
 use Rattle.rule_questions.specs.proof_nodes.Setting.{Setting, IsFaithful}
 use Rattle.rule_questions.specs.proof_nodes.AcceptsPlain.{IsRule, start_facts}
 use Rattle.rule_questions.specs.proof_nodes.Acceptance.{facts_of_lemma, AcceptsLemmas, facts_of_lemmas}
-use Rattle.rule_questions.proofs.proof_nodes.Soundness.{accepted_facts_hold}
+use Rattle.rule_questions.specs.proof_nodes.Laws.{HasBasedBound}
+use Rattle.rule_questions.proofs.proof_nodes.Soundness.{accepted_facts_hold, accepted_bounds_are_based}
 use Rattle.rule_questions.proofs.proof_nodes.GoodFacts.{IsGood}
 use Rattle.rule_questions.proofs.proof_nodes.Weaker.{start-good}
 use Rattle.bound_rounds.specs.Keys.{has_key, at_key, place_fact, start_bounds}
@@ -114,3 +115,12 @@ holds s faithful fs h t i b e = go (first_of-cases (start_bounds s.program t i) 
 -- so what is known with finds that stand holds
 pub hold : StandingFindsHold
 hold = record { each = holds }
+
+-- the time of a rule that is known with them has bases of at least 1
+pub time_based : (s : Setting) → IsFaithful s → (fs : List Find) → AllStand s fs → (t : ℕ) (b : Bound) → IsRule s.program t
+    → bounds_of s.program fs t 0 ≡ Some b → IsBased b
+time_based s faithful fs h t b rule e =
+    contained-all HasBasedBound (facts_of_lemma (facts_of_lemmas s (lemmas_of fs)) (number_in fs t 0)) (place_fact t 0 b)
+    (lemma-all HasBasedBound (facts_of_lemmas s (lemmas_of fs))
+    (accepted_bounds_are_based.each s faithful (lemmas_of fs) (accepted s fs h)) (number_in fs t 0))
+    (are_numbered.each s fs h t 0 b rule e)

@@ -8,7 +8,7 @@ use Rattle.rule_questions.specs.proof_nodes.Nodes.{Spot}
 use Rattle.rule_questions.specs.proof_nodes.Setting.{Setting}
 use Rattle.bound_rounds.specs.Keys.{Bounds, time_key, at_key, has_key, lacks, rule_numbers}
 use Rattle.bound_rounds.specs.Finds.{Find, bound_found, bounds_of, keys_after}
-use Rattle.bound_rounds.specs.Searches.{Searches, searches_of, Answers}
+use Rattle.bound_rounds.specs.Searches.{Searches, searches_of}
 use Rattle.bound_rounds.specs.Answers.{TimeOf, SizesOf, are_open, Answer, Found, Lacks, finds_by}
 use Rattle.bound_rounds.specs.Components.{IsCovered, IsOneOf, AreApart, AreComponentsOf, IsDead}
 use Rattle.bound_rounds.specs.Beginning.{AreFirst, never_find}
@@ -175,21 +175,20 @@ module _ (q : Searches) (s : Setting) (cs : List (List Spot)) (are : AreComponen
       ∙ (uniform_found c fs whole t i u j m n
       ∙ sym (rule_bounds s.program fs u j ((are.live u j).0 (member_covered cs c u j one n)).0))
 
-module _ (a : Answers) (s : Setting) (are : AreComponentsOf (searches_of a) s.program a.components) where
+module _ (q : Searches) (s : Setting) (cs : List (List Spot)) (are : AreComponentsOf q s.program cs)
+    (only : (ds : List (List Spot)) → q.AreComponents ds → ds ≡ cs) where
   -- all that is found in a round has all members of a component, or none
-  pub round_whole : (fs more : List Find) → IsRound (searches_of a) s fs more → (c : List Spot)
-      → IsOneOf a.components c → All (IsWhole c) more
+  pub round_whole : (fs more : List Find) → IsRound q s fs more → (c : List Spot) → IsOneOf cs c → All (IsWhole c) more
   round_whole fs more n c one =
       subst (λ (xs : List Find). All (IsWhole c) xs) (sym n.all)
       (All-append (IsWhole c) n.times n.sizes
-      (times_whole (searches_of a) s a.components are c one fs (rule_numbers s.program) n.times n.timed)
-      (sizes_whole (searches_of a) s a.components are c one (fs ++ n.times) n.components
-      (λ d k. subst (λ (cs : List (List Spot)). IsOneOf cs d) (sym n.are_components) k) n.sizes n.sized))
+      (times_whole q s cs are c one fs (rule_numbers s.program) n.times n.timed)
+      (sizes_whole q s cs are c one (fs ++ n.times) n.components
+      (λ d k. subst (λ (es : List (List Spot)). IsOneOf es d) (only n.components n.are_components) k) n.sizes n.sized))
 
   -- and so has all that rounds make
-  pub made_whole : (fs : List Find) → IsMade (searches_of a) s fs → (c : List Spot) → IsOneOf a.components c
-      → All (IsWhole c) fs
-  made_whole fs (Begun h) c one = first_whole (searches_of a) s a.components are c one fs h
+  pub made_whole : (fs : List Find) → IsMade q s fs → (c : List Spot) → IsOneOf cs c → All (IsWhole c) fs
+  made_whole fs (Begun h) c one = first_whole q s cs are c one fs h
   made_whole fs (Made {fs = old} {more = more} m n) c one =
       All-append (IsWhole c) old more (made_whole old m c one) (round_whole old more n c one)
 
@@ -197,5 +196,6 @@ module _ (a : Answers) (s : Setting) (are : AreComponentsOf (searches_of a) s.pr
 pub uniform_components : ComponentsAreUniform
 uniform_components = record {
   each = λ a s are fs made keys one.
-      uniform_bounds (searches_of a) s a.components are keys one fs (made_whole a s are fs made keys one);
+      uniform_bounds (searches_of a) s a.components are keys one fs
+      (made_whole (searches_of a) s a.components are (λ ds h. sym h) fs made keys one);
 }

@@ -42,8 +42,8 @@ pub record NodesAreAccepted : Type 0 where
       → facts_of s past (lemma_by number node needs)
       ≡ map (λ k. fact_at k (composed_bound s b node)) (keys_of s.program node)
 
--- a bound that was found is a fact of the lemma whose number its key has; one find alone states the bound of a key, which
--- is the known one; and the lemmas of finds that stand say all that is known with them
+-- a bound that was found is a fact of the lemma whose number its key has; one find alone states the bound of a key,
+-- which is the known one; and the lemmas of finds that stand say all that is known with them
 pub record FindsAreNumbered : Type 0 where
   pub each : (s : Setting) (fs : List Find) → AllStand s fs → (t i : ℕ) (b : Bound) → IsRule s.program t
       → bounds_of s.program fs t i ≡ Some b

@@ -30,8 +30,8 @@ pub fn standing_finds_have_lemmas()
     ensures { StandingFindsHaveLemmas }
 {}
 
-/// A bound that was found is a fact of the lemma whose number its key has, and one find alone states it; these lemmas say
-/// all that is known.
+/// A bound that was found is a fact of the lemma whose number its key has, and one find alone states it; these lemmas
+/// say all that is known.
 pub fn finds_are_numbered()
     ensures { FindsAreNumbered }
 {}

@@ -79,7 +79,8 @@ fn is_bent_after(
 ) -> bool
     requires ascending { AreAscending (map member_of members.now) }
     requires few { HasFewPlaces poly }
-    ensures { result ≡ is_bent_over (optional_poly poly.entry) (map member_of members.now) (local_of local.now) before.now }
+    ensures { result ≡ is_bent_over (optional_poly poly.entry) (map member_of members.now) (local_of local.now)
+        before.now }
 {
     for rule in before {
         let is_here = is_bent_bound(local, poly, members, *rule);

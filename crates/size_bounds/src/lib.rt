@@ -6,6 +6,7 @@
 
 mod answer;
 mod bent;
+mod copies;
 mod flow;
 mod growth;
 mod loop_bound;
@@ -22,6 +23,7 @@ mod updates;
 mod uses;
 
 pub use answer::SizeAnswer;
+pub use copies::{copied_member, copied_members};
 pub use looping::cycle;
 pub use outcome::Stored;
 pub use sized::{sized_cycle, sized_spread};

@@ -12,6 +12,7 @@ ghost use Rattle.size_bounds.specs.Tables.{table_of, number_at};
 ghost use Rattle.size_bounds.specs.SizeAnswers.{AreMembersOfProgram, IsCycleAnswer};
 
 use crate::answer::SizeAnswer;
+use crate::copies::copied_members;
 use crate::sized::sized_cycle;
 use crate::sizing::Sizing;
 use crate::table::Table;
@@ -19,7 +20,7 @@ use crate::uses::uses_of_needs;
 use bound_expr::{Bound, Memory};
 use guard_prep::RuleRows;
 use its_graph::Graph;
-use proof_tree::{CycleNode, Fact, Member, Proof, Spot, copied_local};
+use proof_tree::{CycleNode, Fact, Member, Proof, Spot};
 use std::alloc::Global;
 
 /// The size of all members of a loop of places: what comes into the loop from outside, and what its rules add, each as
@@ -64,29 +65,6 @@ fn cycle_node(alloc: Global, t: &Table, members: &[Member], needs: &[Spot]) -> R
     let uses = uses_of_needs(alloc, t, needs)?;
     let members = copied_members(alloc, members)?;
     Ok(Proof::Cycle(Box::new(alloc, CycleNode { members, uses })?))
-}
-
-// A copy of a member.
-fn copied_member(alloc: Global, member: &Member) -> Result<Member, Memory>
-    ensures { IfOk result (λ m. member_of m ≡ member_of member.now) }
-{
-    let local = copied_local(alloc, &member.local)?;
-    Ok(Member {
-        spot: member.spot,
-        local,
-    })
-}
-
-// Copies of members, in order.
-fn copied_members(alloc: Global, members: &[Member]) -> Result<Vec<Member>, Memory>
-    ensures { IfOk result (λ ms. map member_of ms.items ≡ map member_of members.now) }
-{
-    let mut copies = Vec::new(alloc);
-    for member in members {
-        let copy = copied_member(alloc, member)?;
-        copies.push(copy)?;
-    }
-    Ok(copies)
 }
 
 // The facts that this is the size of each member.

@@ -121,8 +121,8 @@ fn sized_by_flows(
     flows: &[Flow],
     rules: &[u32],
 ) -> Result<Sizing, Memory>
-    ensures { IfOk result (λ a. IsLoopSizing (table_of t.now) (map spot_of needed.items) (base_of (map flow_of flows.now))
-        (map (growth_by_flows (map flow_of flows.now)) rules.now) a) }
+    ensures { IfOk result (λ a. IsLoopSizing (table_of t.now) (map spot_of needed.items)
+        (base_of (map flow_of flows.now)) (map (growth_by_flows (map flow_of flows.now)) rules.now) a) }
 {
     let growths = growths_by(alloc, flows, rules)?;
     let base = maximum_offset(alloc, flows, FlowKind::Outer)?;

@@ -6,8 +6,8 @@ use proof_tree::Spot;
 /// A size by a node, or why there is none.
 #[derive(Debug, PartialEq, Eq, Drop)]
 pub enum Sizing {
-    /// The keys of the bounds that the node needs, in the order in which it needs them, and the size. A key is a rule and
-    /// a place, where the time is at place 0.
+    /// The keys of the bounds that the node needs, in the order in which it needs them, and the size. A key is a rule
+    /// and a place, where the time is at place 0.
     Found { needs: Vec<Spot>, bound: Bound },
     /// This size, which is needed from outside, is missing.
     Missing(Spot),

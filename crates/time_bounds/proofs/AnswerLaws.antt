@@ -40,7 +40,7 @@ use Rattle.time_bounds.specs.declared.asking.Asked.{Asked}
 use Rattle.time_bounds.specs.ProgramRules.{ranking_of}
 use Rattle.time_bounds.specs.ProgramSearches.{searches_of_program}
 use Rattle.time_bounds.specs.Questions.{HasShape, IsAsked, IsAnswered}
-use Rattle.time_bounds.specs.Tries.{IsMissing}
+use Rattle.time_bounds.specs.TriedRules.{IsMissing}
 use Rattle.time_bounds.proofs.RightSizings.{program_searches_right}
 pub use Rattle.model.proofs.Cases.{IfOk-both as both}
 

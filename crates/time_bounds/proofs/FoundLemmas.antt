@@ -27,8 +27,8 @@ use Rattle.size_bounds.specs.declared.table.Table.{Table}
 use Rattle.time_bounds.specs.Analysis.{AreTimesOf, AreSizeRowsOf}
 use Rattle.time_bounds.specs.AnalysisLemmas.{CarryTimes, CarryRows, AreGapsInOrder, HasLemmas}
 use Rattle.time_bounds.specs.ProgramSearches.{searches_of_program}
-use Rattle.time_bounds.proofs.Analysed.{IsAnalysisWith}
-use Rattle.time_bounds.proofs.MadeFinds.{all_stand}
+use Rattle.time_bounds.proofs.FoundIsAnalysis.{IsAnalysisWith}
+use Rattle.bound_rounds.proofs.SizesStand.{all_stand}
 use Rattle.time_bounds.proofs.OneProgram.{program_searches_one}
 use Rattle.time_bounds.proofs.RightSizings.{program_searches_right}
 use Rattle.time_bounds.proofs.TablesOver.{numbers_same}

@@ -28,7 +28,7 @@ use Rattle.proof_tree.specs.proof_nodes.AcceptsSizes.{spread_size, cycle_size}
 use Rattle.proof_tree.specs.proof_nodes.Setting.{Setting}
 use Rattle.proof_tree.proofs.proof_nodes.CheckLists.{each-in, in-each}
 use Rattle.bound_rounds.specs.Keys.{Bounds, over, size_by}
-use Rattle.time_bounds.specs.Standing.{HasGrown}
+use Rattle.time_bounds.specs.EarlierAnswers.{HasGrown}
 
 -- all times and sizes that were known in a table are
 pub record TableHasGrown (old new : Table) : Type 0 where

@@ -25,9 +25,9 @@ pub mod OneSizes
 pub mod OneSearches
 pub mod OneProgram
 pub mod OneAnalysis
--- a table by key, and what is known with finds
+pub mod OneOutcome
+-- a table by key
 pub mod TablesOver
-pub mod MadeFinds
 -- the finds before the first round
 pub mod StartLists
 pub mod FirstOrder
@@ -70,7 +70,7 @@ pub mod CarriedTimes
 pub mod CarriedSizes
 -- what is found of a program is its analysis
 pub mod ReportEntries
-pub mod Analysed
+pub mod FoundIsAnalysis
 pub mod WholeAnalysis
 pub mod FoundLemmas
 -- each reason in a report is so of the program

@@ -15,8 +15,8 @@ use Rattle.time_bounds.specs.declared.rounds.Kept.{Kept}
 use Rattle.time_bounds.specs.ProgramSearches.{searches_of_program}
 use Rattle.time_bounds.specs.Questions.{program_in}
 use Rattle.time_bounds.specs.RoundsMade.{known_with, AreMade, AreKeptFor, IsRoundMade}
-use Rattle.time_bounds.specs.Standing.{WereAttempts}
-use Rattle.time_bounds.specs.Tries.{AreAskedOver}
+use Rattle.time_bounds.specs.EarlierAnswers.{WereAttempts}
+use Rattle.time_bounds.specs.TriedRules.{AreAskedOver}
 use Rattle.time_bounds.proofs.TriedFinds.{kept_asked}
 
 module _ (cx : Context) (cs : List Candidate) (old new : List Find) (kept : Kept) where

@@ -22,7 +22,7 @@ some_none : (b : Bound) → Some b ≡ None → ⊥
 some_none b e = cc
 
 -- lists that begin and go on alike are the same
-joined : {A : Type 0} (x y : A) (xs ys : List A) → x ≡ y → xs ≡ ys → x ∷ xs ≡ y ∷ ys
+pub joined : {A : Type 0} (x y : A) (xs ys : List A) → x ≡ y → xs ≡ ys → x ∷ xs ≡ y ∷ ys
 joined {A} x y xs ys e h = ap (λ (z : A). z ∷ xs) e ∙ ap (λ (zs : List A). y ∷ zs) h
 
 -- two reports with the same parts are the same

@@ -10,7 +10,7 @@ use Rattle.bound_rounds.specs.Standing.{StandAfter}
 use Rattle.bound_book.specs.declared.find.Find.{Find}
 use Rattle.bound_book.specs.Books.{IsKey, AreOpen}
 use Rattle.bound_book.specs.Views.{find_of, finds_of}
-use Rattle.time_bounds.specs.Taking.{AreOpenAfter}
+use Rattle.time_bounds.specs.OpenFinds.{AreOpenAfter}
 
 -- a list that is mapped to itself
 pub map-same : {A : Type 0} (xs : List A) → map (λ x. x) xs ≡ xs

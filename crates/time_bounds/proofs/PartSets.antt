@@ -54,13 +54,15 @@ none_there n m s e = go (cases_lt m n)
         none_some s (sym (get_or_past (replicate n nothing) m nothing (omega (arith, high, length-replicate n nothing))) ∙ e)
 
 -- before anything is found
-pub parts_begin : (p : Program) (tab : code.Table) (flags : List Bool) (n : ℕ) (parts : Parts) → AreUntimed p tab flags
-    → length parts.of_rules.items ≡ length flags → ArePartsBelow n parts.of_rules.items
-    → HaveSameSets p (flagged flags) parts.of_rules.items → parts.found.items ≡ replicate n None → AreParts p tab parts
-parts_begin p tab flags n parts h size below same none = record {
+pub parts_begin : (p : Program) (tab : code.Table) (n : ℕ) (parts : Parts) → AreUntimed p tab parts.untimed.items
+    → length parts.of_rules.items ≡ length parts.untimed.items → ArePartsBelow n parts.of_rules.items
+    → HaveSameSets p (flagged parts.untimed.items) parts.of_rules.items → parts.found.items ≡ replicate n None
+    → AreParts p tab parts
+parts_begin p tab n parts h size below same none = record {
+  flags = h;
   one_each = size ∙ h.one_each;
   within = λ t m e. omega (arith, below t m e, ap length none, length-replicate n nothing);
-  same = set_by_table p tab flags parts.of_rules.items h size same;
+  same = set_by_table p tab parts.untimed.items parts.of_rules.items h size same;
   found = λ t m s open_t e f. absurd (none_there n m s (ap (λ (xs : List (Option OpenSet)). get_or xs m None) (sym none) ∙ f));
 }
 
@@ -88,10 +90,11 @@ open_other p tab t u s onto back h = record {
 
 -- the set of a rule is found for its component
 pub found_more : (p : Program) (tab : code.Table) (old new : Parts) (u part : ℕ) (r : OpenSet)
-    → new.of_rules.items ≡ old.of_rules.items → new.found.items ≡ set old.found.items part (Some r)
+    → new.untimed.items ≡ old.untimed.items → new.of_rules.items ≡ old.of_rules.items → new.found.items ≡ set old.found.items part (Some r)
     → is_untimed (bounds_in tab) u ≡ true → get_or old.of_rules.items u None ≡ Some part → IsOpenSet p tab u r
     → AreParts p tab old → AreParts p tab new
-found_more p tab old new u part r same_rules put open_u eu right h = record {
+found_more p tab old new u part r same_flags same_rules put open_u eu right h = record {
+  flags = subst (AreUntimed p tab) (sym same_flags) h.flags;
   one_each = ap length same_rules ∙ h.one_each;
   within = λ t m e. omega (arith, h.within t m (there t m e), ap length put, length-set old.found.items part (Some r));
   same = subst (λ (xs : List (Option ℕ)). HaveSameSets p (is_untimed (bounds_in tab)) xs) (sym same_rules) h.same;

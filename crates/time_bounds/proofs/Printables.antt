@@ -26,7 +26,7 @@ use Rattle.bound_rounds.proofs.FindLists.{first_of-cases, bounds_of-append, boun
 use Rattle.time_bounds.specs.ProgramSearches.{searches_of_program}
 use Rattle.time_bounds.specs.Totals.{known_parts, total_of}
 use Rattle.time_bounds.specs.PrintableLaws.{IsPrintableBound, ArePrintableBounds, ArePrintable, FoundBoundsArePrintable}
-use Rattle.time_bounds.proofs.MadeFinds.{all_stand}
+use Rattle.bound_rounds.proofs.SizesStand.{all_stand}
 use Rattle.time_bounds.proofs.OneProgram.{program_searches_one}
 use Rattle.time_bounds.proofs.RightSizings.{program_searches_right}
 use Rattle.time_bounds.proofs.Sums.{first_known, total_is}

@@ -6,7 +6,7 @@ use Rattle.std.specs.List.{list_all}
 use Rattle.std.specs.Option.{option_map}
 use Rattle.std.proofs.lemmas.List.{length-map}
 use Rattle.model.specs.Programs.{Program}
-use Rattle.model.specs.Bounds.{Bound, IsBased, Parts}
+use Rattle.model.specs.Bounds.{Bound, Parts}
 use Rattle.model.specs.Facts.{Holds, HoldsTime, HoldsSize, HoldsTotal}
 use Rattle.its_model.specs.Valid.{IsValid}
 use Rattle.outcome.specs.Reports.{Time, Timed, Untimed, Size, Sized, Report, is_timed}
@@ -15,25 +15,18 @@ use Rattle.outcome.specs.Views.{time_of}
 use Rattle.outcome.specs.declared.entry.TimeEntry.{TimeEntry}
 use Rattle.outcome.specs.declared.entry.TimeEntry.TheVariants as entries
 use Rattle.proof_tree.specs.declared.gap.Gap.{Gap}
-use Rattle.proof_tree.specs.proof_nodes.Acceptance.{facts_of_lemma, facts_of_lemmas}
-use Rattle.proof_tree.specs.proof_nodes.AcceptsPlain.{IsRule}
-use Rattle.proof_tree.specs.proof_nodes.Laws.{HasBasedBound}
-use Rattle.proof_tree.proofs.proof_nodes.Soundness.{accepted_bounds_are_based}
 use Rattle.proof_tree.specs.proof_setting.Setting.{setting_of}
 use Rattle.proof_tree.proofs.proof_setting.Faithful.{settings-faithful}
 use Rattle.bound_rounds.specs.Keys.{place_fact}
-use Rattle.bound_rounds.specs.Finds.{Find, bounds_of, number_in}
-use Rattle.bound_rounds.specs.Needs.{lemmas_of}
+use Rattle.bound_rounds.specs.Finds.{Find, bounds_of}
 use Rattle.bound_rounds.specs.Searches.{Searches}
 use Rattle.bound_rounds.specs.Standing.{AllStand}
-use Rattle.bound_rounds.proofs.FactLists.{lemma-all}
-use Rattle.bound_rounds.proofs.ListMembers.{contained-all}
-use Rattle.bound_rounds.proofs.StandingLaws.{are_numbered, have_lemmas, hold}
+use Rattle.bound_rounds.proofs.StandingLaws.{hold, time_based}
 use Rattle.time_bounds.specs.ProgramSearches.{searches_of_program}
 use Rattle.time_bounds.specs.Totals.{time_in, before, known_parts, total_of}
 use Rattle.time_bounds.specs.Laws.{TimesHold}
 use Rattle.time_bounds.specs.Analysis.{IsTimeOf, AreTimesOf, IsSizeOf, AreSizesOf, AreSizeRowsOf, IsAnalysis, bound_in}
-use Rattle.time_bounds.proofs.MadeFinds.{all_stand}
+use Rattle.bound_rounds.proofs.SizesStand.{all_stand}
 use Rattle.time_bounds.proofs.OneProgram.{program_searches_one}
 use Rattle.time_bounds.proofs.RightSizings.{program_searches_right}
 use Rattle.time_bounds.proofs.Rules.{rule_there}
@@ -120,16 +113,6 @@ module _ (p : Program) (pivots : ℕ) (valid : IsValid p) (r : Report) (h : IsAn
   known_holds : (t i : ℕ) (b : Bound) → bounds_of p h.finds t i ≡ Some b → Holds p (place_fact t i b)
   known_holds t i b e = hold.each (setting_of p) (settings-faithful.each p valid) h.finds stand t i b e
 
-  -- and so has bases of at least 1
-  known_based : (t : ℕ) (b : Bound) → IsRule p t → bounds_of p h.finds t 0 ≡ Some b → IsBased b
-  known_based t b rule e =
-      contained-all HasBasedBound (facts_of_lemma (facts_of_lemmas (setting_of p) (lemmas_of h.finds)) (number_in h.finds t 0))
-      (place_fact t 0 b)
-      (lemma-all HasBasedBound (facts_of_lemmas (setting_of p) (lemmas_of h.finds))
-      (accepted_bounds_are_based.each (setting_of p) (settings-faithful.each p valid) (lemmas_of h.finds)
-      (have_lemmas.accepted (setting_of p) h.finds stand)) (number_in h.finds t 0))
-      (are_numbered.each (setting_of p) h.finds stand t 0 b rule e)
-
   timed_at : (i : ℕ) (b : Bound) → slice_get r.times i ≡ Some (Timed b) → bounds_of p h.finds (suc i) 0 ≡ Some b
   timed_at i b e =
       ap (λ (n : ℕ). bounds_of p h.finds n 0) (let z : suc i ≡ 1 + i = omega arith in z)
@@ -149,7 +132,8 @@ module _ (p : Program) (pivots : ℕ) (valid : IsValid p) (r : Report) (h : IsAn
     one_each = length-map r.times bound_in ∙ h.one_each;
     holds = λ i b l e. known_holds (suc i) 0 b (timed_at i b (known_at r.times i b e));
     based = λ i b l e.
-        known_based (suc i) b (rule_there p i (omega (arith, l, length-map r.times bound_in, h.one_each)))
+        time_based (setting_of p) (settings-faithful.each p valid) h.finds stand (suc i) b
+        (rule_there p i (omega (arith, l, length-map r.times bound_in, h.one_each)))
         (timed_at i b (known_at r.times i b e));
   }
 

@@ -26,7 +26,7 @@ use Rattle.bound_book.specs.declared.find.Find.{Find}
 use Rattle.bound_book.specs.Books.{IsBook}
 use Rattle.bound_book.specs.ByKey.{rows_of}
 use Rattle.bound_book.specs.Views.{finds_of}
-use Rattle.bound_book.proofs.Indexed.{arity_at, long_at, place_within}
+use Rattle.bound_book.proofs.IndexStays.{arity_at, long_at, place_within}
 use Rattle.size_bounds.specs.declared.table.Table.{Table}
 use Rattle.size_bounds.specs.Tables.{entry_at, row_at}
 use Rattle.time_bounds.specs.declared.candidates.Candidate.{Candidate}

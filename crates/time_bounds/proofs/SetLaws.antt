@@ -135,15 +135,16 @@ pub record IsOpenRule (p : Program) (tab : Bounds) (t : ℕ) : Type 0 where
   pub rule : IsRule p t
   pub untimed : is_untimed tab t ≡ true
 
--- a rule whose flag is set, where that of the virtual entry isn't, is a rule without a time
-pub open_rule : (p : Program) (tab : code.Table) (flags : List Bool) (t : ℕ) → AreUntimed p tab flags → get_or flags 0 false ≡ false
-    → get_or flags t false ≡ true → IsOpenRule p (bounds_in tab) t
-open_rule p tab flags t h entry flag = go t (is_rule flags (length p.rules) t (omega (arith, h.one_each)) entry flag) flag
+-- a rule whose flag is set, where the virtual entry has a time, is a rule without one
+pub open_rule : (p : Program) (tab : code.Table) (flags : List Bool) (t : ℕ) → AreUntimed p tab flags
+    → is_untimed (bounds_in tab) 0 ≡ false → get_or flags t false ≡ true → IsOpenRule p (bounds_in tab) t
+open_rule p tab flags t h start flag =
+    go t (is_rule flags (length p.rules) t (omega (arith, h.one_each)) (h.each 0 (omega arith) ∙ start) flag) flag
   where
     go : (t : ℕ) → (0 < t) × (t ≤ length p.rules) → get_or flags t false ≡ true → IsOpenRule p (bounds_in tab) t
     go zero r flag = absurd (omega (arith, r.0))
     go (suc i) r flag = record {
-      start = sym (h.each 0 (omega arith)) ∙ entry;
+      start = start;
       rule = rule_there p i (omega (arith, r.1));
       untimed = sym (h.each (suc i) r.1) ∙ flag;
     }

@@ -25,9 +25,9 @@ use Rattle.time_bounds.specs.declared.sizing.Attempt.{Attempt}
 use Rattle.time_bounds.specs.ProgramSearches.{searches_of_program}
 use Rattle.time_bounds.specs.Attempts.{ArePlacesOf}
 use Rattle.time_bounds.specs.Candidates.{spots_in, AreCandidatesOf}
-use Rattle.time_bounds.specs.Standing.{WasAttempt, WereAttempts}
+use Rattle.time_bounds.specs.EarlierAnswers.{WasAttempt, WereAttempts}
 use Rattle.time_bounds.proofs.CandidateComponents.{are_components, live_components}
-use Rattle.time_bounds.proofs.MadeFinds.{made_whole}
+use Rattle.bound_rounds.proofs.UniformComponents.{made_whole}
 use Rattle.time_bounds.proofs.OneProgram.{program_searches_one}
 
 -- one thing more is asked for in turn

@@ -28,8 +28,8 @@ use Rattle.time_bounds.specs.Reasons.{size_reason}
 use Rattle.time_bounds.specs.Attempts.{why_by, IsAttempt}
 use Rattle.time_bounds.specs.Candidates.{spots_in}
 use Rattle.time_bounds.specs.ProgramSizes.{IsSizingBy, IsSizingOf, lacks_arms}
-use Rattle.time_bounds.specs.Standing.{HasGrown, Stands, StandsAt, WasAttempt, WereAttempts, IsStanding}
-use Rattle.time_bounds.specs.Tries.{AreAskedOver}
+use Rattle.time_bounds.specs.EarlierAnswers.{HasGrown, ReasonStands, StandsAt, WasAttempt, WereAttempts, IsStanding}
+use Rattle.time_bounds.specs.TriedRules.{AreAskedOver}
 use Rattle.time_bounds.proofs.GrownBounds.{table_grown}
 use Rattle.time_bounds.proofs.GrownChecks.{StandsFor, spread-still, cycle-still}
 
@@ -37,7 +37,7 @@ some-same : {A : Type 0} (x y : A) → Some x ≡ Some y → x ≡ y
 some-same x y e = cc
 
 -- the reason of a check stands where that of the answer does
-reason-stands : (tab : Table) (a : Sizing) (why : NoSize) (r : Reason) → Stands tab a → why_by a ≡ Some why → IsReasonFor (size_reason why) r
+reason-stands : (tab : Table) (a : Sizing) (why : NoSize) (r : Reason) → ReasonStands tab a → why_by a ≡ Some why → IsReasonFor (size_reason why) r
     → StandsFor tab r
 reason-stands tab (answers.Found needs bound) why r stands says told = absurd stands
 reason-stands tab (answers.Missing m) why r stands says told =
@@ -51,7 +51,7 @@ reason-stands tab (answers.Large n) why r stands says told =
 
 module _ (p : Program) (pivots : ℕ) (old new : Bounds) (grown : HasGrown old new) where
   -- so members have no size for the same reason
-  sizing-stands : (looping : Bool) (members : List Member) (a : Sizing) (why : NoSize) → Stands (over new) a → why_by a ≡ Some why
+  sizing-stands : (looping : Bool) (members : List Member) (a : Sizing) (why : NoSize) → ReasonStands (over new) a → why_by a ≡ Some why
       → IsSizingBy looping (setting_of p) (over old) members (Unsized (size_reason why))
       → IsSizingBy looping (setting_of p) (over new) members (Unsized (size_reason why))
   sizing-stands false [] a why stands says h = absurd h
@@ -69,7 +69,7 @@ module _ (p : Program) (pivots : ℕ) (old new : Bounds) (grown : HasGrown old n
         (reason-stands (over new) a why r stands says told) members first,
   )
 
-  sizing-of-stands : (local : Locals) (spots : List Spot) (lacking : Option NoSize) (a : Sizing) (why : NoSize) → Stands (over new) a
+  sizing-of-stands : (local : Locals) (spots : List Spot) (lacking : Option NoSize) (a : Sizing) (why : NoSize) → ReasonStands (over new) a
       → why_by a ≡ Some why → IsSizingOf (setting_of p) (over old) local spots lacking (Unsized (size_reason why))
       → IsSizingOf (setting_of p) (over new) local spots lacking (Unsized (size_reason why))
   sizing-of-stands local spots (Some other) a why stands says h = h
@@ -80,7 +80,7 @@ module _ (p : Program) (pivots : ℕ) (old new : Bounds) (grown : HasGrown old n
   }
 
   -- and the component lacks a size by the same answer
-  pub lacks-still : (c : Candidate) (a : Sizing) → Stands (over new) a → are_open new (spots_in c) ≡ true
+  pub lacks-still : (c : Candidate) (a : Sizing) → ReasonStands (over new) a → are_open new (spots_in c) ≡ true
       → IsAttempt p pivots old c (attempts.Failed a) → IsAttempt p pivots new c (attempts.Failed a)
   lacks-still c a stands unsized h = record {
     unsized = unsized;
@@ -198,7 +198,7 @@ standing-there p pivots first b tab cs xs i c None same h is k = tt
 standing-there p pivots first b tab cs xs i c (Some a) same h is k = record {
   first = first;
   was = was-at p pivots first b cs xs i c (attempts.Failed a) h k.there is;
-  stands = subst (λ (t : Table). Stands t a) same k.stands;
+  stands = subst (λ (t : Table). ReasonStands t a) same k.stands;
 }
 
 -- what stands at a position
@@ -209,7 +209,7 @@ read-at (y ∷ xs) (suc i) x few e = read-at xs i x (omega (arith, few)) e
 
 -- an answer that is given again stands at its position
 pub again-at : (tab : Table) (xs : List Attempt) (i : ℕ) (b : Sizing) (o : Option Sizing) → slice_get xs i ≡ Some (attempts.Failed b)
-    → IfSome o (λ a. (a ≡ b) × Stands tab a) → IfSome o (λ a. StandsAt tab xs i a)
+    → IfSome o (λ a. (a ≡ b) × ReasonStands tab a) → IfSome o (λ a. StandsAt tab xs i a)
 again-at tab xs i b None e h = tt
 again-at tab xs i b (Some a) e h = record {
   there = e ∙ ap (λ (x : Sizing). Some (attempts.Failed x)) (sym h.0);

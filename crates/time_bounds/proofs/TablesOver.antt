@@ -8,7 +8,7 @@ use Rattle.bound_book.specs.declared.find.Find.{Find}
 use Rattle.size_bounds.specs.Tables.{number_at}
 use Rattle.bound_book.specs.Books.{IsBook}
 use Rattle.bound_book.specs.Views.{finds_of}
-pub use Rattle.bound_book.proofs.Known.{table_by_key as table_over, bounds_by_finds as bounds_same, table_by_finds as table_with}
+pub use Rattle.bound_book.proofs.TablesByKey.{table_by_key as table_over, bounds_by_finds as bounds_same, table_by_finds as table_with}
 
 -- the numbers of a book's table are those of its finds
 pub numbers_same : (p : Program) (tab : Table) (finds : List Find) → IsBook p tab finds

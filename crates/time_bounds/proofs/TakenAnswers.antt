@@ -30,7 +30,7 @@ use Rattle.bound_rounds.specs.Searches.{SizedBy, Unsized}
 use Rattle.bound_rounds.specs.Answers as told
 use Rattle.bound_rounds.specs.Answers.{SizesOf, are_open}
 use Rattle.bound_rounds.specs.Rounds.{Tries}
-use Rattle.bound_rounds.proofs.FindLists.{found-here}
+use Rattle.bound_rounds.proofs.FindLists.{found-here, found_known}
 use Rattle.bound_rounds.proofs.Keys.{has_key-first, has_key-later}
 use Rattle.bound_book.specs.declared.find.Find.{Find}
 use Rattle.bound_book.specs.Views.{finds_of}
@@ -49,7 +49,6 @@ use Rattle.time_bounds.specs.ProgramSizes.{AreMembers, IsSizingBy, IsSizingOf, l
 use Rattle.time_bounds.specs.ProgramSearches.{searches_of_program}
 use Rattle.time_bounds.specs.Attempts.{why_in, why_armless, attempt_by, finds_by, LacksSize}
 use Rattle.time_bounds.specs.Attempts.{IsSizeStep}
-use Rattle.time_bounds.proofs.TimeRounds.{found_known}
 
 -- what is answered of a component over bounds
 abbrev pub IsSized : Program → ℕ → Bounds → Candidate → searches.Sizing → Type 0

@@ -1,5 +1,5 @@
 -- The times of a round: the table over which rules are tried, and what was tried of them.
-use Rattle.std.proofs.Common.{◌≡◌, ℕ, zero, suc, ◌+◌, ◌==◌, true, false, List, [], ◌∷◌, ◌++◌, map, filter, Option, Some, None, All}
+use Rattle.std.proofs.Common.{◌≡◌, ℕ, zero, suc, ◌+◌, ◌==◌, true, false, List, [], ◌∷◌, ◌++◌, map, Option, Some, None, All}
 use Rattle.std.proofs.Common.{inl, refl, sym, ◌∙◌, ap, subst, arith}
 use Rattle.std.specs.Prelude.{slice_get}
 use Rattle.std.proofs.lemmas.Bool.{or_left, or_right}
@@ -7,7 +7,7 @@ use Rattle.std.proofs.lemmas.List.Elements.{All-nil, All-cons, All-append}
 use Rattle.model.specs.Bounds.{Bound, Constant}
 use Rattle.model.specs.Entries.{is_in}
 use Rattle.model.specs.Programs.{Program}
-use Rattle.model.proofs.Membership.{same_number, is_in-filter, slice_get-below}
+use Rattle.model.proofs.Membership.{same_number, slice_get-below}
 use Rattle.proof_tree.specs.declared.answer.EmptyAnswer.{EmptyAnswer}
 use Rattle.proof_tree.specs.proof_nodes.AcceptsPlain.{IsRule}
 use Rattle.proof_tree.specs.proof_nodes.Nodes.{Spot}
@@ -21,44 +21,24 @@ use Rattle.bound_rounds.specs.Finds.{bounds_of, bound_found, first_of}
 use Rattle.bound_rounds.specs.Searches.{Searches}
 use Rattle.bound_rounds.specs.Answers as told
 use Rattle.bound_rounds.specs.Answers.{TimeOf, Answer, Lacks, finds_by}
-use Rattle.bound_rounds.specs.Components.{IsEmpty}
 use Rattle.bound_rounds.specs.Right.{AreRight}
-use Rattle.bound_rounds.specs.Rounds.{TriesAll, Together, IsMade, Begun, Made}
-use Rattle.bound_rounds.proofs.FindLists.{first_of-some, found-append, bounds_of-append, bounds_of-kept}
-use Rattle.bound_rounds.proofs.MissingBounds.{rule_bounds}
-use Rattle.bound_rounds.proofs.RuleNumbers.{rule_in, in_rules}
+use Rattle.bound_rounds.specs.Rounds.{TriesAll, Together, IsMade}
+use Rattle.bound_rounds.proofs.EmptyTimes.{empty_timed}
+use Rattle.bound_rounds.proofs.FindLists.{found-append, known_stays, found_known}
+use Rattle.bound_rounds.proofs.RuleNumbers.{in_rules}
 use Rattle.bound_rounds.proofs.TimesStand.{by_answer, round_times_stand}
-use Rattle.bound_rounds.proofs.ZeroTimes.{empties_zero, zero_found}
 use Rattle.bound_book.specs.declared.find.Find.{Find}
 use Rattle.bound_book.specs.Books.{IsBook, IsKey}
 use Rattle.bound_book.specs.Views.{finds_of}
-use Rattle.time_bounds.specs.declared.trying.Tried.{Tried}
+use Rattle.time_bounds.specs.declared.tried_rules.Tried.{Tried}
 use Rattle.time_bounds.specs.ProgramSearches.{searches_of_program}
 use Rattle.time_bounds.specs.Questions.{IsTable}
-use Rattle.time_bounds.specs.Taking.{AreOpenAfter}
-use Rattle.time_bounds.specs.Tries.{AreTried, find_in, finds_in, kept_in, AreAskedOver}
+use Rattle.time_bounds.specs.OpenFinds.{AreOpenAfter}
+use Rattle.time_bounds.specs.TriedRules.{AreTried, find_in, finds_in, kept_in, AreAskedOver}
 use Rattle.time_bounds.proofs.FateLaws.{says, shown}
 use Rattle.time_bounds.proofs.OpenFinds.{HasKeysOfRules, open_standing}
 use Rattle.time_bounds.proofs.Rules.{rule_there}
 use Rattle.time_bounds.proofs.TriedFinds.{asked_over}
-
--- a time that is known stays known when finds are added
-pub known_stays : (p : Program) (fs more : List plain.Find) (t : ℕ) → is_untimed (bounds_of p fs) t ≡ false
-    → is_untimed (bounds_of p (fs ++ more)) t ≡ false
-known_stays p fs more t e = ap lacks (bounds_of-append p fs more t 0) ∙ first (bounds_of p fs t 0) e
-  where
-    first : (o : Option Bound) → lacks o ≡ false → lacks (first_of o (bound_found more t 0)) ≡ false
-    first None e = absurd (let f : ⊥ = cc in f)
-    first (Some b) e = refl
-
--- a bound that is found is known
-pub found_known : (p : Program) (fs more : List plain.Find) (t i : ℕ) → lacks (bound_found more t i) ≡ false
-    → lacks (bounds_of p (fs ++ more) t i) ≡ false
-found_known p fs more t i e = ap lacks (bounds_of-append p fs more t i) ∙ second (bounds_of p fs t i)
-  where
-    second : (o : Option Bound) → lacks (first_of o (bound_found more t i)) ≡ false
-    second None = e
-    second (Some b) = refl
 
 -- what was found of a rule at a position is found of its time
 found_told : (k : ℕ) (tries : List Tried) (i : ℕ) (t : ℕ) (x : Tried) → t ≡ k + i → slice_get tries i ≡ Some x
@@ -90,7 +70,7 @@ pub asked_later : (p : Program) (pivots : ℕ) (empties : List EmptyAnswer) (fs 
     → AreAskedOver p (bounds_of p fs) (bounds_of p (fs ++ finds_in 1 tries)) pivots empties 1 (map kept_in tries)
 asked_later p pivots empties fs tries h =
     asked_over p (bounds_of p fs) (bounds_of p (fs ++ finds_in 1 tries)) pivots empties 1 tries
-    (λ t e. known_stays p fs (finds_in 1 tries) t e)
+    (λ t e. known_stays p fs (finds_in 1 tries) t 0 e)
     (λ i t x e s k. found_known p fs (finds_in 1 tries) t 0 (found_told 1 tries i t x e s k)) h
 
 module _ (q : Searches) (p : Program) (right : AreRight q (setting_of p)) where
@@ -126,19 +106,6 @@ module _ (q : Searches) (p : Program) (right : AreRight q (setting_of p)) where
       open_standing (setting_of p) fs times (keyed fs (rule_numbers p) (λ t m. in_rules p t m) times h)
       (round_times_stand q (setting_of p) right fs times h)
 
--- an empty rule has a time with all finds that rounds make
-pub empty_timed : (q : Searches) (p : Program) (fs : List plain.Find) → IsMade q (setting_of p) fs → (t : ℕ) → IsRule p t
-    → IsEmpty q t → bounds_of p fs t 0 ≡ Some (Constant 0)
-empty_timed q p fs (Begun h) t rule empty =
-    let there = is_in-filter h.is_empty (rule_numbers p) t (rule_in p t rule.rule rule.numbered) ((h.empty t rule).1 empty) in
-    let zero_at = zero_found (filter h.is_empty (rule_numbers p)) h.empties
-    (empties_zero q (filter h.is_empty (rule_numbers p)) h.empties h.are_empties) t there in
-    rule_bounds p fs t 0 rule
-    ∙ (ap (λ (xs : List plain.Find). bound_found xs t 0) h.in_order
-    ∙ (found-append h.empties _ t 0 ∙ first_of-some (bound_found h.empties t 0) _ (Constant 0) zero_at))
-empty_timed q p fs (Made {fs = old} {more = more} m n) t rule empty =
-    bounds_of-kept p old more t 0 (Constant 0) (empty_timed q p old m t rule empty)
-
 -- the table of a book of what rounds make is one as rounds meet it
 pub table_of_book : (p : Program) (pivots : ℕ) (empties : List EmptyAnswer) (tab : Table) (finds : List Find)
     → AreEmptyAnswers p pivots empties → IsMade (searches_of_program p pivots) (setting_of p) (finds_of finds)
@@ -154,5 +121,5 @@ table_of_book p pivots empties tab finds answers made book = record {
     timed zero a found is = absurd (let f : ⊥ = cc in f)
     timed (suc i) a found is =
         let rule = rule_there p i (omega (arith, slice_get-below empties i a found, answers.one_each)) in
-        empty_timed (searches_of_program p pivots) p (finds_of finds) made (suc i) rule
+        empty_timed (searches_of_program p pivots) (setting_of p) (finds_of finds) made (suc i) rule
         (shown p pivots (suc i) rule.rule a rule.numbered (answers.each (suc i) rule.rule a rule.numbered found) (says a is))

@@ -21,11 +21,11 @@ use Rattle.bound_rounds.specs.Rounds.{Tries, TriesAll, Together}
 use Rattle.bound_rounds.proofs.FindLists.{found-here}
 use Rattle.bound_rounds.proofs.Keys.{has_key-first}
 use Rattle.time_bounds.specs.declared.asking.Asked.{Asked}
-use Rattle.time_bounds.specs.declared.trying.Tried.{Tried}
-use Rattle.time_bounds.specs.declared.trying.Tried.TheVariants.{Known, Found, Missing}
+use Rattle.time_bounds.specs.declared.tried_rules.Tried.{Tried}
+use Rattle.time_bounds.specs.declared.tried_rules.Tried.TheVariants.{Known, Found, Missing}
 use Rattle.time_bounds.specs.ProgramSearches.{searches_of_program}
 use Rattle.time_bounds.specs.Questions.{AreKept}
-use Rattle.time_bounds.specs.Tries.{IsTried, AreTried, find_in, finds_in, kept_in, IsAskedOver, AreAskedOver}
+use Rattle.time_bounds.specs.TriedRules.{IsTried, AreTried, find_in, finds_in, kept_in, IsAskedOver, AreAskedOver}
 use Rattle.time_bounds.proofs.AnswerLaws.{missing_tells}
 
 -- one rule more

@@ -15,8 +15,8 @@ use Rattle.proof_tree.specs.declared.gap.Gap.{Gap}
 use Rattle.bound_rounds.specs.Keys.{Bounds}
 use Rattle.bound_rounds.specs.Searches.{Searches}
 use Rattle.time_bounds.specs.declared.asking.Asked.{Asked}
-use Rattle.time_bounds.specs.declared.trying.Tried.{Tried}
-use Rattle.time_bounds.specs.Tries.{IsTried, AreTried, IsAskedOver, AreAskedOver, IsGrown}
+use Rattle.time_bounds.specs.declared.tried_rules.Tried.{Tried}
+use Rattle.time_bounds.specs.TriedRules.{IsTried, AreTried, IsAskedOver, AreAskedOver, IsGrown}
 use Rattle.time_bounds.specs.TimesSaid.{IsTimeOver, AreTimesOver}
 
 -- what was tried of the next rule stands behind what was tried of those before it

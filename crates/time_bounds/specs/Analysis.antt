@@ -11,8 +11,8 @@ use Rattle.time_bounds.specs.ProgramSearches.{searches_of_program}
 use Rattle.time_bounds.specs.Reasons.{time_reason, size_reason}
 use Rattle.time_bounds.specs.Totals.{total_of}
 
--- what is said of the time of rule t is what these finds of the program say: a time that is known with them, or why none
--- is
+-- what is said of the time of rule t is what these finds of the program say: a time that is known with them, or why
+-- none is
 abbrev pub IsTimeOf : Searches → Program → List Find → ℕ → Time → Type 0
 IsTimeOf q p fs t (Timed b) = bounds_of p fs t 0 ≡ Some b
 IsTimeOf q p fs t (Untimed why) = IsNoBound q (setting_of p) fs t 0 (time_reason why)
@@ -43,9 +43,9 @@ abbrev pub bound_in : Time → Option Bound
 bound_in (Timed b) = Some b
 bound_in (Untimed why) = None
 
--- the report is that of the last finds of the rounds, over the searches of the program with so many pivots: of each rule
--- the time that is known with them, or why none is; of each place of its target the size that is, or why none is; and
--- the rewritten sum of all times, where each rule has one
+-- the report is that of the last finds of the rounds, over the searches of the program with so many pivots: of each
+-- rule the time that is known with them, or why none is; of each place of its target the size that is, or why none is;
+-- and the rewritten sum of all times, where each rule has one
 pub record IsAnalysis (p : Program) (pivots : ℕ) (r : Report) : Type 0 where
   pub finds : List Find
   pub last : IsLast (searches_of_program p pivots) (setting_of p) finds

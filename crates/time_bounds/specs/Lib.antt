@@ -10,7 +10,7 @@ pub mod SearchLaws
 -- what is asked of rules, and what a round makes of them
 pub mod Questions
 pub mod Needs
-pub mod Tries
+pub mod TriedRules
 pub mod TimesSaid
 pub mod Shutting
 pub mod Parts
@@ -20,8 +20,8 @@ pub mod Candidates
 pub mod Attempts
 pub mod SizeSaid
 -- what stands of earlier rounds, and what rounds make
-pub mod Standing
-pub mod Taking
+pub mod EarlierAnswers
+pub mod OpenFinds
 pub mod RoundsMade
 -- what is found before the first round
 pub mod Fates

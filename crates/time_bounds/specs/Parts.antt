@@ -9,15 +9,17 @@ use Rattle.bound_book.specs.ByKey.{bounds_in}
 use Rattle.size_bounds.specs.declared.table.Table.{Table}
 use Rattle.time_bounds.specs.declared.parts.OpenSet.{OpenSet}
 use Rattle.time_bounds.specs.declared.parts.Parts.{Parts}
+use Rattle.time_bounds.specs.Questions.{AreUntimed}
 
 -- this is the set of the rule, with its shut places
 pub record IsOpenSet (p : Program) (tab : Table) (t : ℕ) (s : OpenSet) : Type 0 where
   pub set : IsSetOfRule p (bounds_in tab) t s.set.items
   pub shut : AreShutOf p (bounds_in tab) s.set.items (places_of s.shut.items)
 
--- rules without a time that are in one component have the same set, and what was found of a component is the set of
--- each of them, with its shut places
+-- the flags say which rules have no time; those that are in one component have the same set, and what was found of a
+-- component is the set of each of them, with its shut places
 pub record AreParts (p : Program) (tab : Table) (parts : Parts) : Type 0 where
+  pub flags : AreUntimed p tab parts.untimed.items
   pub one_each : length parts.of_rules.items ≡ suc (length p.rules)
   pub within : (t m : ℕ) → slice_index_or parts.of_rules.items t None ≡ Some m → m < length parts.found.items
   pub same : HaveSameSets p (is_untimed (bounds_in tab)) parts.of_rules.items

@@ -30,6 +30,7 @@ ArePrintable n (Some b ∷ os) = IsPrintableBound n b × ArePrintable n os
 -- and the total of such times is one of them
 pub record FoundBoundsArePrintable : Type 0 where
   pub finds : (p : Program) (pivots : ℕ) (fs : List Find) → IsValid p
-      → IsMade (searches_of_program p pivots) (setting_of p) fs → ArePrintableBounds (length p.start_names) (bounds_of p fs)
+      → IsMade (searches_of_program p pivots) (setting_of p) fs
+      → ArePrintableBounds (length p.start_names) (bounds_of p fs)
   pub totals : (n : ℕ) (times : List (Option Bound)) (b : Bound) → ArePrintable n times → total_of times ≡ Some b
       → IsPrintableBound n b

@@ -1,4 +1,4 @@
--- What is answered of the places of a program within some pivots: what `local` does, and which node gives places a size.
+-- What is answered of the places of a program within some pivots: what `local` does, and which node gives a size.
 use Rattle.std.specs.Prelude.{◌≡◌, ◌↔◌, ℕ, Bool, true, false, List, [], ◌∷◌, map, Option, Some, None}
 use Rattle.std.specs.List.{All}
 use Rattle.model.specs.Programs.{Program, Rule, rule_at}

@@ -15,8 +15,8 @@ use Rattle.time_bounds.specs.declared.sizing.Attempt.{Attempt}
 use Rattle.time_bounds.specs.Candidates.{spots_in}
 use Rattle.time_bounds.specs.ProgramSearches.{searches_of_program}
 use Rattle.time_bounds.specs.Questions.{AreKept, program_in}
-use Rattle.time_bounds.specs.Standing.{WereAttempts}
-use Rattle.time_bounds.specs.Tries.{AreAskedOver}
+use Rattle.time_bounds.specs.EarlierAnswers.{WereAttempts}
+use Rattle.time_bounds.specs.TriedRules.{AreAskedOver}
 
 -- what is known with finds
 abbrev pub known_with : Context → List Find → Bounds
@@ -49,10 +49,12 @@ pub record AreTimesMade (cx : Context) (old new : List Find) (asked : List (Opti
       (finds_of old) (map TimeOf (rule_numbers (program_in cx))) times
   pub grown : finds_of new ≡ finds_of old ++ times
   pub one_each : length asked ≡ length (program_in cx).rules
-  pub asked_are : AreAskedOver (program_in cx) (known_with cx old) (known_with cx new) cx.pivots cx.empties.items 1 asked
+  pub asked_are : AreAskedOver (program_in cx) (known_with cx old) (known_with cx new) cx.pivots cx.empties.items 1
+      asked
 
 -- the components were tried one after the other, and this was made of them
-pub record AreSizesMade (cx : Context) (cs : List Candidate) (old new : List Find) (attempts : List Attempt) : Type 0 where
+pub record AreSizesMade (cx : Context) (cs : List Candidate) (old new : List Find) (attempts : List Attempt)
+    : Type 0 where
   pub sizes : List plain.Find
   pub sized : TriesAll (searches_of_program (program_in cx) cx.pivots) (setting_of (program_in cx)) InTurn
       (finds_of old) (map SizesOf (map spots_in cs)) sizes

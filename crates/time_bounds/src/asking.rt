@@ -4,8 +4,7 @@ ghost use Rattle.std.specs.Prelude.{◌≡◌, ◌<◌, ◌≤◌, true, IfOk, I
 ghost use Rattle.rank_search.specs.RankAnswers.{IsRuleSet, MayAllRun};
 ghost use Rattle.bound_book.specs.ByKey.{bounds_in};
 ghost use Rattle.time_bounds.specs.Parts.{AreParts};
-ghost use Rattle.time_bounds.specs.Questions.{AreUntimed, IsAnswered, IsAsked, IsReady, program_in};
-ghost use Rattle.time_bounds.specs.Questions.{IsSameQuestion, KnowsEmpty};
+ghost use Rattle.time_bounds.specs.Questions.{IsAnswered, IsAsked, IsReady, IsSameQuestion, IsTable, program_in};
 
 use crate::context::Context;
 use crate::parts::{OpenSet, Parts, open_set};
@@ -26,23 +25,20 @@ pub(crate) struct Asked {
 pub(crate) fn ask(
     cx: &Context,
     table: &Table,
-    untimed: &[bool],
     parts: &mut Parts,
     rule: u32,
     before: Option<Asked>,
 ) -> Result<Asked, Memory>
     requires ready { IsReady cx.now }
-    requires flags { AreUntimed (program_in cx.now) table.now untimed.now }
-    requires start { slice_index_or untimed.now 0 false ≡ false }
-    requires untimed_rule { slice_index_or untimed.now rule false ≡ true }
+    requires table { IsTable (program_in cx.now) table.now cx.now.empties.items }
     requires parts { AreParts (program_in cx.now) table.now parts.old }
-    requires empty { KnowsEmpty (program_in cx.now) table.now cx.now.empties.items }
+    requires untimed { slice_index_or parts.old.untimed.items rule false ≡ true }
     requires kept { IfSome before (λ a. IsAnswered (program_in cx.now) cx.now.pivots cx.now.empties.items rule a) }
     ensures asked { IfOk result (λ a. IsAsked (program_in cx.now) (bounds_in table.now) rule a) }
     ensures answered { IfOk result (λ a. IsAnswered (program_in cx.now) cx.now.pivots cx.now.empties.items rule a) }
     ensures parts { OnOk result (AreParts (program_in cx.now) table.now parts.new) }
 {
-    let found = open_set(cx, table, untimed, parts, rule)?;
+    let found = open_set(cx, table, parts, rule)?;
     let OpenSet { set, shut } = found;
     answered(cx, rule, set, shut, before)
 }

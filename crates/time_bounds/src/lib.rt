@@ -2,11 +2,12 @@
 //! report is read off the last finds of the rounds, each bound holds on all runs, each missing bound has its reason,
 //! which is so of the program, and the total, where every rule has a time, bounds the length of every run. The lemmas
 //! are those of the finds in their order and are accepted, and each known bound has the number of one that states it. A
-//! program has one analysis within a number of pivots.
+//! program has one analysis within a number of pivots, its lemmas, its gaps and their numbers among it.
 #![tactic(auto)]
 
 mod analysing;
 mod asking;
+mod beginning;
 mod candidates;
 mod context;
 mod copies;
@@ -14,16 +15,15 @@ mod fates;
 mod law;
 mod locals;
 mod needs;
+mod new_finds;
 mod parts;
 mod reasons;
 mod rounds;
 mod sets;
 mod size_reasons;
 mod sizing;
-mod starting;
-mod taking;
 mod totals;
-mod trying;
+mod tried_rules;
 
 pub use analysing::analyse;
 pub use law::{

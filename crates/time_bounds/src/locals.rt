@@ -72,40 +72,33 @@ fn locals_after(cx: &Context, position: usize, fate: Fate) -> Result<Vec<LocalAn
         Fate::Live => {
             let arity = cx.program.symbols[cx.program.rules[position].target as usize].arity;
             let rule = position as u32 + 1;
-            live_locals(
-                cx.alloc,
-                &cx.preps[position],
-                rule,
-                arity,
-                &cx.empties[position],
-                cx.pivots,
-            )
+            live_locals(cx, &cx.preps[position], rule, arity, &cx.empties[position])
         }
     }
 }
 
 // The answers for so many places of a rule.
 fn live_locals(
-    alloc: Global,
+    cx: &Context,
     prep: &RuleRows,
     rule: u32,
     arity: u32,
     empty: &EmptyAnswer,
-    pivots: u32,
 ) -> Result<Vec<LocalAnswer>, Memory>
     requires prepared { IsPrepared prep.now }
     requires places { length prep.now.news.items ≡ arity }
     requires may_run { ¬ SaysEmpty empty.now }
     ensures one_each { IfOk result (λ answers. length answers.items ≡ arity) }
-    ensures each { IfOk result (λ answers. AreAnswersAt (prepared_of prep.now) rule pivots empty.now 1 answers.items) }
+    ensures each { IfOk result (λ answers. AreAnswersAt (prepared_of prep.now) rule cx.now.pivots empty.now 1
+        answers.items) }
 {
-    let mut answers = Vec::new(alloc);
+    let mut answers = Vec::new(cx.alloc);
     for position in 0..arity {
         let spot = Spot {
             rule,
             place: position + 1,
         };
-        answers.push(local(alloc, prep, spot, empty, pivots)?)?;
+        answers.push(local(cx.alloc, prep, spot, empty, cx.pivots)?)?;
     }
     Ok(answers)
 }

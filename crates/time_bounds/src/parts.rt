@@ -1,11 +1,11 @@
-//! The sets of rules without a time, with their shut places: those of a component are made once in a round.
+//! The rules without a time and their sets, with their shut places: those of a component are made once in a round.
 
 ghost use Rattle.std.specs.Prelude.{◌≡◌, IfOk, OnOk, Some, None, replicate, slice_index_or, true, false};
 ghost use Rattle.time_bounds.specs.Parts.{AreParts, IsOpenSet};
-ghost use Rattle.time_bounds.specs.Questions.{AreUntimed, IsReady, program_in};
+ghost use Rattle.time_bounds.specs.Questions.{AreUntimed, IsReady, IsTable, program_in};
 
 use crate::context::Context;
-use crate::sets::shut_places;
+use crate::sets::{shut_places, untimed_rules};
 use model::Memory;
 use proof_tree::entries;
 use size_bounds::Table;
@@ -18,24 +18,31 @@ pub(crate) struct OpenSet {
     pub shut: Vec<(u32, u32)>,
 }
 
-/// The sets of a round, by components of the graph of the rules without a time.
+/// The rules without a time, and their sets, by components of the graph of these rules.
 #[derive(Debug, Drop)]
 pub(crate) struct Parts {
+    /// Which rules have no time; the virtual entry, at 0, has one.
+    pub untimed: Vec<bool>,
     /// The component that each rule stays in, where it stays in one.
     pub of_rules: Vec<Option<u32>>,
     /// What was found of each component.
     pub found: Vec<Option<OpenSet>>,
 }
 
-/// The components of the graph of the rules without a time; nothing was found of any.
-pub(crate) fn parts_of(cx: &Context, table: &Table, untimed: &[bool]) -> Result<Parts, Memory>
+/// The rules that have no time in a table, and the components of their graph; nothing was found of any.
+pub(crate) fn parts_of(cx: &Context, table: &Table) -> Result<Parts, Memory>
     requires ready { IsReady cx.now }
-    requires flags { AreUntimed (program_in cx.now) table.now untimed.now }
+    requires table { IsTable (program_in cx.now) table.now cx.now.empties.items }
     ensures { IfOk result (λ parts. AreParts (program_in cx.now) table.now parts) }
 {
-    let of_rules = cx.graph.parts(cx.alloc, untimed)?;
+    let untimed = untimed_rules(cx.alloc, table)?;
+    let of_rules = cx.graph.parts(cx.alloc, &untimed)?;
     let found = nothing_found(cx.alloc, cx.graph.symbols)?;
-    Ok(Parts { of_rules, found })
+    Ok(Parts {
+        untimed,
+        of_rules,
+        found,
+    })
 }
 
 // Nothing was found of so many components.
@@ -54,21 +61,19 @@ fn nothing_found(alloc: Global, count: usize) -> Result<Vec<Option<OpenSet>>, Me
 pub(crate) fn open_set(
     cx: &Context,
     table: &Table,
-    untimed: &[bool],
     parts: &mut Parts,
     rule: u32,
 ) -> Result<OpenSet, Memory>
     requires ready { IsReady cx.now }
-    requires flags { AreUntimed (program_in cx.now) table.now untimed.now }
-    requires start { slice_index_or untimed.now 0 false ≡ false }
-    requires untimed_rule { slice_index_or untimed.now rule false ≡ true }
+    requires table { IsTable (program_in cx.now) table.now cx.now.empties.items }
     requires parts { AreParts (program_in cx.now) table.now parts.old }
+    requires untimed { slice_index_or parts.old.untimed.items rule false ≡ true }
     ensures set { IfOk result (λ s. IsOpenSet (program_in cx.now) table.now rule s) }
     ensures parts { OnOk result (AreParts (program_in cx.now) table.now parts.new) }
 {
     match parts.of_rules[rule as usize] {
-        Some(part) => set_of_part(cx, table, untimed, parts, rule, part),
-        None => made_set(cx, table, untimed, rule),
+        Some(part) => set_of_part(cx, table, parts, rule, part),
+        None => made_set(cx, table, &parts.untimed, rule),
     }
 }
 
@@ -76,16 +81,14 @@ pub(crate) fn open_set(
 fn set_of_part(
     cx: &Context,
     table: &Table,
-    untimed: &[bool],
     parts: &mut Parts,
     rule: u32,
     part: u32,
 ) -> Result<OpenSet, Memory>
     requires ready { IsReady cx.now }
-    requires flags { AreUntimed (program_in cx.now) table.now untimed.now }
-    requires start { slice_index_or untimed.now 0 false ≡ false }
-    requires untimed_rule { slice_index_or untimed.now rule false ≡ true }
+    requires table { IsTable (program_in cx.now) table.now cx.now.empties.items }
     requires parts { AreParts (program_in cx.now) table.now parts.old }
+    requires untimed { slice_index_or parts.old.untimed.items rule false ≡ true }
     requires part { slice_index_or parts.old.of_rules.items rule None ≡ Some part }
     ensures set { IfOk result (λ s. IsOpenSet (program_in cx.now) table.now rule s) }
     ensures parts { OnOk result (AreParts (program_in cx.now) table.now parts.new) }
@@ -94,7 +97,7 @@ fn set_of_part(
         let copy = copied_set(cx.alloc, known)?;
         return Ok(copy);
     }
-    let made = made_set(cx, table, untimed, rule)?;
+    let made = made_set(cx, table, &parts.untimed, rule)?;
     let copy = copied_set(cx.alloc, &made)?;
     parts.found[part as usize] = Some(copy);
     Ok(made)
@@ -113,8 +116,8 @@ fn copied_set(alloc: Global, first: &OpenSet) -> Result<OpenSet, Memory>
 // The set of a rule without a time, and its shut places, from the graph.
 fn made_set(cx: &Context, table: &Table, untimed: &[bool], rule: u32) -> Result<OpenSet, Memory>
     requires ready { IsReady cx.now }
+    requires table { IsTable (program_in cx.now) table.now cx.now.empties.items }
     requires flags { AreUntimed (program_in cx.now) table.now untimed.now }
-    requires start { slice_index_or untimed.now 0 false ≡ false }
     requires untimed_rule { slice_index_or untimed.now rule false ≡ true }
     ensures { IfOk result (λ s. IsOpenSet (program_in cx.now) table.now rule s) }
 {

@@ -13,7 +13,7 @@ ghost use Rattle.size_bounds.specs.Tables.{number_at};
 ghost use Rattle.bound_book.specs.ByKey.{bounds_in};
 ghost use Rattle.time_bounds.specs.ProgramSearches.{searches_of_program};
 ghost use Rattle.time_bounds.specs.Questions.{IsReady, program_in};
-ghost use Rattle.time_bounds.specs.Tries.{IsAskedOver, AreAskedOver, IsMissing, IsGrown};
+ghost use Rattle.time_bounds.specs.TriedRules.{IsAskedOver, AreAskedOver, IsMissing, IsGrown};
 ghost use Rattle.time_bounds.specs.TimesSaid.{IsTimeOver, AreTimesOver, IsKnownTime};
 ghost use Rattle.time_bounds.specs.AnalysisLemmas.{CarriesTime, CarryTimes, AreGapsInOrder};
 
@@ -51,8 +51,8 @@ pub(crate) fn said_of(
     ensures said { IfOk result (λ said. AreTimesOver (searches_of_program (program_in cx.now) cx.now.pivots)
         (program_in cx.now) (bounds_in table.now) 1 (map (time_of said.gaps.items) said.times.items)) }
     ensures gaps { IfOk result (λ said. All (HasItsGap (length said.gaps.items)) said.times.items) }
-    ensures hold { IfOk result (λ said. All (λ g. GapHolds (program_in cx.now) (forms_at (program_in cx.now)) (gap_of g))
-        said.gaps.items) }
+    ensures hold { IfOk result (λ said. All
+        (λ g. GapHolds (program_in cx.now) (forms_at (program_in cx.now)) (gap_of g)) said.gaps.items) }
     ensures carried { IfOk result (λ said. CarryTimes (number_at table.now) 1 said.times.items) }
     ensures in_order { IfOk result (λ said. AreGapsInOrder 0 said.times.items (length said.gaps.items)) }
 {

@@ -14,16 +14,15 @@ ghost use Rattle.time_bounds.specs.Questions.{IsReady, program_in};
 ghost use Rattle.time_bounds.specs.Candidates.{IsCandidate, AreCandidatesOf, spots_in};
 ghost use Rattle.time_bounds.specs.Attempts.{IsSizeStep, ArePlacesOf, attempt_by, finds_by as finds_by_of, node_in};
 ghost use Rattle.time_bounds.specs.Attempts.{has_arms};
-ghost use Rattle.time_bounds.specs.Standing.{Stands, StandsAt, IsStanding, WereAttempts};
+ghost use Rattle.time_bounds.specs.EarlierAnswers.{ReasonStands, StandsAt, IsStanding, WereAttempts};
 ghost use Rattle.time_bounds.specs.RoundsMade.{known_with, AreMadeWithTimes, AreSizesMade};
 
 use crate::candidates::{Arms, Candidate};
 use crate::context::Context;
-use crate::copies::{copied_member, copied_members};
-use bound_book::{Book, Node, is_known};
+use bound_book::{Book, Find, Node, is_known};
 use model::Memory;
 use proof_tree::Spot;
-use size_bounds::{Sizing, Table, sized_cycle, sized_spread};
+use size_bounds::{Sizing, Table, copied_member, copied_members, sized_cycle, sized_spread};
 use std::alloc::Global;
 
 /// What a round made of a component.
@@ -83,7 +82,7 @@ fn standing(table: &Table, before: &[Attempt], position: usize) -> Option<Sizing
 
 // An answer by which there was no size, where its reason stands over the table.
 fn again(table: &Table, answer: &Sizing) -> Option<Sizing>
-    ensures { IfSome result (λ a. (a ≡ answer.now) × Stands (table_of table.now) a) }
+    ensures { IfSome result (λ a. (a ≡ answer.now) × ReasonStands (table_of table.now) a) }
 {
     match answer {
         Sizing::Found { .. } => None,
@@ -184,7 +183,13 @@ fn take(
         Sizing::Found { needs, bound } => {
             let spots = Vec::from_slice(cx.alloc, &candidate.spots)?;
             let node = node_by(cx.alloc, &candidate.arms)?;
-            book.take(cx.alloc, spots, node, needs, bound)?;
+            let find = Find {
+                keys: spots,
+                node,
+                needs,
+                bound,
+            };
+            book.take(cx.alloc, find)?;
             Ok(Attempt::Found)
         }
         Sizing::Missing(spot) => Ok(Attempt::Failed(Sizing::Missing(spot))),

@@ -1,4 +1,4 @@
-use Rattle.bound_book.proofs.Started.{arguments_more}
+use Rattle.bound_book.proofs.StartIndex.{arguments_more}
 use Rattle.bound_book.proofs.starting.arguments.Goals as goal
 
 pub loop-place-preserved : goal.loop-place-preserved

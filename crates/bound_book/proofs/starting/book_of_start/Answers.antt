@@ -2,7 +2,7 @@ use Rattle.std.proofs.Common.{subst, ℕ, arith}
 use Rattle.std.proofs.lemmas.List.{length-map}
 use Rattle.its_model.specs.Views.{program_of, rule_of}
 use Rattle.bound_book.specs.Starting.{AreStartTimes}
-use Rattle.bound_book.proofs.Started.{started}
+use Rattle.bound_book.proofs.StartIndex.{started}
 use Rattle.bound_book.proofs.starting.book_of_start.Goals as goal
 
 pub returns-clause-book : goal.returns-clause-book

@@ -11,7 +11,7 @@ use Rattle.its_model.specs.Views.{rule_of, symbol_of, program_of}
 use Rattle.its_model.proofs.ListLaws.{mapped-all, mapped-get}
 use Rattle.outcome.specs.declared.entry.Stored.{Stored}
 use Rattle.bound_book.specs.Starting.{AreFirstRows}
-use Rattle.bound_book.proofs.Started.{rows_more}
+use Rattle.bound_book.proofs.StartIndex.{rows_more}
 use Rattle.bound_book.proofs.starting.start_sizes.Goals as goal
 
 -- the rules of a valid program lead to its symbols

@@ -9,7 +9,7 @@ use Rattle.bound_book.specs.declared.find.Find.{Find}
 use Rattle.bound_book.specs.Views.{finds_of}
 use Rattle.time_bounds.specs.ProgramSearches.{searches_of_program}
 use Rattle.time_bounds.specs.Questions.{program_in}
-use Rattle.time_bounds.specs.Taking.{AreOpenAfter}
+use Rattle.time_bounds.specs.OpenFinds.{AreOpenAfter}
 use Rattle.time_bounds.proofs.FirstKeys.{first_keyed}
 use Rattle.time_bounds.proofs.FirstOrder.{first_of_fates}
 use Rattle.time_bounds.proofs.OpenFinds.{open_standing}

@@ -15,7 +15,7 @@ use Rattle.time_bounds.specs.RoundsMade.{known_with}
 use Rattle.time_bounds.specs.SizeSaid.{said_table, put_whys, AreThere}
 use Rattle.time_bounds.specs.TimesSaid.{AreTimesOver}
 use Rattle.time_bounds.specs.Totals.{time_in, total_of}
-use Rattle.time_bounds.specs.Tries.{AreAskedOver}
+use Rattle.time_bounds.specs.TriedRules.{AreAskedOver}
 use Rattle.time_bounds.proofs.CarriedSizes.{rows_left}
 use Rattle.time_bounds.proofs.FoundLemmas.{has_lemmas}
 use Rattle.time_bounds.proofs.MadeRounds.{round_closed}

@@ -13,16 +13,18 @@ pub answered-requires-clause-rules : goal.answered-requires-clause-rules
 answered-requires-clause-rules c =
     let p = program_of c.args.cx.now.program.now in
     let tab = bounds_in c.args.table.now in
-    let open_is = open_rule p c.args.table.now c.args.untimed.now c.args.rule c.requires.flags c.requires.start c.requires.untimed_rule in
+    let open_is = open_rule p c.args.table.now c.args.parts.now.untimed.items c.args.rule c.requires.parts.flags c.requires.table.start
+    c.requires.untimed in
     rule_set p tab c.args.rule c.in_ok-found.found.set.items open_is.start open_is.rule c.in_ok-found.ensures.set.set
 
 pub answered-requires-clause-may_run : goal.answered-requires-clause-may_run
 answered-requires-clause-may_run c =
     let p = program_of c.args.cx.now.program.now in
     let tab = bounds_in c.args.table.now in
-    let open_is = open_rule p c.args.table.now c.args.untimed.now c.args.rule c.requires.flags c.requires.start c.requires.untimed_rule in
+    let open_is = open_rule p c.args.table.now c.args.parts.now.untimed.items c.args.rule c.requires.parts.flags c.requires.table.start
+    c.requires.untimed in
     may_all_run p tab c.args.rule c.in_ok-found.found.set.items c.args.cx.now.empties.items open_is.untimed c.in_ok-found.ensures.set.set
-    c.requires.empty.each
+    c.requires.table.empty.each
 
 pub returns-clause-asked : goal.returns-clause-asked
 returns-clause-asked c =

@@ -14,10 +14,10 @@ loop-position-preserved c =
     let a = c.in_ok-local.field-0 in
     let old = c.loop-position.answers.items in
     let number : c.loop-position.position + 1 ≡ 1 + length old = omega (arith, c.loop-position.invariant.long) in
-    let one : IsLocal m (spot c.args.rule (c.loop-position.position + 1)) c.args.pivots c.args.empty.now (local_answer_of a) = c.in_ok-local.ensures in
-    let more = answer_more m c.args.rule c.args.pivots c.args.empty.now 1 old a c.loop-position.invariant.each
-    (subst (λ (n : ℕ). IsLocal m (spot c.args.rule n) c.args.pivots c.args.empty.now (local_answer_of a)) number one) in
+    let one : IsLocal m (spot c.args.rule (c.loop-position.position + 1)) c.args.cx.now.pivots c.args.empty.now (local_answer_of a) = c.in_ok-local.ensures in
+    let more = answer_more m c.args.rule c.args.cx.now.pivots c.args.empty.now 1 old a c.loop-position.invariant.each
+    (subst (λ (n : ℕ). IsLocal m (spot c.args.rule n) c.args.cx.now.pivots c.args.empty.now (local_answer_of a)) number one) in
     record {
       long = omega (arith, ap (λ (xs : List LocalAnswer). length xs) c.in_ok-push.ensures.items, length-append old (a ∷ []), c.loop-position.invariant.long);
-      each = subst (λ (xs : List LocalAnswer). AreAnswersAt m c.args.rule c.args.pivots c.args.empty.now 1 xs) (sym c.in_ok-push.ensures.items) more;
+      each = subst (λ (xs : List LocalAnswer). AreAnswersAt m c.args.rule c.args.cx.now.pivots c.args.empty.now 1 xs) (sym c.in_ok-push.ensures.items) more;
     }

@@ -1,4 +1,4 @@
-use Rattle.std.proofs.Common.{◌≡◌, length, sym, ap, ◌∙◌}
+use Rattle.std.proofs.Common.{◌≡◌, length, sym, ap, ◌∙◌, arith}
 use Rattle.std.proofs.lemmas.List.{length-map}
 use Rattle.its_model.specs.Views.{symbol_of, program_of}
 use Rattle.model.specs.Entries.{entries}
@@ -7,6 +7,9 @@ use Rattle.bound_book.specs.ByKey.{bounds_in}
 use Rattle.time_bounds.proofs.SetLaws.{set_of_rule}
 use Rattle.time_bounds.proofs.ShutBySymbol.{shut_right}
 use Rattle.time_bounds.proofs.parts.made_set.Goals as goal
+
+pub back_closure-requires-clause-entry : goal.back_closure-requires-clause-entry
+back_closure-requires-clause-entry c = c.requires.flags.each 0 (omega arith) ∙ c.requires.table.start
 
 pub returns : goal.returns
 returns c =

@@ -14,7 +14,7 @@ returns-in-Some-clause-set c =
     let low = c.requires.parts.within c.args.rule c.args.part c.requires.part in
     let there : get_or parts.found.items c.args.part None ≡ Some c.in-Some.known =
     get_or_default parts.found.items c.args.part None c.index.result.now low ∙ (sym c.index.ensures ∙ c.in-Some.is) in
-    let open_is = open_rule p tab c.args.untimed.now c.args.rule c.requires.flags c.requires.start c.requires.untimed_rule in
+    let open_is = open_rule p tab c.args.parts.now.untimed.items c.args.rule c.requires.parts.flags c.requires.table.start c.requires.untimed in
     open_copy p tab c.args.rule c.in-Some.known c.in_ok-copy.copy c.in_ok-copy.ensures.set c.in_ok-copy.ensures.shut
     (c.requires.parts.found c.args.rule c.args.part c.in-Some.known open_is.untimed c.requires.part there)
 
@@ -23,8 +23,8 @@ pub returns-clause-parts : goal.returns-clause-parts
 returns-clause-parts c =
     let p = program_of c.args.cx.now.program.now in
     let tab = c.args.table.now in
-    let open_is = open_rule p tab c.args.untimed.now c.args.rule c.requires.flags c.requires.start c.requires.untimed_rule in
+    let open_is = open_rule p tab c.args.parts.now.untimed.items c.args.rule c.requires.parts.flags c.requires.table.start c.requires.untimed in
     let copy = c.in_ok-copy-2.copy in
-    found_more p tab c.args.parts.now _ c.args.rule c.args.part copy refl refl open_is.untimed c.requires.part
+    found_more p tab c.args.parts.now _ c.args.rule c.args.part copy refl refl refl open_is.untimed c.requires.part
     (open_copy p tab c.args.rule c.in_ok-made.made copy c.in_ok-copy-2.ensures.set c.in_ok-copy-2.ensures.shut c.in_ok-made.ensures)
     c.requires.parts

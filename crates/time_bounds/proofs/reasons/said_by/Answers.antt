@@ -5,7 +5,7 @@ use Rattle.time_bounds.specs.declared.asking.Asked.{Asked}
 use Rattle.time_bounds.specs.AnalysisLemmas.{AreGapsInOrder}
 use Rattle.time_bounds.specs.Questions.{program_in}
 use Rattle.time_bounds.specs.TimesSaid.{IsKnownTime}
-use Rattle.time_bounds.specs.Tries.{IsAskedOver}
+use Rattle.time_bounds.specs.TriedRules.{IsAskedOver}
 use Rattle.time_bounds.proofs.CarriedTimes.{known_ordered}
 use Rattle.time_bounds.proofs.reasons.said_by.Goals as goal
 

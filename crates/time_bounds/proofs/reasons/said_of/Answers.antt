@@ -10,7 +10,7 @@ use Rattle.bound_book.specs.ByKey.{bounds_in}
 use Rattle.time_bounds.specs.ProgramSearches.{searches_of_program}
 use Rattle.time_bounds.specs.Questions.{program_in}
 use Rattle.time_bounds.specs.TimesSaid.{AreTimesOver}
-use Rattle.time_bounds.specs.Tries.{IsAskedOver}
+use Rattle.time_bounds.specs.TriedRules.{IsAskedOver}
 use Rattle.time_bounds.proofs.CarriedTimes.{times_carried, gaps_ordered}
 use Rattle.time_bounds.proofs.TriedLists.{asked_read, said_grown, gaps_grown, grown_few}
 use Rattle.time_bounds.proofs.reasons.said_of.Goals as goal

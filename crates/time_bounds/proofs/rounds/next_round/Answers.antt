@@ -11,7 +11,7 @@ use Rattle.time_bounds.specs.Candidates.{spots_in}
 use Rattle.time_bounds.specs.ProgramSearches.{searches_of_program}
 use Rattle.time_bounds.specs.Questions.{program_in}
 use Rattle.time_bounds.specs.RoundsMade.{known_with}
-use Rattle.time_bounds.specs.Standing.{WereAttempts}
+use Rattle.time_bounds.specs.EarlierAnswers.{WereAttempts}
 use Rattle.time_bounds.proofs.CandidateComponents.{are_components, live_components}
 use Rattle.time_bounds.proofs.StandingAnswers.{grown-itself, grown-by, were-wider, asked_still}
 use Rattle.time_bounds.proofs.rounds.next_round.Goals as goal

@@ -5,7 +5,7 @@ use Rattle.time_bounds.specs.declared.asking.Asked.{Asked}
 use Rattle.time_bounds.specs.declared.sizing.Attempt.{Attempt}
 use Rattle.time_bounds.specs.Questions.{AreKept, program_in}
 use Rattle.time_bounds.specs.RoundsMade.{known_with}
-use Rattle.time_bounds.specs.Standing.{WereAttempts}
+use Rattle.time_bounds.specs.EarlierAnswers.{WereAttempts}
 use Rattle.time_bounds.proofs.KeptQuestions.{none_kept}
 use Rattle.time_bounds.proofs.MadeRounds.{round_made, round_kept, same_finds, fewer_missing}
 use Rattle.time_bounds.proofs.StandingAnswers.{were-none}

@@ -8,8 +8,8 @@ use Rattle.time_bounds.specs.declared.asking.Asked.{Asked}
 use Rattle.time_bounds.specs.ProgramSearches.{searches_of_program}
 use Rattle.time_bounds.specs.Questions.{program_in}
 use Rattle.time_bounds.specs.RoundsMade.{known_with}
-use Rattle.time_bounds.specs.Taking.{AreOpenAfter}
-use Rattle.time_bounds.specs.Tries.{AreTried, AreAskedOver, finds_in, kept_in}
+use Rattle.time_bounds.specs.OpenFinds.{AreOpenAfter}
+use Rattle.time_bounds.specs.TriedRules.{AreTried, AreAskedOver, finds_in, kept_in}
 use Rattle.time_bounds.proofs.RightSizings.{program_searches_right}
 use Rattle.time_bounds.proofs.TablesOver.{bounds_same}
 use Rattle.time_bounds.proofs.TimeRounds.{asked_later, times_open, table_of_book}

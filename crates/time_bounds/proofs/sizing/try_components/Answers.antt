@@ -13,7 +13,7 @@ use Rattle.time_bounds.specs.Candidates.{IsCandidate, spots_in}
 use Rattle.time_bounds.specs.ProgramSearches.{searches_of_program}
 use Rattle.time_bounds.specs.Questions.{program_in}
 use Rattle.time_bounds.specs.RoundsMade.{known_with, AreSizesMade}
-use Rattle.time_bounds.specs.Standing.{WereAttempts}
+use Rattle.time_bounds.specs.EarlierAnswers.{WereAttempts}
 use Rattle.time_bounds.proofs.CandidateComponents.{within_all}
 use Rattle.time_bounds.proofs.SizeRounds.{tries_more, were-append, one_at, one_before, uniform_with}
 use Rattle.time_bounds.proofs.StandingAnswers.{grown-itself, grown-by, were-wider, standing-there}

@@ -1,0 +1,164 @@
+-- The outcome of an analysis with its lemmas is one: its report tells its gaps and what its entries carry.
+use Rattle.std.proofs.Common.{◌≡◌, ℕ, zero, suc, ◌<◌, ◌≤◌, List, [], ◌∷◌, length, map, refl, sym, ◌∙◌, ap, arith}
+use Rattle.std.specs.declared.alloc.Global.{Global}
+use Rattle.std.specs.declared.vec.Vec.{Vec}
+use Rattle.model.specs.Programs.{Program}
+use Rattle.outcome.specs.Reports.{Time, Timed, Untimed, NoFunction, TimeTripped, TimeLarge, Size, Sized, Unsized, Report}
+use Rattle.outcome.specs.Views.{numbered_gap, time_of, size_of, report_of}
+use Rattle.outcome.specs.declared.entry.TimeEntry.{TimeEntry}
+use Rattle.outcome.specs.declared.entry.TimeEntry.TheVariants as times
+use Rattle.outcome.specs.declared.entry.SizeEntry.{SizeEntry}
+use Rattle.outcome.specs.declared.entry.SizeEntry.TheVariants as sizes
+use Rattle.outcome.specs.declared.outcome_of.Outcome.{Outcome}
+use Rattle.proof_tree.specs.proof_nodes.Gaps.{Gap}
+use Rattle.proof_tree.specs.proof_setting.Setting.{setting_of}
+use Rattle.proof_tree.specs.AnswerViews.{gap_of}
+use Rattle.proof_tree.specs.declared.gap.Gap as code
+use Rattle.bound_rounds.specs.Finds.{Find, number_in}
+use Rattle.bound_rounds.specs.Needs.{lemmas_of}
+use Rattle.bound_rounds.specs.Right.{AreOne}
+use Rattle.bound_rounds.proofs.FindsAreOne.{last_one}
+use Rattle.time_bounds.specs.Analysis.{IsAnalysis}
+use Rattle.time_bounds.specs.AnalysisLaws.{number_of_time, number_of_size, AreOneOutcome}
+use Rattle.time_bounds.specs.AnalysisLemmas.{CarryTimes, CarrySizes, CarryRows, AreGapsInOrder, HasLemmas}
+use Rattle.time_bounds.specs.ProgramSearches.{searches_of_program}
+use Rattle.time_bounds.proofs.OneAnalysis.{analysis_one, joined}
+
+-- the numbers that times of a report carry, from rule t on, behind n earlier gaps
+abbrev time_numbers : (ℕ → ℕ → ℕ) → ℕ → ℕ → List Time → List ℕ
+time_numbers number t n [] = []
+time_numbers number t n (Timed b ∷ told) = number t 0 ∷ time_numbers number (suc t) n told
+time_numbers number t n (Untimed (NoFunction g) ∷ told) = suc n ∷ time_numbers number (suc t) (suc n) told
+time_numbers number t n (Untimed (TimeTripped x) ∷ told) = 0 ∷ time_numbers number (suc t) n told
+time_numbers number t n (Untimed (TimeLarge k) ∷ told) = 0 ∷ time_numbers number (suc t) n told
+
+-- entries that carry numbers carry those
+times_told : (number : ℕ → ℕ → ℕ) (gaps : List code.Gap) (t n : ℕ) (entries : List TimeEntry) (count : ℕ)
+    → CarryTimes number t entries → AreGapsInOrder n entries count
+    → map number_of_time entries ≡ time_numbers number t n (map (time_of gaps) entries)
+times_told number gaps t n [] count h g = refl
+times_told number gaps t n (times.Known s ∷ entries) count h g =
+    joined s.lemma (number t 0) (map number_of_time entries) (time_numbers number (suc t) n (map (time_of gaps) entries))
+    h.0 (times_told number gaps (suc t) n entries count h.1 g)
+times_told number gaps t n (times.Gap k ∷ entries) count h g =
+    joined k (suc n) (map number_of_time entries) (time_numbers number (suc t) (suc n) (map (time_of gaps) entries))
+    g.0 (times_told number gaps (suc t) (suc n) entries count h.1 g.1)
+times_told number gaps t n (times.Tripped x ∷ entries) count h g =
+    ap (λ (ks : List ℕ). 0 ∷ ks) (times_told number gaps (suc t) n entries count h.1 g)
+times_told number gaps t n (times.Large k ∷ entries) count h g =
+    ap (λ (ks : List ℕ). 0 ∷ ks) (times_told number gaps (suc t) n entries count h.1 g)
+
+-- the gaps of a report
+abbrev gaps_in : List Time → List Gap
+gaps_in [] = []
+gaps_in (Timed b ∷ told) = gaps_in told
+gaps_in (Untimed (NoFunction g) ∷ told) = g ∷ gaps_in told
+gaps_in (Untimed (TimeTripped x) ∷ told) = gaps_in told
+gaps_in (Untimed (TimeLarge k) ∷ told) = gaps_in told
+
+-- the gaps behind the first n
+abbrev gaps_behind : ℕ → List code.Gap → List Gap
+gaps_behind zero gaps = map gap_of gaps
+gaps_behind (suc n) [] = []
+gaps_behind (suc n) (g ∷ gaps) = gaps_behind n gaps
+
+-- the next of them
+next_gap : (n : ℕ) (gaps : List code.Gap) → n < length gaps
+    → gaps_behind n gaps ≡ numbered_gap gaps (suc n) ∷ gaps_behind (suc n) gaps
+next_gap n [] l = absurd (omega (arith, l))
+next_gap zero (g ∷ gaps) l = refl
+next_gap (suc n) (g ∷ gaps) l = next_gap n gaps (omega (arith, l))
+
+-- behind the last there is none
+no_more : (n : ℕ) (gaps : List code.Gap) → n ≡ length gaps → gaps_behind n gaps ≡ []
+no_more zero [] e = refl
+no_more zero (g ∷ gaps) e = absurd (let none : ⊥ = cc in none)
+no_more (suc n) [] e = refl
+no_more (suc n) (g ∷ gaps) e = no_more n gaps (omega (arith, e))
+
+-- gaps in order are no fewer than those before
+order_rises : (n : ℕ) (entries : List TimeEntry) (count : ℕ) → AreGapsInOrder n entries count → n ≤ count
+order_rises n [] count g = omega (arith, g)
+order_rises n (times.Known s ∷ entries) count g = order_rises n entries count g
+order_rises n (times.Gap k ∷ entries) count g = let more = order_rises (suc n) entries count g.1 in omega (arith, more)
+order_rises n (times.Tripped x ∷ entries) count g = order_rises n entries count g
+order_rises n (times.Large k ∷ entries) count g = order_rises n entries count g
+
+-- so gaps in order are those of the report
+gaps_told : (gaps : List code.Gap) (n : ℕ) (entries : List TimeEntry) → AreGapsInOrder n entries (length gaps)
+    → gaps_behind n gaps ≡ gaps_in (map (time_of gaps) entries)
+gaps_told gaps n [] g = no_more n gaps g
+gaps_told gaps n (times.Known s ∷ entries) g = gaps_told gaps n entries g
+gaps_told gaps n (times.Gap k ∷ entries) g =
+    let more = order_rises (suc n) entries (length gaps) g.1 in
+    next_gap n gaps (omega (arith, more))
+    ∙ joined (numbered_gap gaps (suc n)) (numbered_gap gaps k) (gaps_behind (suc n) gaps)
+    (gaps_in (map (time_of gaps) entries)) (ap (numbered_gap gaps) (sym g.0)) (gaps_told gaps (suc n) entries g.1)
+gaps_told gaps n (times.Tripped x ∷ entries) g = gaps_told gaps n entries g
+gaps_told gaps n (times.Large k ∷ entries) g = gaps_told gaps n entries g
+
+-- the numbers that sizes of a report carry, from place i after rule t on
+abbrev size_numbers : (ℕ → ℕ → ℕ) → ℕ → ℕ → List Size → List ℕ
+size_numbers number t i [] = []
+size_numbers number t i (Sized b ∷ told) = number t i ∷ size_numbers number t (suc i) told
+size_numbers number t i (Unsized w ∷ told) = 0 ∷ size_numbers number t (suc i) told
+
+-- so of the places after each rule from t on
+abbrev row_numbers : (ℕ → ℕ → ℕ) → ℕ → List (List Size) → List (List ℕ)
+row_numbers number t [] = []
+row_numbers number t (row ∷ rows) = size_numbers number t 1 row ∷ row_numbers number (suc t) rows
+
+-- entries that carry numbers carry those
+sizes_told : (number : ℕ → ℕ → ℕ) (t i : ℕ) (entries : List SizeEntry) → CarrySizes number t i entries
+    → map number_of_size entries ≡ size_numbers number t i (map size_of entries)
+sizes_told number t i [] h = refl
+sizes_told number t i (sizes.Known s ∷ entries) h =
+    joined s.lemma (number t i) (map number_of_size entries) (size_numbers number t (suc i) (map size_of entries)) h.0
+    (sizes_told number t (suc i) entries h.1)
+sizes_told number t i (sizes.Loose l ∷ entries) h =
+    ap (λ (ks : List ℕ). 0 ∷ ks) (sizes_told number t (suc i) entries h.1)
+sizes_told number t i (sizes.Tripped x ∷ entries) h =
+    ap (λ (ks : List ℕ). 0 ∷ ks) (sizes_told number t (suc i) entries h.1)
+sizes_told number t i (sizes.Missing m ∷ entries) h =
+    ap (λ (ks : List ℕ). 0 ∷ ks) (sizes_told number t (suc i) entries h.1)
+sizes_told number t i (sizes.Bent m ∷ entries) h =
+    ap (λ (ks : List ℕ). 0 ∷ ks) (sizes_told number t (suc i) entries h.1)
+sizes_told number t i (sizes.Untimed r ∷ entries) h =
+    ap (λ (ks : List ℕ). 0 ∷ ks) (sizes_told number t (suc i) entries h.1)
+sizes_told number t i (sizes.Large n ∷ entries) h =
+    ap (λ (ks : List ℕ). 0 ∷ ks) (sizes_told number t (suc i) entries h.1)
+
+rows_told : (number : ℕ → ℕ → ℕ) (t : ℕ) (rows : List (Vec SizeEntry Global)) → CarryRows number t (map (λ row. row.items) rows)
+    → map (λ row. map number_of_size row.items) rows ≡ row_numbers number t (map (λ row. map size_of row.items) rows)
+rows_told number t [] h = refl
+rows_told number t (row ∷ rows) h =
+    joined (map number_of_size row.items) (size_numbers number t 1 (map size_of row.items))
+    (map (λ r. map number_of_size r.items) rows) (row_numbers number (suc t) (map (λ r. map size_of r.items) rows))
+    (sizes_told number t 1 row.items h.0) (rows_told number (suc t) rows h.1)
+
+-- two outcomes with the lemmas of the analysis of a program, within the same number of pivots, are one
+pub outcome_one : (p : Program) (pivots : ℕ) → AreOne (searches_of_program p pivots) → (x y : Outcome)
+    → IsAnalysis p pivots (report_of x) → HasLemmas p pivots x → IsAnalysis p pivots (report_of y) → HasLemmas p pivots y
+    → AreOneOutcome x y
+outcome_one p pivots one x y analysed has others too =
+    let same = analysis_one p pivots one (report_of x) (report_of y) analysed others in
+    let finds =
+    last_one (searches_of_program p pivots) one (setting_of p) has.finds too.finds has.last too.last in
+    record {
+      report = same;
+      lemmas = has.lemmas ∙ (ap lemmas_of finds ∙ sym too.lemmas);
+      gaps =
+          gaps_told x.gaps.items 0 x.times.items has.gaps
+          ∙ (ap (λ (r : Report). gaps_in r.times) same ∙ sym (gaps_told y.gaps.items 0 y.times.items too.gaps));
+      times =
+          times_told (number_in has.finds) x.gaps.items 1 0 x.times.items (length x.gaps.items) has.carried_times has.gaps
+          ∙ (ap (λ (fs : List Find). time_numbers (number_in fs) 1 0 (report_of x).times) finds
+          ∙ (ap (λ (r : Report). time_numbers (number_in too.finds) 1 0 r.times) same
+          ∙ sym (times_told (number_in too.finds) y.gaps.items 1 0 y.times.items (length y.gaps.items) too.carried_times
+          too.gaps)));
+      sizes =
+          rows_told (number_in has.finds) 1 x.sizes.items has.carried_sizes
+          ∙ (ap (λ (fs : List Find). row_numbers (number_in fs) 1 (report_of x).sizes) finds
+          ∙ (ap (λ (r : Report). row_numbers (number_in too.finds) 1 r.sizes) same
+          ∙ sym (rows_told (number_in too.finds) 1 y.sizes.items too.carried_sizes)));
+    }
