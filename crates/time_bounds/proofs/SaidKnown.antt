@@ -21,7 +21,7 @@ use Rattle.time_bounds.specs.Analysis.{IsTimeOf, IsSizeOf, IsAnalysis}
 use Rattle.time_bounds.specs.ProgramSearches.{searches_of_program}
 use Rattle.time_bounds.specs.SaidBounds.{time_said, size_said, bounds_said}
 use Rattle.time_bounds.proofs.FindKeys.{none_found}
-use Rattle.time_bounds.proofs.MadeFinds.{all_stand}
+use Rattle.bound_rounds.proofs.SizesStand.{all_stand}
 use Rattle.time_bounds.proofs.OneProgram.{program_searches_one}
 use Rattle.time_bounds.proofs.ReportEntries.{said_at, size_said_at, row_said_at}
 use Rattle.time_bounds.proofs.RightSizings.{program_searches_right}

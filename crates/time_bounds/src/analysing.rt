@@ -17,14 +17,14 @@ ghost use Rattle.time_bounds.specs.Questions.{IsReady, program_in};
 ghost use Rattle.time_bounds.specs.RoundsMade.{AreMade, IsRoundMade};
 ghost use Rattle.time_bounds.specs.Whys.{ReasonsAreTrue};
 
+use crate::beginning::first_finds;
 use crate::candidates::{Candidate, candidates};
 use crate::context::{Context, context_of};
 use crate::fates::{Fate, fates};
+use crate::new_finds::take_all;
 use crate::reasons::{Said, said_of};
 use crate::rounds::{Kept, rounds};
 use crate::size_reasons::said_sizes;
-use crate::beginning::first_finds;
-use crate::new_finds::take_all;
 use crate::totals::total;
 use bound_book::{Book, book_of_start, lemmas};
 use its_model::Program;

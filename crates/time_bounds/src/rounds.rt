@@ -9,8 +9,8 @@ ghost use Rattle.time_bounds.specs.RoundsMade.{AreMade, AreKeptFor, AreTimesMade
 use crate::asking::Asked;
 use crate::candidates::Candidate;
 use crate::context::Context;
-use crate::sizing::{Attempt, try_components};
 use crate::new_finds::{Parted, part_all, take_all};
+use crate::sizing::{Attempt, try_components};
 use crate::tried_rules::try_rules;
 use bound_book::Book;
 use model::Memory;
