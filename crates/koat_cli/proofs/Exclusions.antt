@@ -2,6 +2,7 @@
 use Rattle.std.proofs.Common.{◌≡◌, ◌≢◌, ℕ, ◌≤◌, ◌<◌, List, length, Option, Some, None, IsSome, IfSome, refl, sym, ◌∙◌}
 use Rattle.std.proofs.Common.{ap, subst, inl, inr, arith, true, false, Bool, cond, nat_lt}
 use Rattle.std.proofs.lemmas.Bool.Decides.{nat_tests}
+use Rattle.std.proofs.lemmas.List.{length-map}
 use Rattle.std.specs.Prelude.{IsSomeAnd}
 use Rattle.std.specs.FinMap.{get}
 use Rattle.outside_io.specs.Counts.{Rose}
@@ -17,24 +18,24 @@ use Rattle.its_reader.specs.its_text.Verdicts.{VerdictsAreSpelled}
 use Rattle.its_writer.specs.Generated.{generated}
 use Rattle.asks.specs.Lines.{Word}
 use Rattle.asks.specs.Requests.{Request, Analyse, Prove, Check, Replay, Generate, Selfrun, Asks, default_pivots}
-use Rattle.asks.proofs.OneWay.{read_in_one_way}
 use Rattle.outcome.specs.Reports.{Report}
 use Rattle.outcome.specs.Views.{report_of}
+use Rattle.outcome.specs.proof_tree.Views.{proof_of}
 use Rattle.report_text.specs.Reports.{text_of_report}
 use Rattle.time_bounds.specs.AnalysisLaws.{AnalysesAreOne}
 use Rattle.koat_cli.specs.declared.status.Status.{Status}
 use Rattle.koat_cli.specs.declared.status.Status.TheVariants.{Usage, ReadFault, ProgramRefused}
 use Rattle.koat_cli.specs.Report.{read_fault_text, too_long_text, refusal_text}
-use Rattle.koat_cli.specs.Figures.{head_of_figures, text_of_figures}
+use Rattle.koat_cli.specs.Figures.{text_of_figures}
 use Rattle.koat_cli.specs.Calls.{Seen, Call}
 use Rattle.koat_cli.specs.Outputs.{IsReportOf, IsSummaryOf, status_of}
 use Rattle.koat_cli.specs.OnFiles.{program_limit, OnProgram, Unread, TooLong, Refused, Without, Of}
 use Rattle.koat_cli.specs.Answers.{FetchesFile, Answers, Says, ToNothing, ToRequest}
-use Rattle.koat_cli.specs.Exclusion.{AreOneButLemmas, AreOneAnswer, AnswersExcludeEachOther}
+use Rattle.koat_cli.specs.Exclusion.{AreOneAnswer, AnswersExcludeEachOther}
 use Rattle.koat_cli.proofs.OneRequest.{answer_of, usage_not_there, not_there_usage}
 
 -- the laws on which this rests: a text spells one program, and is read as it exactly where it spells it within the
--- limits, and an analysis finds one report
+-- limits, and an analysis has one outcome
 pub record Determined : Type 0 where
   pub programs : OneProgram
   pub verdicts : VerdictsAreSpelled
@@ -130,43 +131,23 @@ one_report laws p n s t x y a b =
       a.stated.text_of ∙ (ap (λ (r : Report). text_of_report p r) same ∙ sym b.stated.text_of),
     )
 
--- so are the statuses of two summaries, and the texts but for the number of lemmas
+-- so are the statuses and the texts of two summaries, since an analysis has one list of lemmas
 one_summary : Determined → (p : Program) (s t : Status) (x y : List ℕ) → IsSummaryOf p s x → IsSummaryOf p t y
-    → (s ≡ t) × AreOneButLemmas x y
+    → (s ≡ t) × (x ≡ y)
 one_summary laws p s t x y a b =
-    let same : report_of a.outcome ≡ report_of b.outcome =
-    laws.reports.each p default_pivots (report_of a.outcome) (report_of b.outcome) a.found.found b.found.found in (
-      a.ends ∙ (ap (λ (r : Report). status_of r) same ∙ sym b.ends),
-      record {
-        head = head_of_figures p (report_of a.outcome);
-        first = length a.outcome.lemmas.items;
-        second = length b.outcome.lemmas.items;
-        first_is = a.told;
-        second_is = b.told ∙ ap (λ (r : Report). text_of_figures p r (length b.outcome.lemmas.items)) (sym same);
-      },
+    let one = laws.reports.outcomes p default_pivots a.outcome b.outcome a.found.found a.lemmas b.found.found b.lemmas in
+    let many : length a.outcome.lemmas.items ≡ length b.outcome.lemmas.items =
+    sym (length-map a.outcome.lemmas.items proof_of)
+    ∙ (ap length one.lemmas ∙ length-map b.outcome.lemmas.items proof_of) in (
+      a.ends ∙ (ap (λ (r : Report). status_of r) one.report ∙ sym b.ends),
+      a.told
+          ∙ (ap (λ (r : Report). text_of_figures p r (length a.outcome.lemmas.items)) one.report
+          ∙ (ap (λ (n : ℕ). text_of_figures p (report_of b.outcome) n) many ∙ sym b.told)),
     )
-
--- what is the same of the texts of two answers to a request
-abbrev pub AreTexts : Request → List ℕ → List ℕ → Type 0
-AreTexts (Analyse n f) x y = x ≡ y
-AreTexts (Prove n f) x y = x ≡ y
-AreTexts (Check f q) x y = x ≡ y
-AreTexts (Replay f q) x y = x ≡ y
-AreTexts (Generate n) x y = x ≡ y
-AreTexts (Selfrun n) x y = AreOneButLemmas x y
-
--- where no figures are asked for, they are one text
-one_text : (r : Request) (x y : List ℕ) → ((n : ℕ) → r ≢ Selfrun n) → AreTexts r x y → x ≡ y
-one_text (Analyse n f) x y none h = h
-one_text (Prove n f) x y none h = h
-one_text (Check f q) x y none h = h
-one_text (Replay f q) x y none h = h
-one_text (Generate n) x y none h = h
-one_text (Selfrun n) x y none h = absurd (none n refl)
 
 -- a request for which no file is fetched has one answer
 one_without : Determined → (seen : Seen) (r : Request) (s t : Status) (x y : List ℕ) → ¬ (FetchesFile r) → Answers seen r s x
-    → Answers seen r t y → (s ≡ t) × AreTexts r x y
+    → Answers seen r t y → (s ≡ t) × (x ≡ y)
 one_without laws seen (Analyse n f) s t x y none a b = absurd (none tt)
 one_without laws seen (Prove n f) s t x y none a b = (a.ends ∙ sym b.ends, a.told ∙ sym b.told)
 one_without laws seen (Check f q) s t x y none a b = (a.ends ∙ sym b.ends, a.told ∙ sym b.told)
@@ -178,7 +159,7 @@ one_without laws seen (Selfrun n) s t x y none a b = one_summary laws (generated
 one_answer : Determined → (seen : Seen) (files : Files) → seen.held ≡ Some files → (r : Request) (s t : Status) (x y : List ℕ)
     → (s ≡ ReadFault → (f : Word) → MayFail seen.held f seen.faults_before seen.faults_after → Lacks seen.held f)
     → (t ≡ ReadFault → (f : Word) → MayFail seen.held f seen.faults_before seen.faults_after → Lacks seen.held f)
-    → Answers seen r s x → Answers seen r t y → (s ≡ t) × AreTexts r x y
+    → Answers seen r s x → Answers seen r t y → (s ≡ t) × (x ≡ y)
 one_answer laws seen files e (Analyse n f) s t x y ls lt a b =
     one_told (λ p. IsReportOf p n) s t x y (λ p. one_report laws p n s t x y) (file_of (get files f))
     (file_tells (λ p. IsReportOf p n) s x laws seen files f e (λ h. ls h f) a) (file_tells (λ p. IsReportOf p n) t y laws seen files f e (λ h. lt h f) b)
@@ -190,22 +171,16 @@ one_answer laws seen files e (Selfrun n) s t x y ls lt a b = one_without laws se
 
 -- so has a call, where the request that its words ask for has
 one_said : (call : Call) (s t : Status) (x y : List ℕ)
-    → ((r : Request) → Asks call.words r → Answers call.shelf r s x → Answers call.shelf r t y → (s ≡ t) × AreTexts r x y)
-    → Says call s x → Says call t y → AreOneAnswer call s t x y
+    → ((r : Request) → Asks call.words r → Answers call.shelf r s x → Answers call.shelf r t y → (s ≡ t) × (x ≡ y))
+    → Says call s x → Says call t y → AreOneAnswer s t x y
 one_said call s t x y each (ToNothing none a) (ToNothing too b) = record {
   status = a.ends ∙ sym b.ends;
-  text = λ only. a.told ∙ sym b.told;
-  figures = λ n asked. absurd (none (Selfrun n) asked);
+  text = a.told ∙ sym b.told;
 }
 one_said call s t x y each (ToNothing none a) (ToRequest r asked b) = absurd (none r asked)
 one_said call s t x y each (ToRequest r asked a) said =
     let one = each r asked a (answer_of call r t y asked said) in
-    record {
-      status = one.0;
-      text = λ only. one_text r x y (λ n is. only n (subst (λ (q : Request). Asks call.words q) is asked)) one.1;
-      figures = λ n figures.
-          subst (λ (q : Request). AreTexts q x y) (read_in_one_way.one_request call.words r (Selfrun n) asked figures) one.1;
-    }
+    record { status = one.0; text = one.1 }
 
 -- a fault of reading without a rise of the count is a file that is lacking
 lacking_only : (held : Option Files) (file : List ℕ) (before after : ℕ) → ¬ (Rose before after)

@@ -1,27 +1,15 @@
 -- One answer at most fits a call.
-use Rattle.std.specs.Prelude.{◌≡◌, ◌≢◌, List, ◌++◌, ℕ, IsSome}
+use Rattle.std.specs.Prelude.{◌≡◌, ◌≢◌, List, ℕ, IsSome}
 use Rattle.outside_io.specs.Counts.{Rose}
-use Rattle.asks.specs.Requests.{Selfrun, Asks}
 use Rattle.koat_cli.specs.declared.status.Status.{Status}
 use Rattle.koat_cli.specs.declared.status.Status.TheVariants.{Usage, ReadFault}
 use Rattle.koat_cli.specs.Calls.{Call}
-use Rattle.koat_cli.specs.Figures.{lemmas_line}
 use Rattle.koat_cli.specs.Answers.{FetchesNothing, Says}
 
--- two texts are one, but that each tells a number of lemmas of its own in its last line
-pub record AreOneButLemmas (x y : List ℕ) : Type 0 where
-  pub head : List ℕ
-  pub first : ℕ
-  pub second : ℕ
-  pub first_is : x ≡ head ++ lemmas_line first
-  pub second_is : y ≡ head ++ lemmas_line second
-
--- the statuses are the same, and so are the texts, unless the words ask for figures, of which the number of lemmas
--- isn't known to be one; then they are the same but for this number
-pub record AreOneAnswer (call : Call) (s t : Status) (x y : List ℕ) : Type 0 where
+-- the statuses are the same, and so are the texts
+pub record AreOneAnswer (s t : Status) (x y : List ℕ) : Type 0 where
   pub status : s ≡ t
-  pub text : ((n : ℕ) → ¬ (Asks call.words (Selfrun n))) → x ≡ y
-  pub figures : (n : ℕ) → Asks call.words (Selfrun n) → AreOneButLemmas x y
+  pub text : x ≡ y
 
 -- a call that answers with the usage text has no other status to answer with, and one that fetches nothing has one
 -- answer at most. Where the shelf tells what it holds, a call has one answer at most, unless it is a fault of reading
@@ -30,9 +18,9 @@ pub record AreOneAnswer (call : Call) (s t : Status) (x y : List ℕ) : Type 0 w
 pub record AnswersExcludeEachOther : Type 0 where
   pub other_words : (call : Call) (t : Status) (x y : List ℕ) → Says call Usage x → Says call t y → t ≡ Usage
   pub without_file : (call : Call) (s t : Status) (x y : List ℕ) → FetchesNothing call.words → Says call s x
-      → Says call t y → AreOneAnswer call s t x y
+      → Says call t y → AreOneAnswer s t x y
   pub without_faults : (call : Call) (s t : Status) (x y : List ℕ) → IsSome call.shelf.held
       → ¬ (Rose call.shelf.faults_before call.shelf.faults_after) → Says call s x → Says call t y
-      → AreOneAnswer call s t x y
+      → AreOneAnswer s t x y
   pub read_faults_aside : (call : Call) (s t : Status) (x y : List ℕ) → IsSome call.shelf.held → s ≢ ReadFault
-      → t ≢ ReadFault → Says call s x → Says call t y → AreOneAnswer call s t x y
+      → t ≢ ReadFault → Says call s x → Says call t y → AreOneAnswer s t x y

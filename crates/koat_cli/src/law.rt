@@ -8,10 +8,9 @@ ghost use Rattle.koat_cli.specs.WorkedEnds.{FaultsLeaveFirstBytes};
 ghost use Rattle.koat_cli.specs.WorkedAnswers.{FiguresAreWorkedOut, AnswersAreWorkedOut};
 
 /// The law that a call of `run` has one answer at most where no file is fetched for its words, or the shelf tells what
-/// it holds: one status, and one text, of which, where figures are asked for, the number of lemmas alone isn't shown to
-/// be one. So each status comes exactly where it is answered with, but for faults and want of memory. Where a file is
-/// fetched, a fault of reading that came with a rise of the shelf's count of faults is left out. It has no code: its
-/// contract is the law.
+/// it holds: one status, and one text. So each status comes exactly where it is answered with, but for faults and want
+/// of memory. Where a file is fetched, a fault of reading that came with a rise of the shelf's count of faults is left
+/// out. It has no code: its contract is the law.
 pub fn answers_exclude_each_other()
     ensures { AnswersExcludeEachOther }
 {}

@@ -14,6 +14,6 @@ returns c =
     (are_untimed p c.args.table.now c.args.cx.now.empties.items c.requires.table))
     (c.in_ok-of_rules.ensures.one_each ∙ ap (λ (xs : List Bool). length xs) c.deref.ensures.value)
     c.in_ok-of_rules.ensures.within
-    (subst (λ (xs : List Bool). HaveSameSets p (flagged xs) _) c.deref.ensures.value
+    (subst (λ (xs : List Bool). HaveSameSets p (flagged xs) c.in_ok-of_rules.of_rules.items) c.deref.ensures.value
     (c.in_ok-of_rules.ensures.sets p c.requires.ready.graph))
     c.in_ok-found.ensures
