@@ -6,15 +6,20 @@ import subprocess
 from dataclasses import dataclass
 from typing import Optional
 
-from . import programs, reports
+from . import programs, reports, runs
 
 TOP = os.path.dirname(os.path.dirname(os.path.dirname(os.path.abspath(__file__))))
 
 # Statuses up to 6 are koat's own and mean the same here.
 WORDS_FAULT, READ_FAULT, WRITE_FAULT, REFUSED, NO_KOAT, KOAT_FAILED, NO_DOT, BAD_INPUT = 2, 3, 4, 6, 10, 11, 12, 13
+BAD_RUN = 14
+
+# koat's statuses of a run that is refused, and of steps that are none.
+RUN_REFUSALS = (9, 10)
 
 # One byte more than koat takes, so that it says itself that a text is too long.
 MOST = 4194304 + 1
+MOST_OF_RUN = 67108864 + 1
 
 
 class Stop(Exception):
@@ -48,10 +53,10 @@ def program_path():
     return os.environ.get("KOAT") or os.path.join(TOP, "koat")
 
 
-def read_file(name):
+def read_file(name, most=MOST):
     try:
         with open(0 if name == "-" else name, "rb", closefd=name != "-") as file:
-            return file.read(MOST)
+            return file.read(most)
     except OSError as fault:
         raise Stop(READ_FAULT, f"{name} can't be read: {fault.strerror}") from fault
 
@@ -59,14 +64,36 @@ def read_file(name):
 def analyse(name, pivots=None, seconds=None):
     """What koat says of the file; the text goes to its standard input, so that it is read once."""
     data = read_file(name)
-    words = [program_path(), "analyse", *([] if pivots is None else ["--pivots", str(pivots)]), "-"]
+    ran = _ran(["analyse", *([] if pivots is None else ["--pivots", str(pivots)]), "-"], data, seconds)
+    return _answer(ran.returncode, ran.stdout, data, name)
+
+
+def replay(answer, run, seconds=None):
+    """What koat says of a run file beside the bounds of the program of an answer, and the run's start values."""
+    if run == "-":
+        raise Stop(WORDS_FAULT, "the file of a run can't be standard input")
+    data = read_file(run, MOST_OF_RUN)
+    ran = _ran(["replay", "--", "-", run], answer.data, seconds)
+    said = ran.stdout.decode("latin-1")
+    if ran.returncode in RUN_REFUSALS and said:
+        raise Stop(BAD_RUN, f"{run}: {said.splitlines()[0]}")
     try:
-        ran = subprocess.run(words, input=data, stdout=subprocess.PIPE, timeout=seconds, check=False)
+        if ran.returncode == 0:
+            return runs.read(said), runs.start_of(data)
+    except (runs.ReplayError, ValueError, IndexError) as fault:
+        raise Stop(KOAT_FAILED, f"koat's replay can't be read: {fault}") from fault
+    raise Stop(KOAT_FAILED, f"koat ended with status {ran.returncode}" + (f": {said.splitlines()[0]}" if said else ""))
+
+
+def _ran(words, data, seconds):
+    """koat's call with these words and this standard input."""
+    path = program_path()
+    try:
+        return subprocess.run([path, *words], input=data, stdout=subprocess.PIPE, timeout=seconds, check=False)
     except subprocess.TimeoutExpired as fault:
         raise Stop(KOAT_FAILED, f"koat had no answer within {seconds} seconds") from fault
     except OSError as fault:
-        raise Stop(NO_KOAT, f"{words[0]} can't be run: {fault.strerror}") from fault
-    return _answer(ran.returncode, ran.stdout, data, name)
+        raise Stop(NO_KOAT, f"{path} can't be run: {fault.strerror}") from fault
 
 
 def _answer(status, output, data, name):

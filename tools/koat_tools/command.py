@@ -4,10 +4,11 @@ import argparse
 import io
 import json
 import math
+import random
 import re
 import sys
 
-from . import analyser, bounds, explain, growth, lint, page, picture, programs, reports
+from . import analyser, bounds, explain, growth, lint, page, picture, programs, reports, runs
 from .analyser import Stop
 
 HELP = """Shows what koat says of a program in other forms. It runs koat and changes nothing of what it says; what
@@ -19,12 +20,14 @@ stands beside it (hints, O-classes, values, pictures) is worked out here and isn
   json FILE           the whole report as JSON, as docs/report.schema.json describes it
   class FILE          the O-class of each bound, and a last line as the termination competition has it
   at FILE A=30 B=12   the value of each bound at these inputs
-  page FILE           a page for the browser: the graph, the rules with their bounds, fields for the inputs"""
+  run FILE A=30 B=12  a run made at random from these inputs, as a run file for `koat replay`
+  page FILE           a page for the browser: the graph, the rules with their bounds, fields for the inputs; with
+                      --run RUN also how often each rule occurs in the run of that file, and how large values become"""
 
 STATUSES = """status: 0 done; 1 lint found a likely slip; 2 the words are no command line; 3 FILE can't be read; 4
 the output can't be written; 6 koat refused the program; 10 koat can't be run; 11 koat gave no answer, or none that
-can be read; 12 dot is missing, failed or took too long; 13 inputs of `at` are wrong; 130 interrupted. FILE may be -
-for standard input. The variable KOAT names another program than ./koat."""
+can be read; 12 dot is missing, failed or took too long; 13 inputs of `at` or `run` are wrong; 14 koat refused the run;
+130 interrupted. FILE may be - for standard input. The variable KOAT names another program than ./koat."""
 
 
 INTERRUPTED = 130
@@ -38,6 +41,13 @@ def seconds(text):
     return number
 
 
+def counted(text):
+    """A number from 0 to 1,000,000."""
+    if not re.fullmatch("[0-9]{1,7}", text) or int(text) > 1000000:
+        raise ValueError
+    return int(text)
+
+
 def parser():
     top = argparse.ArgumentParser(prog="show", description=HELP, epilog=STATUSES,
                                   formatter_class=argparse.RawDescriptionHelpFormatter)
@@ -47,10 +57,14 @@ def parser():
         one.add_argument("file", metavar="FILE")
         one.add_argument("--pivots", metavar="N", help="handed to koat")
         one.add_argument("--seconds", metavar="N", type=seconds, help="how long koat, and dot, may each take")
-        if name == "at":
+        if name in WITH_INPUTS:
             one.add_argument("inputs", nargs="*", metavar="NAME=NUMBER")
+        if name == "run":
+            one.add_argument("--steps", metavar="N", type=counted, default=1000, help="how many steps at most; 1,000")
+            one.add_argument("--seed", metavar="N", type=counted, default=0, help="another number gives another run; 0")
         if name == "page":
             one.add_argument("--without-picture", action="store_true", help="needs no dot")
+            one.add_argument("--run", metavar="RUN", help="the file of a run, shown beside the bounds")
     return top
 
 
@@ -58,7 +72,7 @@ def _asked(words):
     """What the words ask for; inputs may stand behind options too, which argparse doesn't take by itself."""
     top = parser()
     asked, rest = top.parse_known_args(words)
-    if rest and (asked.command != "at" or any(it.startswith("-") for it in rest)):
+    if rest and (asked.command not in WITH_INPUTS or any(it.startswith("-") for it in rest)):
         top.error("unrecognized arguments: " + " ".join(rest))
     if rest:
         asked.inputs += rest
@@ -153,7 +167,7 @@ def _class(asked, out):
 def _at(asked, out):
     """Prints the value of each bound at inputs; of a negative input the absolute value counts."""
     answer = _reported(asked)
-    given = _inputs(asked.inputs, answer.program.inputs)
+    given = {name: abs(it) for name, it in _inputs(asked.inputs, answer.program.inputs).items()}
     _print([_valued(label, text, bound, given) for label, text, bound in answer.report.labelled()], out)
     return 0
 
@@ -180,16 +194,33 @@ def _inputs(words, names):
             raise Stop(analyser.BAD_INPUT, f"{name} is no input of this program; its inputs: {known}")
         if name in given:
             raise Stop(analyser.BAD_INPUT, f"{name} is given twice")
-        given[name] = abs(int(number))
+        given[name] = int(number)
     return given
+
+
+def _run(asked, out):
+    """Writes a run made at random, as a run file; an input that isn't given is drawn from -20 to 20."""
+    program = _reported(asked).program
+    given = _inputs(asked.inputs, program.inputs)
+    wide = [name for name, it in given.items() if abs(it) > runs.WIDEST]
+    if wide:
+        raise Stop(analyser.BAD_INPUT, f"{wide[0]} is over {runs.WIDEST}")
+    draws = random.Random(asked.seed)
+    drawn = {name: draws.randint(-20, 20) for name in program.inputs}
+    start = [given.get(name, drawn[name]) for name in program.inputs]
+    out.write(runs.text(runs.made(program, start, asked.steps, asked.seed)))
+    return 0
 
 
 def _page(asked, out):
     """Writes one page that needs nothing else: HTML with the picture, the styles and the script in it."""
     answer = _reported(asked)
+    replayed = analyser.replay(answer, asked.run, asked.seconds) if asked.run is not None else None
     drawn = "" if asked.without_picture else picture.draw(answer.program, answer.report, asked.seconds)
-    out.write(page.page(answer, drawn))
+    out.write(page.page(answer, drawn, replayed))
     return 0
 
 
-COMMANDS = {"explain": _explain, "lint": _lint, "json": _json, "class": _class, "at": _at, "page": _page}
+WITH_INPUTS = ("at", "run")
+
+COMMANDS = {"explain": _explain, "lint": _lint, "json": _json, "class": _class, "at": _at, "run": _run, "page": _page}

@@ -15,6 +15,7 @@ size 1.1: A
 ";
 
 const USAGE: &[u8] = b"usage: koat analyse [--pivots N] FILE
+       koat replay FILE RUN
        koat generate N
        koat selfrun N
 ";
@@ -148,7 +149,6 @@ const COMMANDS: &[(&[&str], Status, &[u8], u64)] = &[
     (&["selfrun", "--pivots=5", "1"], Status::Usage, USAGE, 0),
     (&["prove", "p"], Status::Usage, USAGE, 0),
     (&["check", "p", "p"], Status::Usage, USAGE, 0),
-    (&["replay", "p", "p"], Status::Usage, USAGE, 0),
     (&["--help"], Status::Usage, USAGE, 0),
 ];
 

@@ -9,6 +9,8 @@ mod processes;
 #[cfg(test)]
 mod programs;
 #[cfg(test)]
+mod replays;
+#[cfg(test)]
 mod shelves;
 #[cfg(test)]
 mod sizes;

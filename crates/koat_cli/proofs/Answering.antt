@@ -5,6 +5,7 @@ use Rattle.std.proofs.Common.{sym, ◌∙◌, ap, subst, inl, inr, arith, IsTrue
 use Rattle.std.specs.Prelude.{IsSomeAnd}
 use Rattle.std.specs.List.{list_all}
 use Rattle.std.specs.FinMap.{get}
+use Rattle.outside_io.specs.Counts.{Rose}
 use Rattle.outside_io.specs.Files.{Files, IsHeld, Lacks}
 use Rattle.outside_io.specs.Fetching.{IsTooLong, MayFail}
 use Rattle.model.specs.Programs.{Program}
@@ -18,9 +19,9 @@ use Rattle.asks.specs.Requests.{Analyse}
 use Rattle.koat_cli.specs.declared.status.Status.{Status}
 use Rattle.koat_cli.specs.declared.status.Status.TheVariants.{Done, Unknown, Usage, ReadFault, WriteFault, Memory}
 use Rattle.koat_cli.specs.declared.status.Status.TheVariants.{ProgramRefused, ProofRefused, No, RunRefused, NotARun}
-use Rattle.koat_cli.specs.Calls.{Call, Put}
+use Rattle.koat_cli.specs.Calls.{Seen, Call, Put}
 use Rattle.koat_cli.specs.Outputs.{IsReportOf, status_of}
-use Rattle.koat_cli.specs.OnFiles.{program_limit, OnProgram, Unread, TooLong, Without, Of}
+use Rattle.koat_cli.specs.OnFiles.{program_limit, IsNoProgram, OnProgram, Unread, TooLong, Without, Of}
 use Rattle.koat_cli.specs.OnFiles as files
 use Rattle.koat_cli.specs.Answers.{Says}
 use Rattle.koat_cli.specs.Ends.{Ends}
@@ -30,7 +31,7 @@ use Rattle.koat_cli.proofs.OneRequest.{answer_of}
 use Rattle.koat_cli.proofs.Exclusions.{Determined}
 
 -- the bytes that a shelf gave of a file are those that it holds
-same_held : (held : Option Files) (file bytes given : List ℕ) → IsSomeAnd held (λ files. get files file ≡ Some bytes)
+pub same_held : (held : Option Files) (file bytes given : List ℕ) → IsSomeAnd held (λ files. get files file ≡ Some bytes)
     → IsHeld held file given → given ≡ bytes
 same_held None file bytes given h is = absurd h
 same_held (Some files) file bytes given h is = some_same (sym is ∙ h)
@@ -39,7 +40,7 @@ same_held (Some files) file bytes given h is = some_same (sym is ∙ h)
     some_same e = cc
 
 -- a file that is held isn't lacking
-held_not_lacking : (held : Option Files) (file bytes : List ℕ) → IsSomeAnd held (λ files. get files file ≡ Some bytes)
+pub held_not_lacking : (held : Option Files) (file bytes : List ℕ) → IsSomeAnd held (λ files. get files file ≡ Some bytes)
     → Lacks held file → ⊥
 held_not_lacking None file bytes h lacks = h
 held_not_lacking (Some files) file bytes h lacks = apart (sym lacks ∙ h)
@@ -48,7 +49,7 @@ held_not_lacking (Some files) file bytes h lacks = apart (sym lacks ∙ h)
     apart e = cc
 
 -- and one that is too long has too many bytes
-held_more : (held : Option Files) (file bytes : List ℕ) (limit taken : ℕ)
+pub held_more : (held : Option Files) (file bytes : List ℕ) (limit taken : ℕ)
     → IsSomeAnd held (λ files. get files file ≡ Some bytes) → IsTooLong held file limit taken → limit < length bytes
 held_more None file bytes limit taken h long = absurd h
 held_more (Some files) file bytes limit taken h long = more (get files file) h long.told
@@ -56,6 +57,27 @@ held_more (Some files) file bytes limit taken h long = more (get files file) h l
     more : (o : Option (List ℕ)) → o ≡ Some bytes → IsSomeAnd o (λ b. limit < length b) → limit < length bytes
     more None e m = absurd m
     more (Some b) e m = let same : b ≡ bytes = cc in subst (λ (x : List ℕ). limit < length x) same m
+
+-- a file that is held and had no fault is refused where it gives no program: its bytes spell none
+pub refused_for_none : Determined → (seen : Seen) (file bytes : List ℕ) (s : Status) (x : List ℕ)
+    → IsSomeAnd seen.held (λ files. get files file ≡ Some bytes) → ¬ (Rose seen.faults_before seen.faults_after)
+    → IsNoProgram seen file s x → (s ≡ ProgramRefused) × SpellsNone bytes
+refused_for_none laws seen file bytes s x held steady (Unread a) = absurd (may_not a.fault)
+  where
+    may_not : MayFail seen.held file seen.faults_before seen.faults_after → ⊥
+    may_not (inl rose) = steady rose
+    may_not (inr lacks) = held_not_lacking seen.held file bytes held lacks
+refused_for_none laws seen file bytes s x held steady (TooLong a) =
+    (a.ends, inl (held_more seen.held file bytes program_limit seen.taken held a.too_long))
+refused_for_none laws seen file bytes s x held steady (files.Refused a) = (
+  a.ends,
+  inr (λ p spelled.
+      apart p (sym a.refused
+      ∙ (ap verdict (same_held seen.held file bytes a.bytes held a.fetched.held) ∙ (laws.verdicts.stands bytes p).1 spelled))),
+)
+  where
+    apart : (p : Program) → ◌≡◌ {A = Answer Program Kind} (Refused a.fault) (Stands p) → ⊥
+    apart p e = cc
 
 -- a report in which every rule has a time isn't one in which some has none
 not_both : (v : Bool) → IsTrue v → IsFalse v → ⊥
@@ -133,21 +155,9 @@ module _ (laws : Determined) (bytes : List ℕ) (pivots : ℕ) where
 
     -- what is answered of the file says something of its bytes
     of_file : (s : Status) (x : List ℕ) → OnProgram call.shelf h.file (λ p. IsReportOf p pivots) s x → Answered bytes pivots s
-    of_file s x (Without (Unread a)) = absurd (may_not a.fault)
-      where
-        may_not : MayFail call.shelf.held h.file call.shelf.faults_before call.shelf.faults_after → ⊥
-        may_not (inl rose) = h.no_read_fault rose
-        may_not (inr lacks) = held_not_lacking call.shelf.held h.file bytes h.held lacks
-    of_file s x (Without (TooLong a)) =
-        subst (λ (t : Status). Answered bytes pivots t) (sym a.ends)
-        (IsRefused (inl (held_more call.shelf.held h.file bytes program_limit call.shelf.taken h.held a.too_long)))
-    of_file s x (Without (files.Refused a)) =
-        subst (λ (t : Status). Answered bytes pivots t) (sym a.ends)
-        (IsRefused (inr (λ p spelled.
-        apart p (sym a.refused ∙ (ap verdict (fetched_held a.bytes a.fetched.held) ∙ (laws.verdicts.stands bytes p).1 spelled)))))
-      where
-        apart : (p : Program) → ◌≡◌ {A = Answer Program Kind} (Refused a.fault) (Stands p) → ⊥
-        apart p e = cc
+    of_file s x (Without a) =
+        let refused = refused_for_none laws call.shelf h.file bytes s x h.held h.no_read_fault a in
+        subst (λ (t : Status). Answered bytes pivots t) (sym refused.0) (IsRefused refused.1)
     of_file s x (Of a) =
         let same : a.given.bytes ≡ bytes = fetched_held a.given.bytes a.given.fetched.held in
         of_timing s a.program (subst (λ (b : List ℕ). length b ≤ program_limit) same a.given.fetched.within)

@@ -3,14 +3,17 @@ use Rattle.its_reader.proofs.its_text.ReaderLaws.{one_program}
 use Rattle.its_reader.proofs.its_text.SpelledVerdicts.{verdicts_are_spelled}
 use Rattle.time_bounds.proofs.OneAnalysis.{analysis_one}
 use Rattle.time_bounds.proofs.OneProgram.{program_searches_one}
+use Rattle.run_replay.specs.ReplayLaws.{ReplaysAreDecided}
 use Rattle.koat_cli.proofs.Exclusions.{Determined}
 
--- a text spells one program, verdicts are what is spelled, and a program has one analysis
-pub determined : Determined
-determined = record {
+-- a text spells one program, verdicts are what is spelled, and a program has one analysis; replays are decided by the
+-- law of replays
+pub determined : ReplaysAreDecided → Determined
+determined replays = record {
   programs = one_program;
   verdicts = verdicts_are_spelled;
   reports = record {
     each = λ p pivots r q h k. analysis_one p pivots (program_searches_one.each p pivots) r q h k;
   };
+  replays = replays;
 }

@@ -22,39 +22,35 @@ use Rattle.outcome.specs.Reports.{Report}
 use Rattle.outcome.specs.Views.{report_of}
 use Rattle.outcome.specs.proof_tree.Views.{proof_of}
 use Rattle.report_text.specs.Reports.{text_of_report}
+use Rattle.model.specs.Runs.{sizes_of_start}
+use Rattle.run_replay.specs.ReplayAnswers.{last_first}
+use Rattle.run_replay.specs.ReplayLaws.{ReplaysAreDecided}
+use Rattle.run_replay.specs.Replays.{BadStep, tally_along}
+use Rattle.run_replay.specs.Runs.{Run}
 use Rattle.time_bounds.specs.AnalysisLaws.{AnalysesAreOne}
 use Rattle.koat_cli.specs.declared.status.Status.{Status}
 use Rattle.koat_cli.specs.declared.status.Status.TheVariants.{Usage, ReadFault, ProgramRefused}
 use Rattle.koat_cli.specs.Report.{read_fault_text, too_long_text, refusal_text}
 use Rattle.koat_cli.specs.Figures.{text_of_figures}
 use Rattle.koat_cli.specs.Calls.{Seen, Call}
-use Rattle.koat_cli.specs.Outputs.{IsReportOf, IsSummaryOf, status_of}
+use Rattle.koat_cli.specs.OnTexts.{OnText, OnProgramFirst, NoProgram, Behind}
+use Rattle.koat_cli.specs.Outputs.{IsReportOf, IsReplayOf, Tallied, NoRun, IsSummaryOf, status_of}
+use Rattle.koat_cli.specs.ReplayTexts.{text_of_replay}
+use Rattle.koat_cli.specs.RunTexts.{runs, bad_step_text}
 use Rattle.koat_cli.specs.OnFiles.{program_limit, OnProgram, Unread, TooLong, Refused, Without, Of}
 use Rattle.koat_cli.specs.Answers.{FetchesFile, Answers, Says, ToNothing, ToRequest}
 use Rattle.koat_cli.specs.Exclusion.{AreOneAnswer, AnswersExcludeEachOther}
+use Rattle.koat_cli.proofs.GivenFiles.{given, given_more, given_none}
+use Rattle.koat_cli.proofs.TextExclusions.{one_of_text, run_texts_decided}
 use Rattle.koat_cli.proofs.OneRequest.{answer_of, usage_not_there, not_there_usage}
 
 -- the laws on which this rests: a text spells one program, and is read as it exactly where it spells it within the
--- limits, and an analysis has one outcome
+-- limits, an analysis has one outcome, and steps are a run in range or have one first bad step
 pub record Determined : Type 0 where
   pub programs : OneProgram
   pub verdicts : VerdictsAreSpelled
   pub reports : AnalysesAreOne
-
--- what a shelf that tells its files says of a file that it gave
-given : (held : Option Files) (files : Files) (f bytes : List ℕ) → held ≡ Some files → IsHeld held f bytes
-    → get files f ≡ Some bytes
-given held files f bytes e h = let told : IsHeld (Some files) f bytes = subst (λ (o : Option Files). IsHeld o f bytes) e h in told
-
--- what it says of a file that is too long
-given_more : (held : Option Files) (files : Files) (f : List ℕ) (limit taken : ℕ) → held ≡ Some files
-    → IsTooLong held f limit taken → HoldsMore files f limit
-given_more held files f limit taken e h = let told : IfSome (Some files) (λ fs. HoldsMore fs f limit) = subst (λ (o : Option Files). IfSome o (λ fs. HoldsMore fs f limit)) e h.told in told
-
--- what it says of a file that it lacks
-given_none : (held : Option Files) (files : Files) (f : List ℕ) → held ≡ Some files → Lacks held f
-    → get files f ≡ None
-given_none held files f e h = let told : Lacks (Some files) f = subst (λ (o : Option Files). Lacks o f) e h in told
+  pub replays : ReplaysAreDecided
 
 -- what a file comes to: it is lacking, too long, refused for a fault, or read as a program
 pub data File : Type 0 where
@@ -113,6 +109,15 @@ module _ (Out : Program → Status → List ℕ → Type 0) (s : Status) (x : Li
       of_bytes (get files f) h.given.bytes (reading.Stands h.program) (given seen.held files f h.given.bytes e h.given.fetched.held)
       h.given.fetched.within ((laws.verdicts.stands h.given.bytes h.program).1 h.given.spelled) h.said
 
+  -- so is what is answered of the first of two files
+  first_tells : Determined → (seen : Seen) (files : Files) (f : Word) → seen.held ≡ Some files
+      → (s ≡ ReadFault → MayFail seen.held f seen.faults_before seen.faults_after → Lacks seen.held f)
+      → OnProgramFirst seen f Out s x → Tells Out s x (file_of (get files f))
+  first_tells laws seen files f e lacking (NoProgram h) = file_tells laws seen files f e lacking (Without h)
+  first_tells laws seen files f e lacking (Behind taken h) =
+      of_bytes (get files f) h.given.bytes (reading.Stands h.program) (given seen.held files f h.given.bytes e h.given.fetched.held)
+      h.given.fetched.within ((laws.verdicts.stands h.given.bytes h.program).1 h.given.spelled) h.said
+
 -- and that is one answer
 one_told : (Out : Program → Status → List ℕ → Type 0) (s t : Status) (x y : List ℕ)
     → ((p : Program) → Out p s x → Out p t y → (s ≡ t) × (x ≡ y)) → (w : File) → Tells Out s x w → Tells Out t y w
@@ -145,13 +150,29 @@ one_summary laws p s t x y a b =
           ∙ (ap (λ (n : ℕ). text_of_figures p (report_of b.outcome) n) many ∙ sym b.told)),
     )
 
+-- a run has one replay
+one_replay : Determined → (p : Program) (r : Run) (s t : Status) (x y : List ℕ) → IsReplayOf p r s x → IsReplayOf p r t y
+    → (s ≡ t) × (x ≡ y)
+one_replay laws p r s t x y (Tallied a) (Tallied b) =
+    let same : a.report ≡ b.report = laws.reports.each p default_pivots a.report b.report a.found.found b.found.found in (
+      a.ends ∙ sym b.ends,
+      a.told ∙ (ap (λ (q : Report). text_of_replay (sizes_of_start r.start) (tally_along p r.start (last_first r)) q) same ∙ sym b.told),
+    )
+one_replay laws p r s t x y (Tallied a) (NoRun b) =
+    absurd (laws.replays.none_bad p r.start (last_first r) b.bad a.in_range b.first)
+one_replay laws p r s t x y (NoRun a) (Tallied b) =
+    absurd (laws.replays.none_bad p r.start (last_first r) a.bad b.in_range a.first)
+one_replay laws p r s t x y (NoRun a) (NoRun b) =
+    let same : a.bad ≡ b.bad = laws.replays.one_bad p r.start (last_first r) a.bad b.bad a.first b.first in
+    (a.ends ∙ sym b.ends, a.told ∙ (ap (λ (bad : BadStep). bad_step_text bad) same ∙ sym b.told))
+
 -- a request for which no file is fetched has one answer
 one_without : Determined → (seen : Seen) (r : Request) (s t : Status) (x y : List ℕ) → ¬ (FetchesFile r) → Answers seen r s x
     → Answers seen r t y → (s ≡ t) × (x ≡ y)
 one_without laws seen (Analyse n f) s t x y none a b = absurd (none tt)
 one_without laws seen (Prove n f) s t x y none a b = (a.ends ∙ sym b.ends, a.told ∙ sym b.told)
 one_without laws seen (Check f q) s t x y none a b = (a.ends ∙ sym b.ends, a.told ∙ sym b.told)
-one_without laws seen (Replay f q) s t x y none a b = (a.ends ∙ sym b.ends, a.told ∙ sym b.told)
+one_without laws seen (Replay f q) s t x y none a b = absurd (none tt)
 one_without laws seen (Generate n) s t x y none a b = (a.ends ∙ sym b.ends, a.told ∙ sym b.told)
 one_without laws seen (Selfrun n) s t x y none a b = one_summary laws (generated n) s t x y a b
 
@@ -165,7 +186,12 @@ one_answer laws seen files e (Analyse n f) s t x y ls lt a b =
     (file_tells (λ p. IsReportOf p n) s x laws seen files f e (λ h. ls h f) a) (file_tells (λ p. IsReportOf p n) t y laws seen files f e (λ h. lt h f) b)
 one_answer laws seen files e (Prove n f) s t x y ls lt a b = one_without laws seen (Prove n f) s t x y (λ no. no) a b
 one_answer laws seen files e (Check f q) s t x y ls lt a b = one_without laws seen (Check f q) s t x y (λ no. no) a b
-one_answer laws seen files e (Replay f q) s t x y ls lt a b = one_without laws seen (Replay f q) s t x y (λ no. no) a b
+one_answer laws seen files e (Replay f q) s t x y ls lt a b =
+    let out : Program → Status → List ℕ → Type 0 = λ p. OnText (runs p) seen q (IsReplayOf p) in
+    one_told out s t x y
+    (λ p. one_of_text (runs p) (run_texts_decided p) (IsReplayOf p) s t x y seen files q e (λ h. ls h q) (λ h. lt h q)
+    (λ r. one_replay laws p r s t x y)) (file_of (get files f))
+    (first_tells out s x laws seen files f e (λ h. ls h f) a) (first_tells out t y laws seen files f e (λ h. lt h f) b)
 one_answer laws seen files e (Generate n) s t x y ls lt a b = one_without laws seen (Generate n) s t x y (λ no. no) a b
 one_answer laws seen files e (Selfrun n) s t x y ls lt a b = one_without laws seen (Selfrun n) s t x y (λ no. no) a b
 

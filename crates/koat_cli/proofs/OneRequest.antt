@@ -9,6 +9,8 @@ use Rattle.asks.specs.Requests.{Request, Analyse, Prove, Check, Replay, Generate
 use Rattle.asks.proofs.OneWay.{read_in_one_way}
 use Rattle.outcome.specs.Reports.{Report, is_timed}
 use Rattle.outcome.specs.Views.{report_of}
+use Rattle.run_replay.specs.ReplayAnswers.{last_first}
+use Rattle.run_replay.specs.ReplayLaws.{ReplaysAreDecided}
 use Rattle.koat_cli.specs.declared.status.Status.{Status}
 use Rattle.koat_cli.specs.declared.status.Status.TheVariants.{Done, Unknown, Usage, ReadFault, WriteFault, Memory}
 use Rattle.koat_cli.specs.declared.status.Status.TheVariants.{ProgramRefused, ProofRefused, No, RunRefused, NotARun}
@@ -17,8 +19,11 @@ use Rattle.koat_cli.specs.Report.{usage_text}
 use Rattle.koat_cli.specs.Outputs.{IsReportOf, status_of}
 use Rattle.koat_cli.specs.OnFiles.{IsNoProgram, IsOfProgram, OnProgram, Unread, TooLong, Refused, Without, Of}
 use Rattle.koat_cli.specs.Answers.{IsThere, AsksForNothingThere, Answers, Says, ToNothing, ToRequest}
-use Rattle.koat_cli.specs.Ends.{Ends, WroteReport, WroteRefusal, IsStatusThere, Means}
-use Rattle.koat_cli.proofs.Sayings.{says_there}
+use Rattle.koat_cli.specs.Ends.{Ends, WroteReport, WroteRefusal, IsFirstFile, MayMiss, WroteTally, WroteBadStep}
+use Rattle.koat_cli.specs.Ends.{WroteRunRefusal, IsStatusThere, Means}
+use Rattle.koat_cli.proofs.ReplayStatuses.{Tells, replay_tells}
+use Rattle.koat_cli.proofs.Sayings.{of_other_answer, says_there}
+use Rattle.koat_cli.proofs.WithinBounds.{tally_within}
 
 -- what a call answers is answered of the request that its words ask for
 pub answer_of : (call : Call) (r : Request) (s : Status) (x : List ℕ) → Asks call.words r → Says call s x
@@ -86,7 +91,7 @@ usage_not_there seen (Analyse n f) x (Without h) there = no_usage seen f x h
 usage_not_there seen (Analyse n f) x (Of h) there = never_usage h.said.report h.said.ends
 usage_not_there seen (Prove n f) x h there = there
 usage_not_there seen (Check f q) x h there = there
-usage_not_there seen (Replay f q) x h there = there
+usage_not_there seen (Replay f q) x h there = replay_tells seen f q Usage x h
 usage_not_there seen (Generate n) x h there = let e : Usage ≡ Done = h.ends in cc
 usage_not_there seen (Selfrun n) x h there = never_usage (report_of h.outcome) h.ends
 
@@ -94,7 +99,7 @@ pub not_there_usage : (seen : Seen) (r : Request) (s : Status) (x : List ℕ) �
 not_there_usage seen (Analyse n f) s x none h = absurd (none tt)
 not_there_usage seen (Prove n f) s x none h = h.ends
 not_there_usage seen (Check f q) s x none h = h.ends
-not_there_usage seen (Replay f q) s x none h = h.ends
+not_there_usage seen (Replay f q) s x none h = absurd (none tt)
 not_there_usage seen (Generate n) s x none h = absurd (none tt)
 not_there_usage seen (Selfrun n) s x none h = absurd (none tt)
 
@@ -108,7 +113,7 @@ usage_told seen (Analyse n f) x (Without h) = absurd (no_usage seen f x h)
 usage_told seen (Analyse n f) x (Of h) = absurd (never_usage h.said.report h.said.ends)
 usage_told seen (Prove n f) x h = h.told
 usage_told seen (Check f q) x h = h.told
-usage_told seen (Replay f q) x h = h.told
+usage_told seen (Replay f q) x h = absurd (replay_tells seen f q Usage x h)
 usage_told seen (Generate n) x h = absurd (let e : Usage ≡ Done = h.ends in let no_way : ⊥ = cc in no_way)
 usage_told seen (Selfrun n) x h = absurd (never_usage (report_of h.outcome) h.ends)
 
@@ -116,7 +121,7 @@ pub usage_says : (call : Call) (x : List ℕ) → Says call Usage x → x ≡ us
 usage_says call x (ToNothing none h) = h.told
 usage_says call x (ToRequest r asked h) = usage_told call.shelf r x h
 
--- a fault of reading is that of the file that an analysis is asked of
+-- a fault of reading is that of a file that is fetched for the words
 no_other_fault : (seen : Seen) (file : Word) (x : List ℕ) → IsNoProgram seen file ReadFault x
     → MayFail seen.held file seen.faults_before seen.faults_after
 no_other_fault seen file x (Unread h) = h.fault
@@ -124,40 +129,141 @@ no_other_fault seen file x (TooLong h) = absurd (let e : ReadFault ≡ ProgramRe
 no_other_fault seen file x (Refused h) = absurd (let e : ReadFault ≡ ProgramRefused = h.ends in let no_way : ⊥ = cc in no_way)
 
 fault_of : (call : Call) (r : Request) (x : List ℕ) → Asks call.words r → Answers call.shelf r ReadFault x
-    → (pivots : ℕ) × ((file : Word) × Asks call.words (Analyse pivots file)
-    × MayFail call.shelf.held file call.shelf.faults_before call.shelf.faults_after)
-fault_of call (Analyse n f) x asked (Without h) = (n, (f, asked, no_other_fault call.shelf f x h))
+    → (file : Word) × MayMiss call file
+fault_of call (Analyse n f) x asked (Without h) = (
+  f,
+  record {
+    request = Analyse n f;
+    asked = asked;
+    named = inl refl;
+    fetched = inl refl;
+    fault = no_other_fault call.shelf f x h;
+  },
+)
 fault_of call (Analyse n f) x asked (Of h) = absurd (never_read_fault h.said.report h.said.ends)
 fault_of call (Prove n f) x asked h = absurd (let e : ReadFault ≡ Usage = h.ends in let no_way : ⊥ = cc in no_way)
 fault_of call (Check f q) x asked h = absurd (let e : ReadFault ≡ Usage = h.ends in let no_way : ⊥ = cc in no_way)
-fault_of call (Replay f q) x asked h = absurd (let e : ReadFault ≡ Usage = h.ends in let no_way : ⊥ = cc in no_way)
+fault_of call (Replay f q) x asked h =
+    let told : Tells call.shelf f q ReadFault x = replay_tells call.shelf f q ReadFault x h in
+    (told.0, record { request = Replay f q; asked = asked; named = told.1; fetched = told.2; fault = told.3 })
 fault_of call (Generate n) x asked h = absurd (let e : ReadFault ≡ Done = h.ends in let no_way : ⊥ = cc in no_way)
 fault_of call (Selfrun n) x asked h = absurd (never_read_fault (report_of h.outcome) h.ends)
 
-pub fault_said : (call : Call) (x : List ℕ) → Says call ReadFault x
-    → (pivots : ℕ) × ((file : Word) × Asks call.words (Analyse pivots file)
-    × MayFail call.shelf.held file call.shelf.faults_before call.shelf.faults_after)
+pub fault_said : (call : Call) (x : List ℕ) → Says call ReadFault x → (file : Word) × MayMiss call file
 fault_said call x (ToNothing none h) = absurd (let e : ReadFault ≡ Usage = h.ends in let no_way : ⊥ = cc in no_way)
 fault_said call x (ToRequest r asked h) = fault_of call r x asked h
 
--- a refusal of a program is that of the file that an analysis is asked of
+-- a refusal of a program is that of the first file
 refused_of : (call : Call) (put : Put) (r : Request) (x : List ℕ) → Asks call.words r → Answers call.shelf r ProgramRefused x
     → Appends put.written_before put.written_after x
-    → (pivots : ℕ) × ((file : Word) × Asks call.words (Analyse pivots file) × WroteRefusal call put file)
+    → (request : Request) × ((file : Word) × Asks call.words request × IsFirstFile request file × WroteRefusal call put file)
 refused_of call put (Analyse n f) x asked (Without (Unread h)) a = absurd (let e : ProgramRefused ≡ ReadFault = h.ends in let no_way : ⊥ = cc in no_way)
-refused_of call put (Analyse n f) x asked (Without (TooLong h)) a = (n, (f, asked, record { text = x; refused = inl h; appended = a }))
-refused_of call put (Analyse n f) x asked (Without (Refused h)) a = (n, (f, asked, record { text = x; refused = inr h; appended = a }))
+refused_of call put (Analyse n f) x asked (Without (TooLong h)) a =
+    (Analyse n f, (f, asked, refl, record { text = x; refused = inl h; appended = a }))
+refused_of call put (Analyse n f) x asked (Without (Refused h)) a =
+    (Analyse n f, (f, asked, refl, record { text = x; refused = inr h; appended = a }))
 refused_of call put (Analyse n f) x asked (Of h) a = absurd (never_refused h.said.report h.said.ends)
 refused_of call put (Prove n f) x asked h a = absurd (let e : ProgramRefused ≡ Usage = h.ends in let no_way : ⊥ = cc in no_way)
 refused_of call put (Check f q) x asked h a = absurd (let e : ProgramRefused ≡ Usage = h.ends in let no_way : ⊥ = cc in no_way)
-refused_of call put (Replay f q) x asked h a = absurd (let e : ProgramRefused ≡ Usage = h.ends in let no_way : ⊥ = cc in no_way)
+refused_of call put (Replay f q) x asked h a =
+    (Replay f q, (f, asked, refl, record { text = x; refused = replay_tells call.shelf f q ProgramRefused x h; appended = a }))
 refused_of call put (Generate n) x asked h a = absurd (let e : ProgramRefused ≡ Done = h.ends in let no_way : ⊥ = cc in no_way)
 refused_of call put (Selfrun n) x asked h a = absurd (never_refused (report_of h.outcome) h.ends)
 
 refused_said : (call : Call) (put : Put) (x : List ℕ) → Says call ProgramRefused x → Appends put.written_before put.written_after x
-    → (pivots : ℕ) × ((file : Word) × Asks call.words (Analyse pivots file) × WroteRefusal call put file)
+    → (request : Request) × ((file : Word) × Asks call.words request × IsFirstFile request file × WroteRefusal call put file)
 refused_said call put x (ToNothing none h) a = absurd (let e : ProgramRefused ≡ Usage = h.ends in let no_way : ⊥ = cc in no_way)
 refused_said call put x (ToRequest r asked h) a = refused_of call put r x asked h a
+
+-- the statuses of a run's file that is refused, and of a run with a bad step, are those of replays alone
+abbrev IsNotOfRuns : Status → Type 0
+IsNotOfRuns Done = ⊤
+IsNotOfRuns Unknown = ⊤
+IsNotOfRuns Usage = ⊤
+IsNotOfRuns ReadFault = ⊤
+IsNotOfRuns WriteFault = ⊤
+IsNotOfRuns Memory = ⊤
+IsNotOfRuns ProgramRefused = ⊤
+IsNotOfRuns ProofRefused = ⊤
+IsNotOfRuns No = ⊤
+IsNotOfRuns RunRefused = ⊥
+IsNotOfRuns NotARun = ⊥
+
+no_run : (seen : Seen) (r : Request) (s : Status) (x : List ℕ) → ((f q : Word) → r ≢ Replay f q) → Answers seen r s x
+    → IsNotOfRuns s
+no_run = of_other_answer IsNotOfRuns tt tt tt tt tt
+
+-- so what they say is said of a replay
+runs_of : (call : Call) (r : Request) (s : Status) (x : List ℕ) → (IsNotOfRuns s → ⊥) → Asks call.words r
+    → Answers call.shelf r s x → (f : Word) × ((q : Word) × Asks call.words (Replay f q) × Tells call.shelf f q s x)
+runs_of call (Analyse n f) s x run asked h = absurd (run (no_run call.shelf (Analyse n f) s x (λ g q e. cc) h))
+runs_of call (Prove n f) s x run asked h = absurd (run (no_run call.shelf (Prove n f) s x (λ g q e. cc) h))
+runs_of call (Check f p) s x run asked h = absurd (run (no_run call.shelf (Check f p) s x (λ g q e. cc) h))
+runs_of call (Replay f q) s x run asked h = (f, (q, asked, replay_tells call.shelf f q s x h))
+runs_of call (Generate n) s x run asked h = absurd (run (no_run call.shelf (Generate n) s x (λ g q e. cc) h))
+runs_of call (Selfrun n) s x run asked h = absurd (run (no_run call.shelf (Selfrun n) s x (λ g q e. cc) h))
+
+runs_said : (call : Call) (s : Status) (x : List ℕ) → (s ≡ Usage → ⊥) → (IsNotOfRuns s → ⊥) → Says call s x
+    → (f : Word) × ((q : Word) × Asks call.words (Replay f q) × Tells call.shelf f q s x)
+runs_said call s x other run (ToNothing none h) = absurd (other h.ends)
+runs_said call s x other run (ToRequest r asked h) = runs_of call r s x run asked h
+
+-- a refusal of a run's file was written, and so was a bad step
+run_refused_wrote : (call : Call) (put : Put) (x : List ℕ) → Says call RunRefused x → Appends put.written_before put.written_after x
+    → (f : Word) × ((q : Word) × Asks call.words (Replay f q) × WroteRunRefusal call put f q)
+run_refused_wrote call put x said a =
+    let told = runs_said call RunRefused x (λ e. let no_way : ⊥ = cc in no_way) (λ h. h) said in
+    let parts : Tells call.shelf told.0 told.1.0 RunRefused x = told.1.2 in (
+      told.0,
+      (
+        told.1.0,
+        told.1.1,
+        record {
+          program = parts.0;
+          program_given = parts.1;
+          text = x;
+          refused = parts.2;
+          appended = a;
+        },
+      ),
+    )
+
+bad_step_wrote : (call : Call) (put : Put) (x : List ℕ) → Says call NotARun x → Appends put.written_before put.written_after x
+    → (f : Word) × ((q : Word) × Asks call.words (Replay f q) × WroteBadStep call put f q)
+bad_step_wrote call put x said a =
+    let told = runs_said call NotARun x (λ e. let no_way : ⊥ = cc in no_way) (λ h. h) said in
+    let parts : Tells call.shelf told.0 told.1.0 NotARun x = told.1.2 in (
+      told.0,
+      (
+        told.1.0,
+        told.1.1,
+        record {
+          program = parts.0;
+          run = parts.1.0;
+          given = parts.1.1;
+          text = x;
+          told = parts.1.2;
+          appended = a;
+        },
+      ),
+    )
+
+-- the tally of a run was written with `Done`, and it is within the bounds
+tally_wrote : ReplaysAreDecided → (call : Call) (put : Put) (f q : Word) (x : List ℕ) → Answers call.shelf (Replay f q) Done x
+    → Appends put.written_before put.written_after x → WroteTally call put f q
+tally_wrote law call put f q x h a =
+    let told : Tells call.shelf f q Done x = replay_tells call.shelf f q Done x h in
+    let tally = told.1.2 in
+    let run = told.1.0 in
+    record {
+      program = told.0;
+      run = run;
+      given = told.1.1;
+      text = x;
+      told = tally;
+      within_bounds = tally_within law told.0 tally.report run.start (last_first run) tally.found.true_on_all_runs tally.in_range;
+      appended = a;
+    }
 
 -- what was written of the program that a file gives
 written : (call : Call) (put : Put) (n : ℕ) (f : Word) (s : Status) (x : List ℕ)
@@ -195,6 +301,12 @@ unknown_whole s e = ((λ f. let g : Unknown ≡ WriteFault = sym e ∙ f in cc),
 fault_whole : (s : Status) → s ≡ ReadFault → (s ≢ WriteFault) × (s ≢ Memory)
 fault_whole s e = ((λ f. let g : ReadFault ≡ WriteFault = sym e ∙ f in cc), (λ f. let g : ReadFault ≡ Memory = sym e ∙ f in cc))
 
+run_refused_whole : (s : Status) → s ≡ RunRefused → (s ≢ WriteFault) × (s ≢ Memory)
+run_refused_whole s e = ((λ f. let g : RunRefused ≡ WriteFault = sym e ∙ f in cc), (λ f. let g : RunRefused ≡ Memory = sym e ∙ f in cc))
+
+bad_step_whole : (s : Status) → s ≡ NotARun → (s ≢ WriteFault) × (s ≢ Memory)
+bad_step_whole s e = ((λ f. let g : NotARun ≡ WriteFault = sym e ∙ f in cc), (λ f. let g : NotARun ≡ Memory = sym e ∙ f in cc))
+
 usage_whole : (s : Status) → s ≡ Usage → (s ≢ WriteFault) × (s ≢ Memory)
 usage_whole s e = ((λ f. let g : Usage ≡ WriteFault = sym e ∙ f in cc), (λ f. let g : Usage ≡ Memory = sym e ∙ f in cc))
 
@@ -219,14 +331,12 @@ status_there ProgramRefused call put ends = tt
 status_there ProofRefused call put ends =
     said_there ProofRefused call put ends (λ e. let no_way : ⊥ = cc in no_way) (λ e. let no_way : ⊥ = cc in no_way)
 status_there No call put ends = said_there No call put ends (λ e. let no_way : ⊥ = cc in no_way) (λ e. let no_way : ⊥ = cc in no_way)
-status_there RunRefused call put ends =
-    said_there RunRefused call put ends (λ e. let no_way : ⊥ = cc in no_way) (λ e. let no_way : ⊥ = cc in no_way)
-status_there NotARun call put ends =
-    said_there NotARun call put ends (λ e. let no_way : ⊥ = cc in no_way) (λ e. let no_way : ⊥ = cc in no_way)
+status_there RunRefused call put ends = tt
+status_there NotARun call put ends = tt
 
 -- how a call ends says this of its status
-pub ends_mean : (s : Status) (call : Call) (put : Put) → Ends s call put → Means s call put
-ends_mean s call put ends = record {
+pub ends_mean : ReplaysAreDecided → (s : Status) (call : Call) (put : Put) → Ends s call put → Means s call put
+ends_mean law s call put ends = record {
   done = λ n f asked e.
       let whole = done_whole s e in
       let wrote = ends.wrote whole.0 whole.1 in
@@ -237,6 +347,11 @@ ends_mean s call put ends = record {
       let wrote = ends.wrote whole.0 whole.1 in
       unknown_wrote call put n f wrote.text
       (answer_of call (Analyse n f) Unknown wrote.text asked (subst (λ (t : Status). Says call t wrote.text) e wrote.says)) wrote.appended;
+  replayed = λ f q asked e.
+      let whole = done_whole s e in
+      let wrote = ends.wrote whole.0 whole.1 in
+      tally_wrote law call put f q wrote.text
+      (answer_of call (Replay f q) Done wrote.text asked (subst (λ (t : Status). Says call t wrote.text) e wrote.says)) wrote.appended;
   usage = λ e.
       let whole = usage_whole s e in
       let wrote = ends.wrote whole.0 whole.1 in
@@ -248,6 +363,14 @@ ends_mean s call put ends = record {
       let whole = refused_whole s e in
       let wrote = ends.wrote whole.0 whole.1 in
       refused_said call put wrote.text (subst (λ (t : Status). Says call t wrote.text) e wrote.says) wrote.appended;
+  run_refused = λ e.
+      let whole = run_refused_whole s e in
+      let wrote = ends.wrote whole.0 whole.1 in
+      run_refused_wrote call put wrote.text (subst (λ (t : Status). Says call t wrote.text) e wrote.says) wrote.appended;
+  not_a_run = λ e.
+      let whole = bad_step_whole s e in
+      let wrote = ends.wrote whole.0 whole.1 in
+      bad_step_wrote call put wrote.text (subst (λ (t : Status). Says call t wrote.text) e wrote.says) wrote.appended;
   no_other = status_there s call put ends;
   read_fault = λ e.
       let whole = fault_whole s e in

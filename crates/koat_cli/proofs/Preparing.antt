@@ -1,5 +1,5 @@
 -- What is prepared is said: of the request that words ask for, and of a generated program.
-use Rattle.std.proofs.Common.{◌≡◌, ℕ, List, length, Option, Some, Result, Ok, Err, IfOk, MatchOption, subst, sym, ◌∙◌, ap, refl}
+use Rattle.std.proofs.Common.{◌≡◌, ℕ, ◌≤◌, ◌<◌, arith, List, length, Option, Some, Result, Ok, Err, IfOk, MatchOption, subst, sym, ◌∙◌, ap, refl}
 use Rattle.std.proofs.lemmas.Result.{IfOk-weaker}
 use Rattle.model.specs.Programs.{Program}
 use Rattle.its_reader.specs.its_text.Spelling.{SpellsWithin}
@@ -18,10 +18,16 @@ use Rattle.time_bounds.specs.Whys.{ReasonsAreTrue}
 use Rattle.koat_cli.specs.declared.status.Status.{Status}
 use Rattle.koat_cli.specs.declared.status.Status.TheVariants.{Done, Usage}
 use Rattle.koat_cli.specs.declared.status_text.StatusText.{StatusText}
-use Rattle.koat_cli.specs.Calls.{Call}
+use Rattle.outside_io.specs.Files.{Files}
+use Rattle.outside_io.specs.declared.shelf.Shelf as shelf
+use Rattle.asks.specs.Lines.{Word}
+use Rattle.koat_cli.specs.Calls.{Seen, Call, seen_of}
+use Rattle.koat_cli.specs.OnFiles.{GivesProgram}
+use Rattle.koat_cli.specs.OnTexts.{OnText, OnProgramFirst, Behind}
+use Rattle.koat_cli.specs.RunTexts.{runs}
 use Rattle.koat_cli.specs.Figures.{text_of_figures}
 use Rattle.koat_cli.specs.Report.{usage_text}
-use Rattle.koat_cli.specs.Outputs.{IsGenerated, IsSummaryOf, IsUsage, status_of}
+use Rattle.koat_cli.specs.Outputs.{IsReplayOf, IsGenerated, IsSummaryOf, IsUsage, status_of}
 use Rattle.koat_cli.specs.Answers.{Answers, Says, ToRequest}
 
 -- the words ask for the request that was read of them
@@ -69,3 +75,41 @@ summary_of p q o s x e found holds reasons lemmas told ends =
       told = told;
       ends = ends;
     }
+
+-- what was seen of a shelf between whose two fetches nothing changed
+seen_same : (held other : Option Files) (before middle after taken : ℕ) → held ≡ other → before ≡ middle
+    → ◌≡◌ {A = Seen} (record { held = held; faults_before = before; faults_after = after; taken = taken })
+    (record { held = other; faults_before = middle; faults_after = after; taken = taken })
+seen_same held other before middle after taken h e = cc
+
+-- what is answered of a run behind the program that another file gave is answered of both files
+pub behind_program : {F E : Type 0} (means : shelf.Ghosts F) (before middle after : F) (file run : Word) (p : Program)
+    (given : Result StatusText E) → means.held middle ≡ means.held before → means.faults before ≤ means.faults middle
+    → ¬ (means.faults before < means.faults middle) → GivesProgram (seen_of means before middle) file p
+    → IfOk given (λ said. OnText (runs p) (seen_of means middle after) run (IsReplayOf p) said.status said.text.items)
+    → IfOk given (λ said. OnProgramFirst (seen_of means before after) file
+    (λ q. OnText (runs q) (seen_of means before after) run (IsReplayOf q)) said.status said.text.items)
+behind_program means before middle after file run p given held most few h answered =
+    IfOk-weaker given (λ (said : StatusText). OnText (runs p) (seen_of means middle after) run (IsReplayOf p) said.status said.text.items)
+    (λ (said : StatusText). OnProgramFirst (seen_of means before after) file
+    (λ q. OnText (runs q) (seen_of means before after) run (IsReplayOf q)) said.status said.text.items) each answered
+  where
+    steady : means.faults middle ≡ means.faults before
+    steady = grind (arith, most, few)
+
+    same : seen_of means middle after ≡ seen_of means before after
+    same = seen_same (means.held middle) (means.held before) (means.faults middle) (means.faults before) (means.faults after)
+        (means.taken after) held steady
+
+    each : (said : StatusText) → OnText (runs p) (seen_of means middle after) run (IsReplayOf p) said.status said.text.items
+        → OnProgramFirst (seen_of means before after) file (λ q. OnText (runs q) (seen_of means before after) run (IsReplayOf q))
+        said.status said.text.items
+    each said a = Behind (means.taken middle) (record {
+      program = p;
+      given = record {
+        bytes = h.bytes;
+        fetched = record { held = h.fetched.held; taken = h.fetched.taken; within = h.fetched.within };
+        spelled = h.spelled;
+      };
+      said = subst (λ (seen : Seen). OnText (runs p) seen run (IsReplayOf p) said.status said.text.items) same a;
+    })

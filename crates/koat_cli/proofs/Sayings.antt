@@ -1,5 +1,5 @@
 -- What is read, refused and said.
-use Rattle.std.proofs.Common.{◌≡◌, ℕ, Bool, true, false, if◌then◌else◌, List, Option, Some, None, Ok, Err}
+use Rattle.std.proofs.Common.{◌≡◌, ◌≢◌, ℕ, Bool, true, false, if◌then◌else◌, List, Option, Some, None, Ok, Err}
 use Rattle.std.proofs.Common.{IfSome, refl, sym, ◌∙◌, ap, subst}
 use Rattle.std.specs.List.{list_all}
 use Rattle.model.specs.Programs.{Program}
@@ -20,7 +20,7 @@ use Rattle.its_reader.specs.declared.error.ReadError.{ReadError}
 use Rattle.its_reader.specs.declared.error.ReadError.TheVariants as errors
 use Rattle.koat_cli.specs.declared.status.Status.{Status}
 use Rattle.koat_cli.specs.declared.status.Status.TheVariants.{Done, Unknown, Usage, ReadFault, WriteFault, Memory}
-use Rattle.koat_cli.specs.declared.status.Status.TheVariants.{ProgramRefused}
+use Rattle.koat_cli.specs.declared.status.Status.TheVariants.{ProgramRefused, ProofRefused, No, RunRefused, NotARun}
 use Rattle.asks.specs.Lines.{Word}
 use Rattle.asks.specs.Requests.{Request, Analyse, Prove, Check, Replay, Generate, Selfrun}
 use Rattle.koat_cli.specs.Calls.{Seen, Call}
@@ -32,6 +32,7 @@ use Rattle.koat_cli.specs.Answers.{Answers, Says, ToNothing, ToRequest}
 use Rattle.koat_cli.specs.Ends.{IsStatusThere}
 use Rattle.koat_cli.specs.Steps.{IsSaid}
 use Rattle.report_text.proofs.Entries.{all_known as all_timed}
+use Rattle.koat_cli.proofs.ReplayStatuses.{Tells, replay_tells}
 
 -- what may be there is one
 some_same : (x y : Fault Kind) → ◌≡◌ {A = Option (Fault Kind)} (Some x) (Some y) → x ≡ y
@@ -111,28 +112,53 @@ module _ (Holds : Status → Type 0) (done : Holds Done) (unknown : Holds Unknow
   of_no_program seen file s x (files.TooLong h) = subst Holds (sym h.ends) refused
   of_no_program seen file s x (files.Refused h) = subst Holds (sym h.ends) refused
 
-  -- of each with which a request is answered
-  of_answer : (seen : Seen) (r : Request) (s : Status) (x : List ℕ) → Answers seen r s x → Holds s
-  of_answer seen (Analyse n f) s x (files.Without h) = of_no_program seen f s x h
-  of_answer seen (Analyse n f) s x (files.Of h) = subst Holds (sym h.said.ends) (of_report h.said.report)
-  of_answer seen (Prove n f) s x h = subst Holds (sym h.ends) usage
-  of_answer seen (Check f q) s x h = subst Holds (sym h.ends) usage
-  of_answer seen (Replay f q) s x h = subst Holds (sym h.ends) usage
-  of_answer seen (Generate n) s x h = subst Holds (sym h.ends) done
-  of_answer seen (Selfrun n) s x h = subst Holds (sym h.ends) (of_report (report_of h.outcome))
+  -- of each with which another request is answered than one for a replay
+  pub of_other_answer : (seen : Seen) (r : Request) (s : Status) (x : List ℕ) → ((f q : Word) → r ≢ Replay f q)
+      → Answers seen r s x → Holds s
+  of_other_answer seen (Analyse n f) s x other (files.Without h) = of_no_program seen f s x h
+  of_other_answer seen (Analyse n f) s x other (files.Of h) = subst Holds (sym h.said.ends) (of_report h.said.report)
+  of_other_answer seen (Prove n f) s x other h = subst Holds (sym h.ends) usage
+  of_other_answer seen (Check f q) s x other h = subst Holds (sym h.ends) usage
+  of_other_answer seen (Replay f q) s x other h = absurd (other f q refl)
+  of_other_answer seen (Generate n) s x other h = subst Holds (sym h.ends) done
+  of_other_answer seen (Selfrun n) s x other h = subst Holds (sym h.ends) (of_report (report_of h.outcome))
 
-  -- and so of each with which a call answers
-  pub of_says : (call : Call) (s : Status) (x : List ℕ) → Says call s x → Holds s
-  of_says call s x (ToNothing none h) = subst Holds (sym h.ends) usage
-  of_says call s x (ToRequest r asked h) = of_answer call.shelf r s x h
+  -- and, with two more, of each with which a replay is
+  of_replay : Holds RunRefused → Holds NotARun → (seen : Seen) (f q : Word) (s : Status) (x : List ℕ) → Tells seen f q s x
+      → Holds s
+  of_replay run_refused not_a_run seen f q Done x h = done
+  of_replay run_refused not_a_run seen f q Unknown x h = absurd h
+  of_replay run_refused not_a_run seen f q Usage x h = absurd h
+  of_replay run_refused not_a_run seen f q ReadFault x h = read_fault
+  of_replay run_refused not_a_run seen f q WriteFault x h = absurd h
+  of_replay run_refused not_a_run seen f q Memory x h = absurd h
+  of_replay run_refused not_a_run seen f q ProgramRefused x h = refused
+  of_replay run_refused not_a_run seen f q ProofRefused x h = absurd h
+  of_replay run_refused not_a_run seen f q No x h = absurd h
+  of_replay run_refused not_a_run seen f q RunRefused x h = run_refused
+  of_replay run_refused not_a_run seen f q NotARun x h = not_a_run
+
+  of_answer : Holds RunRefused → Holds NotARun → (seen : Seen) (r : Request) (s : Status) (x : List ℕ) → Answers seen r s x
+      → Holds s
+  of_answer run_refused not_a_run seen (Analyse n f) s x h = of_other_answer seen (Analyse n f) s x (λ g q e. cc) h
+  of_answer run_refused not_a_run seen (Prove n f) s x h = of_other_answer seen (Prove n f) s x (λ g q e. cc) h
+  of_answer run_refused not_a_run seen (Check f g) s x h = of_other_answer seen (Check f g) s x (λ g q e. cc) h
+  of_answer run_refused not_a_run seen (Replay f q) s x h = of_replay run_refused not_a_run seen f q s x (replay_tells seen f q s x h)
+  of_answer run_refused not_a_run seen (Generate n) s x h = of_other_answer seen (Generate n) s x (λ g q e. cc) h
+  of_answer run_refused not_a_run seen (Selfrun n) s x h = of_other_answer seen (Selfrun n) s x (λ g q e. cc) h
+
+  -- so of each with which a call answers
+  pub of_says : Holds RunRefused → Holds NotARun → (call : Call) (s : Status) (x : List ℕ) → Says call s x → Holds s
+  of_says run_refused not_a_run call s x (ToNothing none h) = subst Holds (sym h.ends) usage
+  of_says run_refused not_a_run call s x (ToRequest r asked h) = of_answer run_refused not_a_run call.shelf r s x h
 
 -- a call answers neither with the status of a fault of the sink nor with that of want of memory
 pub says_said : (call : Call) (s : Status) (x : List ℕ) → Says call s x → IsSaid s
-says_said = of_says IsSaid tt tt tt tt tt
+says_said = of_says IsSaid tt tt tt tt tt tt tt
 
 -- and with one that is there
 pub says_there : (call : Call) (s : Status) (x : List ℕ) → Says call s x → IsStatusThere s
-says_there = of_says IsStatusThere tt tt tt tt tt
+says_there = of_says IsStatusThere tt tt tt tt tt tt tt
 
 -- what is said with a status that no call answers with
 pub never_write_fault : (call : Call) (x : List ℕ) → ¬ (Says call WriteFault x)

@@ -6,7 +6,7 @@ use Rattle.its_writer.specs.Texts.{canonical_text}
 use Rattle.its_writer.proofs.GeneratedWithin.{generated_spelled}
 use Rattle.asks.specs.Lines.{Words, Positional}
 use Rattle.asks.specs.Numerals.{IsNumber}
-use Rattle.asks.specs.Requests.{Analyse, Prove, Generate, Selfrun, Asks}
+use Rattle.asks.specs.Requests.{Analyse, Prove, Replay, Generate, Selfrun, Asks}
 use Rattle.asks.proofs.Firsts.{gives_of}
 use Rattle.asks.proofs.WorkedLines.{command_lines}
 use Rattle.outcome.specs.Views.{report_of}
@@ -17,6 +17,7 @@ use Rattle.koat_cli.specs.Report.{usage_text}
 use Rattle.koat_cli.specs.Answers.{ToRequest}
 use Rattle.koat_cli.specs.WorkedAnswers.{Answered, FiguresAreWorkedOut, AnswersAreWorkedOut}
 use Rattle.koat_cli.proofs.OneRequest.{answer_of, usage_not_there, never_read_fault}
+use Rattle.koat_cli.proofs.ReplayStatuses.{Tells, replay_tells}
 
 pub figures_worked : FiguresAreWorkedOut
 unfolding digits
@@ -91,6 +92,23 @@ analyse seen text said =
     usage_not_there seen (Analyse 10000 (codes "p")) text
     (answer_of (call_with (codes "analyse" ∷ codes "p" ∷ []) seen) (Analyse 10000 (codes "p")) Usage text command_lines.file_alone said) tt
 
+-- what is answered to a replay
+replay_answered : (seen : Seen) (status : Status) (text : List ℕ)
+    → Answered (codes "replay" ∷ codes "p" ∷ codes "--" ∷ codes "-q" ∷ []) seen status text
+    → Tells seen (codes "p") (codes "-q") status text
+replay_answered seen status text said =
+    replay_tells seen (codes "p") (codes "-q") status text
+    (answer_of (call_with (codes "replay" ∷ codes "p" ∷ codes "--" ∷ codes "-q" ∷ []) seen)
+    (Replay (codes "p") (codes "-q")) status text command_lines.replay said)
+
+replay : (seen : Seen) (text : List ℕ)
+    → ¬ (Answered (codes "replay" ∷ codes "p" ∷ codes "--" ∷ codes "-q" ∷ []) seen Usage text)
+replay seen text said = replay_answered seen Usage text said
+
+replay_known : (seen : Seen) (text : List ℕ)
+    → ¬ (Answered (codes "replay" ∷ codes "p" ∷ codes "--" ∷ codes "-q" ∷ []) seen Unknown text)
+replay_known seen text said = replay_answered seen Unknown text said
+
 selfrun : (seen : Seen) (text : List ℕ) → ¬ (Answered (codes "selfrun" ∷ codes "0" ∷ []) seen ReadFault text)
 selfrun seen text said =
     let answer = answer_of (call_with (codes "selfrun" ∷ codes "0" ∷ []) seen) (Selfrun 0) ReadFault text selfrun_asked said in
@@ -104,5 +122,7 @@ answers_worked = record {
   prove = prove;
   prove_alone = prove_alone;
   analyse = analyse;
+  replay = replay;
+  replay_known = replay_known;
   selfrun = selfrun;
 }

@@ -6,14 +6,17 @@ use Rattle.asks.specs.Requests.{Request, Analyse, Prove, Check, Replay, Generate
 use Rattle.koat_cli.specs.declared.status.Status.{Status}
 use Rattle.koat_cli.specs.Calls.{Seen, Call}
 use Rattle.koat_cli.specs.OnFiles.{OnProgram}
-use Rattle.koat_cli.specs.Outputs.{IsReportOf, IsGenerated, IsSummaryOf, IsUsage}
+use Rattle.koat_cli.specs.OnTexts.{OnText, OnProgramFirst}
+use Rattle.koat_cli.specs.Outputs.{IsReportOf, IsReplayOf, IsGenerated, IsSummaryOf, IsUsage}
+use Rattle.koat_cli.specs.RunTexts.{runs}
 
--- what is answered of a request; `prove`, `check` and `replay` aren't there
+-- what is answered of a request; `prove` and `check` aren't there
 abbrev pub Answers : Seen → Request → Status → List ℕ → Type 0
 Answers seen (Analyse pivots file) status text = OnProgram seen file (λ program. IsReportOf program pivots) status text
 Answers seen (Prove pivots file) status text = IsUsage status text
 Answers seen (Check file proof) status text = IsUsage status text
-Answers seen (Replay file run) status text = IsUsage status text
+Answers seen (Replay file run) status text =
+    OnProgramFirst seen file (λ program. OnText (runs program) seen run (IsReplayOf program)) status text
 Answers seen (Generate n) status text = IsGenerated n status text
 Answers seen (Selfrun n) status text = IsSummaryOf (generated n) status text
 
@@ -22,7 +25,7 @@ abbrev pub IsThere : Request → Type 0
 IsThere (Analyse pivots file) = ⊤
 IsThere (Prove pivots file) = ⊥
 IsThere (Check file proof) = ⊥
-IsThere (Replay file run) = ⊥
+IsThere (Replay file run) = ⊤
 IsThere (Generate n) = ⊤
 IsThere (Selfrun n) = ⊤
 
@@ -31,7 +34,7 @@ abbrev pub FetchesFile : Request → Type 0
 FetchesFile (Analyse pivots file) = ⊤
 FetchesFile (Prove pivots file) = ⊥
 FetchesFile (Check file proof) = ⊥
-FetchesFile (Replay file run) = ⊥
+FetchesFile (Replay file run) = ⊤
 FetchesFile (Generate n) = ⊥
 FetchesFile (Selfrun n) = ⊥
 

@@ -6,17 +6,24 @@ use Rattle.outside_io.specs.Counts.{Rose}
 use Rattle.outside_io.specs.Fetching.{MayFail}
 use Rattle.outside_io.specs.Putting.{AppendsPrefix}
 use Rattle.model.specs.Programs.{Program}
+use Rattle.model.specs.Runs.{sizes_of_start}
 use Rattle.asks.specs.Lines.{Word}
-use Rattle.asks.specs.Requests.{Analyse, Asks}
+use Rattle.asks.specs.Requests.{Request, Analyse, Prove, Check, Replay, Generate, Selfrun, Asks}
 use Rattle.outcome.specs.Reports.{Report, is_timed}
 use Rattle.report_text.specs.States.{States}
+use Rattle.run_replay.specs.ReplayAnswers.{last_first}
+use Rattle.run_replay.specs.Replays.{tally_along}
+use Rattle.run_replay.specs.Runs.{Run}
 use Rattle.koat_cli.specs.declared.status.Status.{Status}
 use Rattle.koat_cli.specs.declared.status.Status.TheVariants.{Done, Unknown, Usage, ReadFault, WriteFault, Memory}
 use Rattle.koat_cli.specs.declared.status.Status.TheVariants.{ProgramRefused, ProofRefused, No, RunRefused, NotARun}
-use Rattle.koat_cli.specs.Calls.{Call, Put}
+use Rattle.koat_cli.specs.Calls.{Seen, Call, Put}
 use Rattle.koat_cli.specs.Report.{usage_text}
 use Rattle.koat_cli.specs.OnFiles.{GivesProgram, IsRefusedTooLong, IsRefusedAt}
-use Rattle.koat_cli.specs.Outputs.{IsFound}
+use Rattle.koat_cli.specs.OnTexts.{earlier, IsOverLimit, IsTextRefused, GivesText}
+use Rattle.koat_cli.specs.RunTexts.{runs}
+use Rattle.koat_cli.specs.Outputs.{IsFound, IsTallyOf, IsBadStepOf}
+use Rattle.koat_cli.specs.WithinBounds.{IsWithinBounds}
 use Rattle.koat_cli.specs.Answers.{AsksForNothingThere, Says}
 
 -- a text that the call answers with this status was appended, whole, to what was written
@@ -74,7 +81,81 @@ pub record WroteRefusal (call : Call) (put : Put) (file : Word) : Type 0 where
       ⊎ (IsRefusedAt call.shelf file ProgramRefused text)
   pub appended : Appends put.written_before put.written_after text
 
--- the statuses with which a call can end: not those of checking proofs and of following runs, which no request comes to
+-- the first file of a request, and the second one, where files are fetched for it
+abbrev pub IsFirstFile : Request → Word → Type 0
+IsFirstFile (Analyse pivots file) f = f ≡ file
+IsFirstFile (Prove pivots file) f = ⊥
+IsFirstFile (Check file proof) f = ⊥
+IsFirstFile (Replay file run) f = f ≡ file
+IsFirstFile (Generate n) f = ⊥
+IsFirstFile (Selfrun n) f = ⊥
+
+abbrev pub IsSecondFile : Request → Word → Type 0
+IsSecondFile (Analyse pivots file) f = ⊥
+IsSecondFile (Prove pivots file) f = ⊥
+IsSecondFile (Check file proof) f = ⊥
+IsSecondFile (Replay file run) f = f ≡ run
+IsSecondFile (Generate n) f = ⊥
+IsSecondFile (Selfrun n) f = ⊥
+
+-- the file gave this program when it was fetched, before another one was
+pub record GaveProgram (seen : Seen) (file : Word) (program : Program) : Type 0 where
+  pub taken : ℕ
+  pub given : GivesProgram (earlier seen taken) file program
+
+-- the first file of a request gave a program
+pub record FirstGave (seen : Seen) (request : Request) : Type 0 where
+  pub file : Word
+  pub first : IsFirstFile request file
+  pub program : Program
+  pub gave : GaveProgram seen file program
+
+-- the file is one of what the words ask for, and is fetched, being the first or the first having given a program; and
+-- it may fail: the shelf had a fault in this call, or tells that it lacks the file
+pub record MayMiss (call : Call) (file : Word) : Type 0 where
+  pub request : Request
+  pub asked : Asks call.words request
+  pub named : (IsFirstFile request file) ⊎ (IsSecondFile request file)
+  pub fetched : (IsFirstFile request file) ⊎ (FirstGave call.shelf request)
+  pub fault : MayFail call.shelf.held file call.shelf.faults_before call.shelf.faults_after
+
+-- the first of two files gave the program, and the second one gives the text of this run of it, within the limits
+pub record GiveRun (seen : Seen) (file run_file : Word) (program : Program) (run : Run) : Type 0 where
+  pub program_given : GaveProgram seen file program
+  pub run_given : GivesText (runs program) seen run_file run
+
+-- the two files give a run, and a text was appended, whole, that tells the tally along it beside the values of the
+-- bounds of the program's analysis; and each number of the tally is at most the value of the bound beside it
+pub record WroteTally (call : Call) (put : Put) (file run_file : Word) : Type 0 where
+  pub program : Program
+  pub run : Run
+  pub given : GiveRun call.shelf file run_file program run
+  pub text : List ℕ
+  pub told : IsTallyOf program run Done text
+  pub within_bounds : IsWithinBounds (sizes_of_start run.start)
+      (tally_along program run.start (last_first run)) told.report
+  pub appended : Appends put.written_before put.written_after text
+
+-- the two files give a run, and a text was appended, whole, that tells its first bad step
+pub record WroteBadStep (call : Call) (put : Put) (file run_file : Word) : Type 0 where
+  pub program : Program
+  pub run : Run
+  pub given : GiveRun call.shelf file run_file program run
+  pub text : List ℕ
+  pub told : IsBadStepOf program run NotARun text
+  pub appended : Appends put.written_before put.written_after text
+
+-- the first of two files gave a program, and a text was appended, whole, that refuses the second one: as too long, or
+-- for what stands first against its bytes
+pub record WroteRunRefusal (call : Call) (put : Put) (file run_file : Word) : Type 0 where
+  pub program : Program
+  pub program_given : GaveProgram call.shelf file program
+  pub text : List ℕ
+  pub refused : (IsOverLimit (runs program) call.shelf run_file RunRefused text)
+      ⊎ (IsTextRefused (runs program) call.shelf run_file RunRefused text)
+  pub appended : Appends put.written_before put.written_after text
+
+-- the statuses with which a call can end: not those of checking proofs, which no request comes to
 abbrev pub IsStatusThere : Status → Type 0
 IsStatusThere Done = ⊤
 IsStatusThere Unknown = ⊤
@@ -85,23 +166,30 @@ IsStatusThere Memory = ⊤
 IsStatusThere ProgramRefused = ⊤
 IsStatusThere ProofRefused = ⊥
 IsStatusThere No = ⊥
-IsStatusThere RunRefused = ⊥
-IsStatusThere NotARun = ⊥
+IsStatusThere RunRefused = ⊤
+IsStatusThere NotARun = ⊤
 
 -- what statuses mean: where `analyse` ends with `Done`, such a report was written, in which every rule has a time, and
--- where it ends with `Unknown`, one in which some rule has none. With `Usage` a call ends only where its words ask for
--- nothing that is there, and the usage text was written; with `ReadFault` only where they ask for an analysis and the
--- shelf had a fault in the call, or tells that it lacks the file; with `ProgramRefused` only where they ask for an
--- analysis and a text was written that refuses the file; and no status comes of which nothing is said
+-- where it ends with `Unknown`, one in which some rule has none; where `replay` ends with `Done`, the tally along the
+-- run was written beside the bounds. With `Usage` a call ends only where its words ask for nothing that is there, and
+-- the usage text was written; with `ReadFault` only where a file may fail that is fetched for its words; with
+-- `ProgramRefused` only where a text was written that refuses the first file; with `RunRefused` and `NotARun` only
+-- where its words ask for a replay, and a text was written that refuses the second file, or that tells the first bad
+-- step of the run; and no status comes of which nothing is said
 pub record Means (status : Status) (call : Call) (put : Put) : Type 0 where
   pub done : (pivots : ℕ) (file : Word) → Asks call.words (Analyse pivots file) → status ≡ Done
       → (report : Report) × WroteReport call put pivots file report × IsTrue (list_all is_timed report.times)
   pub unknown : (pivots : ℕ) (file : Word) → Asks call.words (Analyse pivots file) → status ≡ Unknown
       → (report : Report) × WroteReport call put pivots file report × IsFalse (list_all is_timed report.times)
+  pub replayed : (file run : Word) → Asks call.words (Replay file run) → status ≡ Done
+      → WroteTally call put file run
   pub usage : status ≡ Usage
       → AsksForNothingThere call.words × (Appends put.written_before put.written_after usage_text)
-  pub read_fault : status ≡ ReadFault → (pivots : ℕ) × ((file : Word) × Asks call.words (Analyse pivots file)
-      × MayFail call.shelf.held file call.shelf.faults_before call.shelf.faults_after)
-  pub program_refused : status ≡ ProgramRefused
-      → (pivots : ℕ) × ((file : Word) × Asks call.words (Analyse pivots file) × WroteRefusal call put file)
+  pub read_fault : status ≡ ReadFault → (file : Word) × MayMiss call file
+  pub program_refused : status ≡ ProgramRefused → (request : Request) × ((file : Word) × Asks call.words request
+      × IsFirstFile request file × WroteRefusal call put file)
+  pub run_refused : status ≡ RunRefused
+      → (file : Word) × ((run : Word) × Asks call.words (Replay file run) × WroteRunRefusal call put file run)
+  pub not_a_run : status ≡ NotARun
+      → (file : Word) × ((run : Word) × Asks call.words (Replay file run) × WroteBadStep call put file run)
   pub no_other : IsStatusThere status

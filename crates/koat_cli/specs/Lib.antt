@@ -3,16 +3,22 @@ pub mod Calls
 pub mod Report
 pub mod Figures
 pub mod Numbers
-pub mod Outputs
+pub mod ReplayTexts
 pub mod OnFiles
+pub mod OnTexts
+pub mod RunTexts
+pub mod Outputs
+pub mod WithinBounds
 pub mod Answers
 pub mod Ends
 pub mod Processes
 pub mod Exclusion
 pub mod Answering
+pub mod AnsweringReplays
 pub mod AnalysisTexts
 -- values that were worked out by hand
 pub mod WorkedEnds
 pub mod WorkedAnswers
+pub mod WorkedReplayTexts
 -- what the contracts of the functions inside cite
 pub mod Steps

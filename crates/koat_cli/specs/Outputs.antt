@@ -2,6 +2,7 @@
 use Rattle.std.specs.Prelude.{◌≡◌, ℕ, if◌then◌else◌, List, length}
 use Rattle.std.specs.List.{list_all}
 use Rattle.model.specs.Programs.{Program}
+use Rattle.model.specs.Runs.{sizes_of_start}
 use Rattle.its_reader.specs.its_text.Spelling.{SpellsWithin}
 use Rattle.its_writer.specs.Generated.{generated}
 use Rattle.its_writer.specs.Texts.{canonical_text}
@@ -11,12 +12,17 @@ use Rattle.outcome.specs.Reports.{Report, is_timed}
 use Rattle.outcome.specs.Holding.{ReportHolds}
 use Rattle.outcome.specs.Views.{report_of}
 use Rattle.report_text.specs.States.{States}
+use Rattle.run_replay.specs.ReplayAnswers.{last_first}
+use Rattle.run_replay.specs.Replays.{IsRunInRange, BadStep, IsFirstBadStep, tally_along}
+use Rattle.run_replay.specs.Runs.{Run}
 use Rattle.time_bounds.specs.Analysis.{IsAnalysis}
 use Rattle.time_bounds.specs.AnalysisLemmas.{HasLemmas}
 use Rattle.time_bounds.specs.Whys.{ReasonsAreTrue}
 use Rattle.koat_cli.specs.declared.status.Status.{Status}
-use Rattle.koat_cli.specs.declared.status.Status.TheVariants.{Done, Unknown, Usage}
+use Rattle.koat_cli.specs.declared.status.Status.TheVariants.{Done, Unknown, Usage, NotARun}
 use Rattle.koat_cli.specs.Figures.{text_of_figures}
+use Rattle.koat_cli.specs.ReplayTexts.{text_of_replay}
+use Rattle.koat_cli.specs.RunTexts.{bad_step_text}
 use Rattle.koat_cli.specs.Report.{usage_text}
 
 -- the report is that of the analysis of the program with so many pivots for each linear program; every bound in it holds
@@ -52,6 +58,29 @@ pub record IsSummaryOf (program : Program) (status : Status) (text : List ℕ) :
   pub lemmas : HasLemmas program default_pivots outcome
   pub told : text ≡ text_of_figures program (report_of outcome) (length outcome.lemmas.items)
   pub ends : status ≡ status_of (report_of outcome)
+
+-- `replay` of a run: the text has the tally along it beside the bounds that the program's analysis with the usual
+-- number of pivots finds, each as its value, up to 2^127, at the absolute start values
+pub record IsTallyOf (program : Program) (run : Run) (status : Status) (text : List ℕ) : Type 0 where
+  pub in_range : IsRunInRange program run.start (last_first run)
+  pub report : Report
+  pub found : IsFound program default_pivots report
+  pub told : text
+      ≡ text_of_replay (sizes_of_start run.start) (tally_along program run.start (last_first run)) report
+  pub ends : status ≡ Done
+
+-- `replay` of steps that are no run of the program: the text tells the first bad one
+pub record IsBadStepOf (program : Program) (run : Run) (status : Status) (text : List ℕ) : Type 0 where
+  pub bad : BadStep
+  pub first : IsFirstBadStep program run.start (last_first run) bad
+  pub told : text ≡ bad_step_text bad
+  pub ends : status ≡ NotARun
+
+-- `replay`: the tally where the steps are a run of the program and no value passes 128 bits on the way, and else the
+-- first bad step
+pub data IsReplayOf (program : Program) (run : Run) (status : Status) (text : List ℕ) : Type 0 where
+  Tallied : IsTallyOf program run status text → IsReplayOf program run status text
+  NoRun : IsBadStepOf program run status text → IsReplayOf program run status text
 
 -- what words get that ask for nothing that is there: the usage text
 pub record IsUsage (status : Status) (text : List ℕ) : Type 0 where

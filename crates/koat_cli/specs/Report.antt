@@ -11,7 +11,9 @@ use Rattle.its_reader.specs.its_text.Kinds.{Disjunction}
 
 -- the text for words that ask for nothing that is there: a line for each command that there is
 abbrev pub usage_text : List ℕ
-usage_text = codes "usage: koat analyse [--pivots N] FILE\n       koat generate N\n       koat selfrun N\n"
+usage_text =
+    codes "usage: koat analyse [--pivots N] FILE\n       koat replay FILE RUN\n"
+    ++ codes "       koat generate N\n       koat selfrun N\n"
 
 -- the text where a file can't be had
 abbrev pub read_fault_text : List ℕ

@@ -1,5 +1,6 @@
 //! The program's top call, from the words of the command line to the status. Its contract is the theorem: after status
-//! 0 of `analyse` the report on the sink is true on every run of the program that the file spells.
+//! 0 of `analyse` the report on the sink is true on every run of the program that the file spells, and after status 0
+//! of `replay` each number of the tally on the sink is at most the value of the bound beside it.
 #![tactic(auto)]
 
 mod analysis;
@@ -10,6 +11,10 @@ mod preparation;
 mod program;
 mod program_file;
 mod refusal;
+mod replay_text;
+mod replaying;
+mod run_in_file;
+mod run_refusal;
 mod status;
 mod status_text;
 mod top_call;
@@ -17,7 +22,8 @@ mod top_call;
 pub use asks::{Request, asks};
 pub use law::{
     analysis_texts_state_one_report, answers_exclude_each_other, held_files_are_answered,
-    numbers_are_answered, worked_answers_hold, worked_ends_hold,
+    numbers_are_answered, replays_are_answered, worked_answers_hold, worked_ends_hold,
+    worked_replay_texts_hold,
 };
 pub use program::run_program;
 pub use report_text::print as print_report;

@@ -4,22 +4,32 @@ ghost use Rattle.std.specs.Prelude.{◌≡◌, ◌≤◌, ◌<◌, map, string_b
 ghost use Rattle.koat_cli.specs.Answers.{FetchesNothing, Says};
 ghost use Rattle.koat_cli.specs.Calls.{call_of, seen_of};
 ghost use Rattle.koat_cli.specs.OnFiles.{OnProgram};
-ghost use Rattle.koat_cli.specs.Outputs.{IsReportOf};
+ghost use Rattle.koat_cli.specs.OnTexts.{OnText, OnProgramFirst};
+ghost use Rattle.koat_cli.specs.Outputs.{IsReportOf, IsReplayOf};
+ghost use Rattle.koat_cli.specs.RunTexts.{runs};
 ghost use Rattle.koat_cli.specs.Steps.{IsSaid};
+ghost use Rattle.its_model.specs.Valid.{IsValid};
+ghost use Rattle.its_model.specs.Views.{program_of};
 
 use crate::analysis::report;
 use crate::generated::{generated, summary};
 use crate::program_file::{ProgramFile, program_in};
+use crate::replaying::replayed;
+use crate::run_in_file::{RunInFile, run_in};
 use crate::status::Status;
 use crate::status_text::{StatusText, status_with_text};
 use asks::{Request, asks};
+use its_model::Program;
 use model::Memory;
 use outside_io::Shelf;
 use std::alloc::Global;
 
 /// The text for words that ask for nothing that is there: a line for each command that there is.
-const USAGE: &[u8] =
-    b"usage: koat analyse [--pivots N] FILE\n       koat generate N\n       koat selfrun N\n";
+const USAGE: &[u8] = b"usage: koat analyse [--pivots N] FILE
+       koat replay FILE RUN
+       koat generate N
+       koat selfrun N
+";
 
 /// The status and the text of a call with these words. The shelf keeps what it holds.
 pub(crate) fn prepare<F: Shelf>(
@@ -38,11 +48,13 @@ pub(crate) fn prepare<F: Shelf>(
 {
     match asks(alloc, words)? {
         Some(Request::Analyse { pivots, file }) => analysis_of(alloc, file.as_str(), pivots, shelf),
+        Some(Request::Replay { file, run }) => {
+            replay_of(alloc, file.as_str(), run.as_str(), shelf)
+        }
         Some(Request::Generate { n }) => generated(alloc, n),
         Some(Request::Selfrun { n }) => summary(alloc, n),
         Some(Request::Prove { .. }) => status_with_text(alloc, Status::Usage, USAGE),
         Some(Request::Check { .. }) => status_with_text(alloc, Status::Usage, USAGE),
-        Some(Request::Replay { .. }) => status_with_text(alloc, Status::Usage, USAGE),
         None => status_with_text(alloc, Status::Usage, USAGE),
     }
 }
@@ -64,5 +76,47 @@ fn analysis_of<F: Shelf>(
     match program_in(alloc, file, shelf)? {
         ProgramFile::Answer(said) => Ok(said),
         ProgramFile::Program(program) => report(alloc, &program, pivots),
+    }
+}
+
+// A run beside the bounds of the program in a file, or what is answered where a file gives none.
+fn replay_of<F: Shelf>(
+    alloc: Global,
+    file: &str,
+    run: &str,
+    shelf: &mut F,
+) -> Result<StatusText, Memory>
+    ensures keeps_files { F.held shelf.new ≡ F.held shelf.old }
+    ensures keeps_count { F.faults shelf.old ≤ F.faults shelf.new }
+    ensures fault { IfOk result (λ said.
+        F.faults shelf.old < F.faults shelf.new → said.status ≡ Status.ReadFault) }
+    ensures says { IfOk result (λ said. OnProgramFirst (seen_of F.Shelf shelf.old shelf.new) file.now
+        (λ program. OnText (runs program) (seen_of F.Shelf shelf.old shelf.new) run.now (IsReplayOf program))
+        said.status said.text.items) }
+{
+    match program_in(alloc, file, shelf)? {
+        ProgramFile::Answer(said) => Ok(said),
+        ProgramFile::Program(program) => replay_on(alloc, &program, run, shelf),
+    }
+}
+
+// The run in a file beside the bounds of a program, or what is answered where the file gives none.
+fn replay_on<F: Shelf>(
+    alloc: Global,
+    program: &Program,
+    file: &str,
+    shelf: &mut F,
+) -> Result<StatusText, Memory>
+    requires { IsValid (program_of program.now) }
+    ensures keeps_files { F.held shelf.new ≡ F.held shelf.old }
+    ensures keeps_count { F.faults shelf.old ≤ F.faults shelf.new }
+    ensures fault { IfOk result (λ said.
+        F.faults shelf.old < F.faults shelf.new → said.status ≡ Status.ReadFault) }
+    ensures says { IfOk result (λ said. OnText (runs (program_of program.now)) (seen_of F.Shelf shelf.old shelf.new)
+        file.now (IsReplayOf (program_of program.now)) said.status said.text.items) }
+{
+    match run_in(alloc, program, file, shelf)? {
+        RunInFile::Answer(said) => Ok(said),
+        RunInFile::Run(run) => replayed(alloc, program, &run),
     }
 }

@@ -4,11 +4,12 @@
 #[derive(Clone, Copy, Debug, PartialEq, Eq)]
 pub enum Status {
     /// With `analyse`, the report was written, and every rule has a time. With `selfrun`, its figures were written, and
-    /// every rule of the generated program has a time. With `generate`, that program's text was written.
+    /// every rule of the generated program has a time. With `replay`, the tally along the run was written, and with
+    /// `generate`, the program's text.
     Done,
     /// With `analyse`, the report was written, and with `selfrun`, its figures; some rule has no time.
     Unknown,
-    /// The words are no command line, or ask for `prove`, `check` or `replay`, which aren't there yet.
+    /// The words are no command line, or ask for `prove` or `check`, which aren't there yet.
     Usage,
     /// A file couldn't be read.
     ReadFault,
@@ -22,9 +23,9 @@ pub enum Status {
     ProofRefused,
     /// The proof isn't accepted.
     No,
-    /// The run text is refused.
+    /// With `replay`, the program was read, and the run text is refused.
     RunRefused,
-    /// The steps are no run.
+    /// With `replay`, both were read, and the steps are no run in range.
     NotARun,
 }
 

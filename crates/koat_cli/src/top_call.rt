@@ -8,6 +8,7 @@ ghost use Rattle.koat_cli.specs.Ends.{Ends, Means};
 use crate::preparation::prepare;
 use crate::status::Status;
 use outside_io::{PutFailed, Shelf, Sink};
+use run_replay::replays_are_decided;
 use std::alloc::Global;
 
 /// Does all that the program does for the words after its name, and answers how it ended.
@@ -17,6 +18,10 @@ use std::alloc::Global;
 ///   occurs in a run, and each argument after a rule a bound on its absolute value, in the absolute values of the
 ///   inputs, or says why there is none. N is how many pivots each linear program may take, from 0 to 1,000,000, and
 ///   10,000 where it isn't given.
+/// - `replay FILE RUN` fetches the file of a program, and then that of a run, of at most 67,108,864 bytes, and writes
+///   the tally along the run: how many steps it has, how often each rule occurs, and the greatest absolute value of
+///   each argument after each rule; each beside the value, up to 2^127, of its bound at the absolute start values, or
+///   `unknown` where there is none. The bounds are those that an analysis with 10,000 pivots finds.
 /// - `generate N` writes the generated program of a number from 0 to 100 as its canonical text, which spells it.
 /// - `selfrun N` analyses that program, with 10,000 pivots for each linear program, and writes the figures of what was
 ///   found: how many rules there are, how many of them have a time, how many of all places have a size, the total, and
@@ -28,15 +33,24 @@ use std::alloc::Global;
 /// - `Done`: with `analyse`, the file spells a program, and its report was written, in which every rule has a time. On
 ///   every run of the program, from any integers and by any choice of rules, each rule occurs at most as often as its
 ///   time says, there are at most as many steps as the total says, and each argument after a rule stays within its
-///   size, where it has one. With `selfrun`, its figures were written, and every rule of the generated program has a
-///   time. With `generate`, that program's text was written.
+///   size, where it has one. With `replay`, the steps are a run of the program, no value passes 128 bits on the way,
+///   and the tally was written: each number of it is at most the value of the bound beside it. With `selfrun`, its
+///   figures were written, and every rule of the generated program has a time. With `generate`, that program's text was
+///   written.
 /// - `Unknown`: with `analyse`, the same, where some rule has no time: the report says why, and every bound that it
 ///   gives holds on every run. With `selfrun`, its figures alone were written, and some rule of the generated program
 ///   has no time.
-/// - `Usage`: the words are no command line, or ask for `prove`, `check` or `replay`, which aren't there yet.
-/// - `ReadFault`: an analysis is asked for, and the shelf had a fault in this call, or tells that it lacks the file.
-/// - `ProgramRefused`: an analysis is asked for, and the file has too many bytes, or something stands against it as the
-///   text of a program within the limits: the text says what stands first, and at which byte.
+/// - `Usage`: the words are no command line, or ask for `prove` or `check`, which aren't there yet.
+/// - `ReadFault`: an analysis or a replay is asked for, and the shelf had a fault in this call, or tells that it lacks
+///   the file, or, where that spells a program, the file of the run.
+/// - `ProgramRefused`: an analysis or a replay is asked for, and the file of the program has too many bytes, or
+///   something stands against it as the text of a program within the limits: the text says what stands first, and at
+///   which byte.
+/// - `RunRefused`: with `replay`, the first file spells a program, and the second has too many bytes, or something
+///   stands against it as the text of a run of the program within the limits: the text says what stands first, and at
+///   which byte.
+/// - `NotARun`: with `replay`, the files spell a program and steps of it, of which some isn't one, or a value of it
+///   passes 128 bits: the text says which is the first, and what keeps it from being one.
 /// - `WriteFault`: the sink had a fault; some first bytes of the text of the status that would have come were written.
 /// - `Memory`: memory ran out; the sink is as it was.
 ///
@@ -60,6 +74,7 @@ pub fn run<F: Shelf, S: Sink>(
     ensures keeps_sink_count { S.faults sink.old ≤ S.faults sink.new }
     ensures keeps_telling { IsSome (S.written sink.old) → IsSome (S.written sink.new) }
 {
+    replays_are_decided();
     let Ok(said) = prepare(alloc, words, shelf) else {
         return Status::Memory;
     };

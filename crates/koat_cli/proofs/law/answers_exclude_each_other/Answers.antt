@@ -3,4 +3,4 @@ use Rattle.koat_cli.proofs.Exclusions.{answers_exclude}
 use Rattle.koat_cli.proofs.law.answers_exclude_each_other.Goals as goal
 
 pub returns : goal.returns
-returns c = answers_exclude determined
+returns c = answers_exclude (determined c.replays_are_decided.ensures)

@@ -3,4 +3,4 @@ use Rattle.koat_cli.proofs.DeterminedCalls.{determined}
 use Rattle.koat_cli.proofs.law.held_files_are_answered.Goals as goal
 
 pub returns : goal.returns
-returns c = held_files_answered determined
+returns c = held_files_answered (determined c.replays_are_decided.ensures)

@@ -3,4 +3,4 @@ use Rattle.koat_cli.proofs.NumbersAnswered.{numbers_answered}
 use Rattle.koat_cli.proofs.law.numbers_are_answered.Goals as goal
 
 pub returns : goal.returns
-returns c = numbers_answered determined
+returns c = numbers_answered (determined c.replays_are_decided.ensures)

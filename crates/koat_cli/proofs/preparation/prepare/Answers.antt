@@ -1,8 +1,11 @@
 use Rattle.std.proofs.Common.{List, ℕ, IfOk, subst}
 use Rattle.asks.specs.declared.request.Request.TheVariants as requests
-use Rattle.koat_cli.specs.Calls.{call_of, seen_of}
+use Rattle.std.specs.Prelude.{string_bytes}
+use Rattle.koat_cli.specs.Calls.{Seen, call_of, seen_of}
 use Rattle.koat_cli.specs.OnFiles.{OnProgram}
-use Rattle.koat_cli.specs.Outputs.{IsReportOf}
+use Rattle.koat_cli.specs.OnTexts.{OnText, OnProgramFirst}
+use Rattle.koat_cli.specs.Outputs.{IsReportOf, IsReplayOf}
+use Rattle.koat_cli.specs.RunTexts.{runs}
 use Rattle.koat_cli.proofs.Preparing.{said_of, usage_of}
 use Rattle.koat_cli.proofs.preparation.prepare.Goals as goal
 
@@ -44,7 +47,11 @@ returns-in-Some-Check-clause-says g c =
 pub returns-in-Some-Replay-clause-says : goal.returns-in-Some-Replay-clause-says
 returns-in-Some-Replay-clause-says g c =
     let w = c.in-Some-Replay in
-    let said = c.status_with_text-in-Some-Replay in
-    said_of (call_of g.F.Shelf c.args.words.now c.args.shelf.now c.args.shelf.now) c.in_ok-pivots.field-0
-    (requests.Replay w.field-0-0 w.field-0-1) said.result (cc (w.is, w.field-0-is)) c.in_ok-pivots.ensures
-    (usage_of said.result said.ensures.status said.ensures.text)
+    let seen : Seen = seen_of g.F.Shelf c.args.shelf.now c.replay_of.new.shelf in
+    said_of (call_of g.F.Shelf c.args.words.now c.args.shelf.now c.replay_of.new.shelf) c.in_ok-pivots.field-0
+    (requests.Replay w.file w.run') c.replay_of.result (cc (w.is, w.field-0-is)) c.in_ok-pivots.ensures
+    (subst (λ (run : List ℕ). IfOk c.replay_of.result (λ said. OnProgramFirst seen (string_bytes w.file)
+    (λ program. OnText (runs program) seen run (IsReplayOf program)) said.status said.text.items)) c.as_str-in-Some-Replay-2.ensures.value
+    (subst (λ (file : List ℕ). IfOk c.replay_of.result (λ said. OnProgramFirst seen file
+    (λ program. OnText (runs program) seen c.as_str-in-Some-Replay-2.result.now (IsReplayOf program)) said.status said.text.items))
+    c.as_str-in-Some-Replay.ensures.value c.replay_of.ensures.says))

@@ -1,0 +1,91 @@
+-- The tally along a run is within the bounds of a report that holds on all runs.
+use Rattle.std.proofs.Common.{◌≡◌, ◌⊎◌, inl, inr, ℕ, zero, suc, ◌+◌, ◌≤◌, List, [], ◌∷◌, length, map, ℤ}
+use Rattle.std.proofs.Common.{Option, Some, None, refl, sym, ◌∙◌, ap, subst, arith}
+use Rattle.std.specs.Prelude.{slice_get}
+use Rattle.std.specs.List.{range_with_len}
+use Rattle.model.specs.Bounds.{Bound, val}
+use Rattle.model.specs.Facts.{HoldsTotal}
+use Rattle.model.specs.Programs.{Program, rule_at}
+use Rattle.model.specs.Runs.{Step, IsRun, count, sizes_of_start}
+use Rattle.outcome.specs.Reports.{Time, Timed, Untimed, Size, Sized, Unsized, Report}
+use Rattle.outcome.specs.Holding.{place_entry, numbered_entry, ReportHolds}
+use Rattle.run_replay.specs.ReplayLaws.{ReplaysAreDecided}
+use Rattle.run_replay.specs.Replays.{IsRunInRange, IsSizeAfter, greatest_size, greatest_sizes, places_reached}
+use Rattle.run_replay.specs.Replays.{tally_along}
+use Rattle.koat_cli.specs.WithinBounds.{AreBeside, IsWithinTime, IsWithinSize, IsWithinTotal, IsWithinBounds}
+
+-- what stands beside each number from k on stands beside all of them
+beside_numbers : {X Y : Type 0} (Beside : X → Y → Type 0) (f : ℕ → X) (k n : ℕ) (ys : List Y)
+    → ((j m : ℕ) (y : Y) → m ≡ k + j → slice_get ys j ≡ Some y → Beside (f m) y)
+    → AreBeside Beside (map f (range_with_len k n)) ys
+beside_numbers Beside f k zero ys h = tt
+beside_numbers Beside f k (suc n) [] h = tt
+beside_numbers Beside f k (suc n) (y ∷ ys) h = (
+  h 0 k y (omega arith) refl,
+  beside_numbers Beside f (k + 1) n ys (λ j m z e is. h (suc j) m z (omega (arith, e)) is),
+)
+
+module _ (law : ReplaysAreDecided) (p : Program) (r : Report) (holds : ReportHolds p r) (start : List ℤ) (steps : List Step)
+    (in_range : IsRunInRange p start steps) where
+  -- where the run leads
+  run : IsRun p start steps in_range.0
+  run = in_range.1.run
+
+  -- how often a rule occurs
+  count_within : (j : ℕ) (t : Time) → slice_get r.times j ≡ Some t
+      → IsWithinTime (sizes_of_start start) (count (suc j) steps) t
+  count_within j (Timed b) e = (holds.times (suc j) b e).each start steps in_range.0 run
+  count_within j (Untimed why) e = tt
+
+  counts_within : (n : ℕ)
+      → AreBeside (IsWithinTime (sizes_of_start start)) (map (λ t. count t steps) (range_with_len 1 n)) r.times
+  counts_within n =
+      beside_numbers (IsWithinTime (sizes_of_start start)) (λ t. count t steps) 1 n r.times
+      (λ j m t e is. let next : suc j ≡ m = omega (arith, e) in
+      subst (λ (k : ℕ). IsWithinTime (sizes_of_start start) (count k steps) t) next (count_within j t is))
+
+  -- how many steps there are
+  total_within : (o : Option Bound) → ((b : Bound) → o ≡ Some b → HoldsTotal p b)
+      → IsWithinTotal (sizes_of_start start) (length steps) o
+  total_within None h = tt
+  total_within (Some b) h = (h b refl).each start steps in_range.0 run
+
+  -- the greatest absolute value at a place after a rule
+  size_within : (j i : ℕ) (s : Size) → place_entry (numbered_entry r.sizes (suc j)) (suc i) ≡ Some s
+      → IsWithinSize (sizes_of_start start) (greatest_size p start (suc j) (suc i) steps) s
+  size_within j i (Sized b) e = go (law.greatest p start steps (suc j) (suc i) (omega arith) in_range).reached
+    where
+      go : IsSizeAfter p start steps (suc j) (suc i) (greatest_size p start (suc j) (suc i) steps)
+          ⊎ ((count (suc j) steps ≡ 0) × (greatest_size p start (suc j) (suc i) steps ≡ 0))
+          → greatest_size p start (suc j) (suc i) steps ≤ val b (sizes_of_start start)
+      go (inl w) =
+          subst (λ (n : ℕ). n ≤ val b (sizes_of_start start)) w.size
+          ((holds.sizes (suc j) (suc i) b e).each start w.earlier w.end w.run w.last)
+      go (inr none) = let least = none.1 in omega (arith, least)
+  size_within j i (Unsized why) e = tt
+
+  row_within : (j : ℕ) (row : List Size) → slice_get r.sizes j ≡ Some row
+      → AreBeside (IsWithinSize (sizes_of_start start)) (greatest_sizes p start steps (suc j)) row
+  row_within j row e =
+      beside_numbers (IsWithinSize (sizes_of_start start)) (λ i. greatest_size p start (suc j) i steps) 1
+      (places_reached (rule_at p (suc j))) row
+      (λ i m s at is. let next : suc i ≡ m = omega (arith, at) in
+      subst (λ (k : ℕ). IsWithinSize (sizes_of_start start) (greatest_size p start (suc j) k steps) s) next
+      (size_within j i s (ap (λ (o : Option (List Size)). place_entry o (suc i)) e ∙ is)))
+
+  rows_within : (n : ℕ) → AreBeside (AreBeside (IsWithinSize (sizes_of_start start)))
+      (map (greatest_sizes p start steps) (range_with_len 1 n)) r.sizes
+  rows_within n =
+      beside_numbers (AreBeside (IsWithinSize (sizes_of_start start))) (greatest_sizes p start steps) 1 n r.sizes
+      (λ j m row e is. let next : suc j ≡ m = omega (arith, e) in
+      subst (λ (k : ℕ). AreBeside (IsWithinSize (sizes_of_start start)) (greatest_sizes p start steps k) row) next
+      (row_within j row is))
+
+-- all numbers of the tally
+pub tally_within : ReplaysAreDecided → (p : Program) (r : Report) (start : List ℤ) (steps : List Step) → ReportHolds p r
+    → IsRunInRange p start steps → IsWithinBounds (sizes_of_start start) (tally_along p start steps) r
+tally_within law p r start steps holds h = record {
+  counts = counts_within law p r holds start steps h (length p.rules);
+  steps = total_within law p r holds start steps h r.total holds.total;
+  greatest = rows_within law p r holds start steps h (length p.rules);
+}

@@ -1,0 +1,10 @@
+use Rattle.its_model.specs.Views.{program_of}
+use Rattle.koat_cli.proofs.Preparing.{behind_program}
+use Rattle.koat_cli.proofs.preparation.replay_of.Goals as goal
+
+pub returns-in-Program-clause-says : goal.returns-in-Program-clause-says
+returns-in-Program-clause-says g c =
+    behind_program g.F.Shelf c.args.shelf.now c.program_in.new.shelf c.replay_on.new.shelf c.args.file.now c.args.run.now
+    (program_of c.in-Program.program) c.replay_on.result c.in_ok-said.ensures.keeps_files c.in_ok-said.ensures.keeps_count
+    (rw c.in-Program.is at c.in_ok-said.ensures.fault) (rw c.in-Program.is at c.in_ok-said.ensures.file).0
+    c.replay_on.ensures.says

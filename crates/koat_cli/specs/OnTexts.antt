@@ -1,0 +1,76 @@
+-- What comes of a file with a text that belongs to a program, fetched behind the program's file, whatever kind of text
+-- it is and whatever is to be said of what it stands for.
+use Rattle.std.specs.Prelude.{◌≡◌, ℕ, List}
+use Rattle.outside_io.specs.Fetching.{IsTooLong}
+use Rattle.model.specs.Programs.{Program}
+use Rattle.asks.specs.Lines.{Word}
+use Rattle.koat_cli.specs.declared.status.Status.{Status}
+use Rattle.koat_cli.specs.Calls.{Seen}
+use Rattle.koat_cli.specs.OnFiles.{Fetches, IsReadFault, IsNoProgram, IsOfProgram}
+
+-- texts of a kind, which stand for such things: at most how many bytes they have; with which status bytes are refused,
+-- and what is told where there are too many; what bytes stand for; and what is told of bytes that stand for nothing
+pub record TextKind (T : Type 0) : Type 1 where
+  pub limit : ℕ
+  pub refused : Status
+  pub too_long : List ℕ
+  pub StandsFor : List ℕ → T → Type 0
+  pub IsRefusedAs : List ℕ → List ℕ → Type 0
+
+-- the file has too many bytes for a text of the kind
+pub record IsOverLimit {T : Type 0} (kind : TextKind T) (seen : Seen) (file : Word) (status : Status) (text : List ℕ)
+    : Type 0 where
+  pub over : IsTooLong seen.held file kind.limit seen.taken
+  pub told : text ≡ kind.too_long
+  pub ends : status ≡ kind.refused
+
+-- the bytes of the file stand for nothing, and what stands against them is told
+pub record IsTextRefused {T : Type 0} (kind : TextKind T) (seen : Seen) (file : Word) (status : Status) (text : List ℕ)
+    : Type 0 where
+  pub bytes : List ℕ
+  pub fetched : Fetches seen file kind.limit bytes
+  pub refused : kind.IsRefusedAs bytes text
+  pub ends : status ≡ kind.refused
+
+-- the file gives no text of the kind, for one of these three causes
+pub data IsNoText {T : Type 0} (kind : TextKind T) (seen : Seen) (file : Word) (status : Status) (text : List ℕ)
+    : Type 0 where
+  Unread : IsReadFault seen file status text → IsNoText kind seen file status text
+  OverLimit : IsOverLimit kind seen file status text → IsNoText kind seen file status text
+  RefusedText : IsTextRefused kind seen file status text → IsNoText kind seen file status text
+
+-- the file gives a text of the kind, which stands for this
+pub record GivesText {T : Type 0} (kind : TextKind T) (seen : Seen) (file : Word) (thing : T) : Type 0 where
+  pub bytes : List ℕ
+  pub fetched : Fetches seen file kind.limit bytes
+  pub stands : kind.StandsFor bytes thing
+
+-- the file gives a text of the kind, and this is said of what it stands for
+pub record IsOfText {T : Type 0} (kind : TextKind T) (seen : Seen) (file : Word) (Out : T → Status → List ℕ → Type 0)
+    (status : Status) (text : List ℕ) : Type 0 where
+  pub thing : T
+  pub given : GivesText kind seen file thing
+  pub said : Out thing status text
+
+-- what is answered by what a file of the kind stands for, or because it stands for nothing
+pub data OnText {T : Type 0} (kind : TextKind T) (seen : Seen) (file : Word) (Out : T → Status → List ℕ → Type 0)
+    (status : Status) (text : List ℕ) : Type 0 where
+  NoText : IsNoText kind seen file status text → OnText kind seen file Out status text
+  OfText : IsOfText kind seen file Out status text → OnText kind seen file Out status text
+
+-- what was seen up to an earlier fetch, which took so many bytes; it had no fault if another one came behind it
+abbrev pub earlier : Seen → ℕ → Seen
+earlier seen taken = record {
+  held = seen.held;
+  faults_before = seen.faults_before;
+  faults_after = seen.faults_before;
+  taken = taken;
+}
+
+-- what is answered by the program that the first of two files gives, the second one being fetched behind it; or because
+-- the first one gives none, and then the second one isn't fetched
+pub data OnProgramFirst (seen : Seen) (file : Word) (Out : Program → Status → List ℕ → Type 0) (status : Status)
+    (text : List ℕ) : Type 0 where
+  NoProgram : IsNoProgram seen file status text → OnProgramFirst seen file Out status text
+  Behind : (taken : ℕ) → IsOfProgram (earlier seen taken) file Out status text
+      → OnProgramFirst seen file Out status text

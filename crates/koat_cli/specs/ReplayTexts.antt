@@ -1,0 +1,72 @@
+-- The tally of a run beside the bounds of a report, as text.
+use Rattle.std.specs.Prelude.{ℕ, suc, nat_lt, cond, List, [], ◌∷◌, ◌++◌, codes, decimal, Option, Some, None}
+use Rattle.model.specs.Bounds.{Bound}
+use Rattle.bound_expr.specs.Capped.{capped_val}
+use Rattle.bound_expr.specs.Limits.{cap}
+use Rattle.outcome.specs.Reports.{Time, Timed, Untimed, Size, Sized, Unsized, Report}
+use Rattle.report_text.specs.Pieces.{place_text}
+use Rattle.run_replay.specs.Replays.{Sums}
+use Rattle.koat_cli.specs.Figures.{number_end}
+
+-- a value up to 2^127, which stands for every greater one
+abbrev pub value_text : ℕ → List ℕ
+value_text n = cond (nat_lt n cap) (decimal n) (codes "2^127 or more")
+
+-- the value of a bound at these inputs, where there is one
+abbrev pub bound_value : List ℕ → Option Bound → List ℕ
+bound_value at None = codes "unknown"
+bound_value at (Some b) = value_text (capped_val b at)
+
+abbrev pub time_value : List ℕ → Time → List ℕ
+time_value at (Timed b) = value_text (capped_val b at)
+time_value at (Untimed why) = codes "unknown"
+
+abbrev pub size_value : List ℕ → Size → List ℕ
+size_value at (Sized b) = value_text (capped_val b at)
+size_value at (Unsized why) = codes "unknown"
+
+-- a number beside a value, at the end of a line
+abbrev pub beside_end : ℕ → List ℕ → List ℕ
+beside_end n value = decimal n ++ (codes " of " ++ (value ++ codes "\n"))
+
+-- how many steps the run has
+abbrev pub steps_line : ℕ → List ℕ
+steps_line n = codes "steps " ++ number_end n
+
+-- how often a rule occurs, beside the value of its time
+abbrev pub count_line : ℕ → ℕ → List ℕ → List ℕ
+count_line rule n value = codes "time " ++ (decimal rule ++ (codes ": " ++ beside_end n value))
+
+-- how many steps there are, beside the value of the total
+abbrev pub steps_beside : ℕ → List ℕ → List ℕ
+steps_beside n value = codes "total: " ++ beside_end n value
+
+-- the greatest absolute value at a place after a rule, beside the value of its size
+abbrev pub greatest_line : ℕ → ℕ → ℕ → List ℕ → List ℕ
+greatest_line rule place n value =
+    codes "size " ++ (place_text rule place ++ (codes ": " ++ beside_end n value))
+
+-- the lines of two lists beside each other, by their numbers, counted up from the first one's
+abbrev pub lines_beside : {X Y : Type 0} → (ℕ → X → Y → List ℕ) → ℕ → List X → List Y → List ℕ
+lines_beside line n [] ys = []
+lines_beside line n (x ∷ xs) [] = []
+lines_beside line n (x ∷ xs) (y ∷ ys) = line n x y ++ lines_beside line (suc n) xs ys
+
+-- how often the rules occur
+abbrev pub count_lines : List ℕ → List ℕ → List Time → List ℕ
+count_lines at counts times = lines_beside (λ rule n t. count_line rule n (time_value at t)) 1 counts times
+
+-- the greatest absolute values at the places after a rule, and after all
+abbrev pub greatest_lines : List ℕ → ℕ → List ℕ → List Size → List ℕ
+greatest_lines at rule numbers sizes =
+    lines_beside (λ place n s. greatest_line rule place n (size_value at s)) 1 numbers sizes
+
+abbrev pub all_greatest_lines : List ℕ → List (List ℕ) → List (List Size) → List ℕ
+all_greatest_lines at rows sizes = lines_beside (greatest_lines at) 1 rows sizes
+
+-- the tally of a run that starts with these absolute values, beside the bounds of a report
+abbrev pub text_of_replay : List ℕ → Sums → Report → List ℕ
+text_of_replay at tally r =
+    steps_line tally.steps
+    ++ (count_lines at tally.counts r.times
+    ++ (steps_beside tally.steps (bound_value at r.total) ++ all_greatest_lines at tally.greatest r.sizes))

@@ -1,0 +1,32 @@
+-- When the tally of a run is within the bounds of a report.
+use Rattle.std.specs.Prelude.{ℕ, ◌≤◌, List, [], ◌∷◌, Option, Some, None, ⊤}
+use Rattle.model.specs.Bounds.{Bound, val}
+use Rattle.outcome.specs.Reports.{Time, Timed, Untimed, Size, Sized, Unsized, Report}
+use Rattle.run_replay.specs.Replays.{Sums}
+
+-- each of a list stands so to the one beside it in another list, as far as both go
+abbrev pub AreBeside : {X Y : Type 0} → (X → Y → Type 0) → List X → List Y → Type 0
+AreBeside Beside [] ys = ⊤
+AreBeside Beside (x ∷ xs) [] = ⊤
+AreBeside Beside (x ∷ xs) (y ∷ ys) = Beside x y × AreBeside Beside xs ys
+
+-- a number is at most the value at these inputs of a time, of a size, or of a total, where there is one
+abbrev pub IsWithinTime : List ℕ → ℕ → Time → Type 0
+IsWithinTime at n (Timed b) = n ≤ val b at
+IsWithinTime at n (Untimed why) = ⊤
+
+abbrev pub IsWithinSize : List ℕ → ℕ → Size → Type 0
+IsWithinSize at n (Sized b) = n ≤ val b at
+IsWithinSize at n (Unsized why) = ⊤
+
+abbrev pub IsWithinTotal : List ℕ → ℕ → Option Bound → Type 0
+IsWithinTotal at n None = ⊤
+IsWithinTotal at n (Some b) = n ≤ val b at
+
+-- the tally of a run that starts with these absolute values is within the bounds of a report: each rule occurs at most
+-- as often as its time allows, there are at most as many steps as the total allows, and the greatest absolute value at
+-- each place after each rule is at most its size
+pub record IsWithinBounds (at : List ℕ) (tally : Sums) (r : Report) : Type 0 where
+  pub counts : AreBeside (IsWithinTime at) tally.counts r.times
+  pub steps : IsWithinTotal at tally.steps r.total
+  pub greatest : AreBeside (AreBeside (IsWithinSize at)) tally.greatest r.sizes

@@ -1,0 +1,65 @@
+-- Texts of replays, and which tallies are within bounds, as they were worked out by hand.
+use Rattle.std.specs.Prelude.{◌≡◌, ℕ, ◌+◌, ◌-◌, ◌^◌, List, [], ◌∷◌, ◌++◌, None, Some, codes}
+use Rattle.model.specs.Bounds.{Bound, Constant, Input, SumOf, PowerOf, Part, NoParts}
+use Rattle.its_model.specs.Steps.{OtherRule, AtomFails, PastRange}
+use Rattle.outcome.specs.Reports.{Timed, Untimed, TimeLarge, Sized, Unsized, SizeLarge, Report}
+use Rattle.run_replay.specs.Replays.{Sums}
+use Rattle.run_replay.specs.declared.kind.RunKind.TheVariants.{BadReference}
+use Rattle.koat_cli.specs.ReplayTexts.{value_text, bound_value, text_of_replay}
+use Rattle.koat_cli.specs.RunTexts.{run_refusal_text, bad_step_text}
+use Rattle.koat_cli.specs.WithinBounds.{IsWithinBounds}
+
+-- the report of a loop that counts the only input down
+abbrev pub counting : Report
+counting = record {
+  times = Timed (Constant 1) ∷ Timed (Input 0) ∷ [];
+  total = Some (SumOf (Part (Input 0) (Part (Constant 1) NoParts)));
+  sizes = (Sized (Input 0) ∷ []) ∷ (Sized (Input 0) ∷ []) ∷ [];
+}
+
+-- a report that gives nothing of its second rule
+abbrev pub silent : Report
+silent = record {
+  times = Timed (Constant 1) ∷ Untimed (TimeLarge 9) ∷ [];
+  total = None;
+  sizes = (Sized (Input 0) ∷ []) ∷ (Unsized (SizeLarge 9) ∷ []) ∷ [];
+}
+
+-- the tally of one step by the first rule and three by the second one, from 3
+abbrev pub four_steps : Sums
+four_steps = record { steps = 4; counts = 1 ∷ 3 ∷ []; greatest = (3 ∷ []) ∷ (2 ∷ []) ∷ [] }
+
+-- each number stands beside the value of its bound at the inputs, a bound that is missing is unknown, and the values
+-- are told up to 2^127; the first bad step is told by its number
+pub record ReplaysAreTexts : Type 0 where
+  pub whole : text_of_replay (3 ∷ []) four_steps counting
+      ≡ codes "steps 4\ntime 1: 1 of 1\ntime 2: 3 of 3\ntotal: 4 of 4\nsize 1.1: 3 of 3\nsize 2.1: 2 of 3\n"
+  pub other_input : text_of_replay (9 ∷ []) four_steps counting
+      ≡ codes "steps 4\ntime 1: 1 of 1\ntime 2: 3 of 9\ntotal: 4 of 10\nsize 1.1: 3 of 9\nsize 2.1: 2 of 9\n"
+  pub unknown : text_of_replay (3 ∷ []) four_steps silent
+      ≡ codes "steps 4\ntime 1: 1 of 1\ntime 2: 3 of unknown\ntotal: 4 of unknown\n"
+      ++ codes "size 1.1: 3 of 3\nsize 2.1: 2 of unknown\n"
+  pub below_the_cap : value_text (2 ^ 127 - 1) ≡ codes "170141183460469231731687303715884105727"
+  pub at_the_cap : value_text (2 ^ 127) ≡ codes "2^127 or more"
+  pub power : bound_value (126 ∷ []) (Some (PowerOf 2 (Input 0))) ≡ codes "85070591730234615865843651857942052864"
+  pub large_power : bound_value (200 ∷ []) (Some (PowerOf 2 (Input 0))) ≡ codes "2^127 or more"
+  pub wrong_rule : bad_step_text (record { number = 1; fault = OtherRule }) ≡ codes "not a run at step 1: wrong rule\n"
+  pub atom : bad_step_text (record { number = 5; fault = AtomFails 1 }) ≡ codes "not a run at step 5: atom 1\n"
+  pub range : bad_step_text (record { number = 2; fault = PastRange })
+      ≡ codes "not a run at step 2: value passes 128 bits\n"
+  pub refusal : run_refusal_text (record { kind = BadReference; at = 24 }) ≡ codes "run refused at 24: BadReference\n"
+
+-- a tally of four steps by two rules, of which the second one occurs so often and leads to this absolute value
+abbrev pub tally_with : ℕ → ℕ → Sums
+tally_with count greatest = record { steps = 4; counts = 1 ∷ count ∷ []; greatest = (3 ∷ []) ∷ (greatest ∷ []) ∷ [] }
+
+-- each number is at most the value of the bound beside it: of a count, of the steps and of a greatest value one more is
+-- too many, and where a bound is missing nothing is too many
+pub record TalliesAreBounded : Type 0 where
+  pub whole : IsWithinBounds (3 ∷ []) four_steps counting
+  pub count : ¬ (IsWithinBounds (3 ∷ []) (tally_with 4 2) counting)
+  pub greatest : IsWithinBounds (3 ∷ []) (tally_with 3 3) counting
+  pub greater : ¬ (IsWithinBounds (3 ∷ []) (tally_with 3 4) counting)
+  pub steps : ¬ (IsWithinBounds (2 ∷ []) (record { steps = 4; counts = []; greatest = [] }) counting)
+  pub unknown : IsWithinBounds (3 ∷ []) (tally_with 9 9) silent
+  pub first : ¬ (IsWithinBounds (2 ∷ []) (tally_with 9 9) silent)

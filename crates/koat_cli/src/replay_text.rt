@@ -1,0 +1,209 @@
+//! The tally of a run beside the bounds of an outcome, as text.
+
+ghost use Rattle.std.specs.Prelude.{◌≡◌, ◌++◌, length, IfOk, OnOk};
+ghost use Rattle.std.specs.List.{All};
+ghost use Rattle.outcome.specs.Printing.{IsPrintableTime, IsPrintableSize, IsPrintableTotal, IsPrintableOutcome};
+ghost use Rattle.outcome.specs.Views.{report_of, size_of};
+ghost use Rattle.report_text.specs.Conditions.{total_of};
+ghost use Rattle.report_text.specs.Pieces.{place_text};
+ghost use Rattle.run_replay.specs.ReplayAnswers.{sums_of};
+ghost use Rattle.koat_cli.specs.ReplayTexts.{value_text, bound_value, size_value, steps_line, count_line};
+ghost use Rattle.koat_cli.specs.ReplayTexts.{steps_beside, greatest_line, lines_beside, text_of_replay};
+ghost use Rattle.koat_cli.specs.Steps.{entry_value, entry_lines, place_lines};
+
+use bound_expr::{Bound, CAP};
+use itoa::Buffer;
+use model::Memory;
+use outcome::{Outcome, SizeEntry, TimeEntry};
+use run_replay::Tally;
+use std::alloc::Global;
+
+/// The tally of a run, beside the values of an outcome's bounds where the inputs are `at`, each up to 2^127.
+pub(crate) fn replay_text(
+    alloc: Global,
+    at: &[u128],
+    tally: &Tally,
+    o: &Outcome,
+) -> Result<Vec<u8>, Memory>
+    requires { IsPrintableOutcome (length at.now) o.now }
+    ensures { IfOk result (λ text. text.items ≡ text_of_replay at.now (sums_of tally.now) (report_of o.now)) }
+{
+    let mut text = Vec::new(alloc);
+    push_steps(&mut text, tally.steps)?;
+    push_counts(&mut text, at, &tally.counts, &o.times)?;
+    push_total(&mut text, at, tally.steps, &o.total)?;
+    push_greatest(&mut text, at, &tally.greatest, &o.sizes)?;
+    Ok(text)
+}
+
+// How many steps the run has.
+fn push_steps(text: &mut Vec<u8>, steps: u64) -> Result<(), Memory>
+    ensures { OnOk result (text.new.items ≡ text.old.items ++ steps_line steps) }
+{
+    text.extend_from_slice(b"steps ")?;
+    text.extend_from_slice(Buffer::new().format(steps).as_bytes())?;
+    text.extend_from_slice(b"\n")
+}
+
+// How often the rules occur.
+fn push_counts(
+    text: &mut Vec<u8>,
+    at: &[u128],
+    counts: &[u64],
+    times: &[TimeEntry],
+) -> Result<(), Memory>
+    requires { All (IsPrintableTime (length at.now)) times.now }
+    ensures { OnOk result (text.new.items ≡ text.old.items ++ entry_lines at.now 1 counts.now times.now) }
+{
+    for i in 0..counts.len().min(times.len()) {
+        push_count(text, at, i as u64 + 1, counts[i], &times[i])?;
+    }
+    Ok(())
+}
+
+// How often a rule occurs.
+fn push_count(
+    text: &mut Vec<u8>,
+    at: &[u128],
+    rule: u64,
+    count: u64,
+    time: &TimeEntry,
+) -> Result<(), Memory>
+    requires { IsPrintableTime (length at.now) time.now }
+    ensures { OnOk result
+        (text.new.items ≡ text.old.items ++ count_line rule count (entry_value at.now time.now)) }
+{
+    text.extend_from_slice(b"time ")?;
+    text.extend_from_slice(Buffer::new().format(rule).as_bytes())?;
+    text.extend_from_slice(b": ")?;
+    text.extend_from_slice(Buffer::new().format(count).as_bytes())?;
+    text.extend_from_slice(b" of ")?;
+    push_time_value(text, at, time)?;
+    text.extend_from_slice(b"\n")
+}
+
+// The value of a time.
+fn push_time_value(text: &mut Vec<u8>, at: &[u128], time: &TimeEntry) -> Result<(), Memory>
+    requires { IsPrintableTime (length at.now) time.now }
+    ensures { OnOk result (text.new.items ≡ text.old.items ++ entry_value at.now time.now) }
+{
+    match time {
+        TimeEntry::Known(stored) => push_value(text, stored.bound.capped_value(at)),
+        TimeEntry::Gap { .. } => text.extend_from_slice(b"unknown"),
+        TimeEntry::Tripped(_) => text.extend_from_slice(b"unknown"),
+        TimeEntry::Large { .. } => text.extend_from_slice(b"unknown"),
+    }
+}
+
+// How many steps there are, beside the total.
+fn push_total(
+    text: &mut Vec<u8>,
+    at: &[u128],
+    steps: u64,
+    total: &Option<Bound>,
+) -> Result<(), Memory>
+    requires { IsPrintableTotal (length at.now) total.now }
+    ensures { OnOk result
+        (text.new.items ≡ text.old.items ++ steps_beside steps (bound_value at.now (total_of total.now))) }
+{
+    text.extend_from_slice(b"total: ")?;
+    text.extend_from_slice(Buffer::new().format(steps).as_bytes())?;
+    text.extend_from_slice(b" of ")?;
+    match total {
+        Some(bound) => push_value(text, bound.capped_value(at))?,
+        None => text.extend_from_slice(b"unknown")?,
+    }
+    text.extend_from_slice(b"\n")
+}
+
+// The greatest absolute values at the places after all rules.
+fn push_greatest(
+    text: &mut Vec<u8>,
+    at: &[u128],
+    rows: &[Vec<u128>],
+    sizes: &[Vec<SizeEntry>],
+) -> Result<(), Memory>
+    requires { All (λ places. All (IsPrintableSize (length at.now)) places.items) sizes.now }
+    ensures { OnOk result (text.new.items ≡ text.old.items ++ lines_beside
+        (λ rule numbers places. place_lines at.now rule 1 numbers.items places.items) 1 rows.now sizes.now) }
+{
+    for i in 0..rows.len().min(sizes.len()) {
+        push_places(text, at, i as u64 + 1, &rows[i], &sizes[i])?;
+    }
+    Ok(())
+}
+
+// Those at the places after a rule.
+fn push_places(
+    text: &mut Vec<u8>,
+    at: &[u128],
+    rule: u64,
+    numbers: &[u128],
+    sizes: &[SizeEntry],
+) -> Result<(), Memory>
+    requires { All (IsPrintableSize (length at.now)) sizes.now }
+    ensures { OnOk result (text.new.items ≡ text.old.items ++ place_lines at.now rule 1 numbers.now sizes.now) }
+{
+    for i in 0..numbers.len().min(sizes.len()) {
+        push_place(text, at, rule, i as u64 + 1, numbers[i], &sizes[i])?;
+    }
+    Ok(())
+}
+
+// That at a place after a rule.
+fn push_place(
+    text: &mut Vec<u8>,
+    at: &[u128],
+    rule: u64,
+    place: u64,
+    greatest: u128,
+    size: &SizeEntry,
+) -> Result<(), Memory>
+    requires { IsPrintableSize (length at.now) size.now }
+    ensures { OnOk result (text.new.items
+        ≡ text.old.items ++ greatest_line rule place greatest (size_value at.now (size_of size.now))) }
+{
+    text.extend_from_slice(b"size ")?;
+    push_spot(text, rule, place)?;
+    text.extend_from_slice(b": ")?;
+    text.extend_from_slice(Buffer::new().format(greatest).as_bytes())?;
+    text.extend_from_slice(b" of ")?;
+    push_size_value(text, at, size)?;
+    text.extend_from_slice(b"\n")
+}
+
+// A rule and a place.
+fn push_spot(text: &mut Vec<u8>, rule: u64, place: u64) -> Result<(), Memory>
+    ensures { OnOk result (text.new.items ≡ text.old.items ++ place_text rule place) }
+{
+    text.extend_from_slice(Buffer::new().format(rule).as_bytes())?;
+    text.extend_from_slice(b".")?;
+    text.extend_from_slice(Buffer::new().format(place).as_bytes())
+}
+
+// The value of a size.
+fn push_size_value(text: &mut Vec<u8>, at: &[u128], size: &SizeEntry) -> Result<(), Memory>
+    requires { IsPrintableSize (length at.now) size.now }
+    ensures { OnOk result (text.new.items ≡ text.old.items ++ size_value at.now (size_of size.now)) }
+{
+    match size {
+        SizeEntry::Known(stored) => push_value(text, stored.bound.capped_value(at)),
+        SizeEntry::Loose(_) => text.extend_from_slice(b"unknown"),
+        SizeEntry::Tripped(_) => text.extend_from_slice(b"unknown"),
+        SizeEntry::Missing(_) => text.extend_from_slice(b"unknown"),
+        SizeEntry::Bent(_) => text.extend_from_slice(b"unknown"),
+        SizeEntry::Untimed { .. } => text.extend_from_slice(b"unknown"),
+        SizeEntry::Large { .. } => text.extend_from_slice(b"unknown"),
+    }
+}
+
+// A value up to 2^127.
+fn push_value(text: &mut Vec<u8>, value: u128) -> Result<(), Memory>
+    ensures { OnOk result (text.new.items ≡ text.old.items ++ value_text value) }
+{
+    if value < CAP {
+        text.extend_from_slice(Buffer::new().format(value).as_bytes())
+    } else {
+        text.extend_from_slice(b"2^127 or more")
+    }
+}

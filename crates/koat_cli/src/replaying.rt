@@ -1,0 +1,71 @@
+//! A run beside the bounds of its program's analysis, or its first bad step.
+
+ghost use Rattle.std.specs.Prelude.{◌≡◌, length, map, nat_abs, IfOk};
+ghost use Rattle.its_model.specs.Valid.{IsValid};
+ghost use Rattle.its_model.specs.Views.{program_of};
+ghost use Rattle.run_replay.specs.ReplayAnswers.{IsReplay, sums_of};
+ghost use Rattle.run_replay.specs.Spelled.{IsWithin};
+ghost use Rattle.run_replay.specs.Views.{run_of};
+ghost use Rattle.koat_cli.specs.Outputs.{IsReplayOf};
+
+use crate::replay_text::replay_text;
+use crate::run_refusal::bad_step;
+use crate::status::Status;
+use crate::status_text::StatusText;
+use asks::DEFAULT_PIVOTS;
+use its_model::Program;
+use model::Memory;
+use run_replay::{RunFile, Tally, replay};
+use std::alloc::Global;
+use time_bounds::analyse;
+
+/// The tally of a run of a program, beside the bounds that an analysis with the usual number of pivots finds; or its
+/// first bad step, and then no analysis is made.
+pub(crate) fn replayed(
+    alloc: Global,
+    program: &Program,
+    run: &RunFile,
+) -> Result<StatusText, Memory>
+    requires valid { IsValid (program_of program.now) }
+    requires within { IsWithin (program_of program.now) (run_of run.now) }
+    ensures { IfOk result (λ said. IsReplayOf (program_of program.now) (run_of run.now) said.status said.text.items) }
+{
+    match replay(alloc, program, run) {
+        Ok(tally) => beside_bounds(alloc, program, run, &tally),
+        Err(error) => Ok(StatusText {
+            status: Status::NotARun,
+            text: bad_step(alloc, &error)?,
+        }),
+    }
+}
+
+// The tally beside the bounds.
+fn beside_bounds(
+    alloc: Global,
+    program: &Program,
+    run: &RunFile,
+    tally: &Tally,
+) -> Result<StatusText, Memory>
+    requires valid { IsValid (program_of program.now) }
+    requires within { IsWithin (program_of program.now) (run_of run.now) }
+    requires replayed { IsReplay (program_of program.now) (run_of run.now) (sums_of tally.now) }
+    ensures { IfOk result (λ said. IsReplayOf (program_of program.now) (run_of run.now) said.status said.text.items) }
+{
+    let found = analyse(alloc, program, DEFAULT_PIVOTS)?;
+    let at = absolute_values(alloc, &run.start)?;
+    Ok(StatusText {
+        status: Status::Done,
+        text: replay_text(alloc, &at, tally, &found)?,
+    })
+}
+
+// The absolute values of numbers.
+fn absolute_values(alloc: Global, values: &[i128]) -> Result<Vec<u128>, Memory>
+    ensures { IfOk result (λ sizes. sizes.items ≡ map nat_abs values.now) }
+{
+    let mut sizes = Vec::new(alloc);
+    for value in values {
+        sizes.push(value.unsigned_abs())?;
+    }
+    Ok(sizes)
+}

@@ -1,0 +1,144 @@
+"""Runs made at random, as run files, and what `koat replay` writes of a run. docs/run-files.md has both.
+
+Which steps are a run is said by koat alone, when it replays one. What stands here takes steps of a program that koat
+took: at each one a rule that leaves the symbol and whose guard holds, with free values that were drawn for it.
+"""
+
+import random
+import re
+from dataclasses import dataclass, field
+from typing import Dict, List, Tuple
+
+from . import programs
+
+# A run ends where a value would become greater: koat replays in 128 bits, and files have values below 2^63.
+WIDEST = 2**62
+# How often free values are drawn for a rule, and from where.
+DRAWS, NEAR, FAR = 20, 3, 100
+
+SIGNS = {"^": "**", "=": "==", "&&": " and ", "/\\": " and "}
+
+
+@dataclass
+class Run:
+    """The start values, and the steps: each the number of a rule and the values of its free variables."""
+
+    start: List[int]
+    steps: List[Tuple[int, List[int]]] = field(default_factory=list)
+
+
+def text(run):
+    """The run file of a run."""
+    lines = ["koat-run 1", " ".join(["start", *map(str, run.start)])]
+    lines += [" ".join(["step", str(rule), *map(str, free)]) for rule, free in run.steps]
+    return "".join(f"{line}\n" for line in [*lines, "end"])
+
+
+def made(program, start, most, seed):
+    """A run from these start values of at most so many steps; the same seed gives the same run."""
+    draws = random.Random(seed)
+    rules = [_Rule(rule) for rule in program.rules]
+    run, symbol, values = Run(list(start)), program.start, list(start)
+    while len(run.steps) < most:
+        step = _step(draws, rules, symbol, values)
+        if step is None:
+            break
+        rule, free, values = step
+        symbol = rule.target
+        run.steps.append((rule.number, free))
+    return run
+
+
+def _step(draws, rules, symbol, values):
+    """A rule that can be used here, its free values and the values behind it; none where no draw gives one."""
+    leaving = [rule for rule in rules if rule.source == symbol]
+    draws.shuffle(leaving)
+    for rule in leaving:
+        for _ in range(DRAWS if rule.free else 1):
+            free = [_drawn(draws, values) for _ in rule.free]
+            after = rule.after(values, free)
+            if after is not None:
+                return rule, free, after
+    return None
+
+
+def _drawn(draws, values):
+    """A value near 0, near one of these values, or anywhere up to 100."""
+    kind = draws.randrange(3)
+    if kind == 2:
+        return draws.randint(-FAR, FAR)
+    middle = draws.choice(values) if kind and values else 0
+    return max(-WIDEST, min(WIDEST, middle + draws.randint(-NEAR, NEAR)))
+
+
+class _Rule:
+    """A rule of which guard and updates can be computed."""
+
+    def __init__(self, rule):
+        self.number, self.source, self.target = rule.number, rule.source.text, rule.target.text
+        self.names, self.free = rule.left_names, [it.text for it in rule.free]
+        self.guard = _computed(rule.guard or "TRUE")
+        self.updates = [_computed(it) for it in rule.updates]
+
+    def after(self, values, free):
+        """The values behind the rule, or none where its guard doesn't hold or a value would become too large."""
+        given = dict(zip(self.names + self.free, values + free))
+        if not _value(self.guard, given):
+            return None
+        after = [_value(update, given) for update in self.updates]
+        return after if all(abs(it) <= WIDEST for it in after) else None
+
+
+def _computed(written):
+    """What computes an expression or a guard as it is written, over the values of its names."""
+    found, told = programs.tokens(written), []
+    for at, token in enumerate(found):
+        if token.kind == "name" and _is_truth(found, at):
+            told.append("True")
+        elif token.kind == "name":
+            told.append(f"given[{token.text!r}]")
+        else:
+            told.append(SIGNS.get(token.text, token.text.lstrip("0") or "0"))
+    return compile("".join(told), "rule", "eval")
+
+
+def _is_truth(found, at):
+    """Whether this name is an atom that is true: TRUE, with no sign of an expression or a comparison beside it."""
+    if found[at].text not in ("TRUE", "true"):
+        return False
+    beside = [it.text for it in found[max(at - 1, 0):at] + found[at + 1:at + 2]]
+    return all(it in ("&&", "/\\") for it in beside)
+
+
+def _value(code, given):
+    return eval(code, {"__builtins__": {}}, {"given": given})  # pylint: disable=eval-used
+
+
+class ReplayError(ValueError):
+    """A text that isn't what `koat replay` writes of a run."""
+
+
+@dataclass
+class Replay:
+    """What `koat replay` writes: of each label of a bound the number of the run, and the value of the bound beside it."""
+
+    steps: int
+    beside: Dict[str, Tuple[int, str]]
+
+
+LINE = re.compile(r"(time [0-9]+|total|size [0-9]+\.[0-9]+): ([0-9]+) of ([0-9]+|unknown|2\^127 or more)")
+
+
+def read(said):
+    """What koat wrote of a run that it replayed."""
+    lines = said.splitlines()
+    first = re.fullmatch(r"steps ([0-9]+)", lines[0]) if lines else None
+    found = [LINE.fullmatch(line) for line in lines[1:]]
+    if first is None or None in found:
+        raise ReplayError("no lines of a replay")
+    return Replay(int(first.group(1)), {it.group(1): (int(it.group(2)), it.group(3)) for it in found})
+
+
+def start_of(data):
+    """The start values of a run file that koat took."""
+    return [int(it) for it in data.split(b"\n", 2)[1].split()[1:]]
