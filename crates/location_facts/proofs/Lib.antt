@@ -1,0 +1,12 @@
+-- facts as rows, and what proofs of them are worth
+pub mod RowValues
+pub mod Inductive
+pub mod Proved
+-- the sequence of lists of facts
+pub mod Next
+-- programs that are strengthened by facts
+pub mod Strongest
+pub mod Strengthened
+pub mod StrongValid
+pub mod StrongLaws
+pub mod AtomLists

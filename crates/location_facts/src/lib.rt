@@ -1,0 +1,13 @@
+//! Facts that hold at the symbols of a program. Contract to the layer above: facts with proofs of which nothing is wrong
+//! (`AreProved`) hold on every run (`proved_facts_hold`), and the program that `strengthen` makes with facts that hold has
+//! the same runs (`strengthening_changes_no_run`). Which facts are kept within a number of pivots is said by `Kept`.
+#![tactic(auto)]
+
+mod copies;
+mod fact;
+mod laws;
+mod strengthening;
+
+pub use fact::{FactFault, FactProof, LocFact, LocFacts};
+pub use laws::{kept_facts_are_one, proved_facts_hold, strengthening_changes_no_run};
+pub use strengthening::strengthen;
