@@ -10,3 +10,10 @@ pub mod Strengthened
 pub mod StrongValid
 pub mod StrongLaws
 pub mod AtomLists
+-- the first fault of facts and their proofs
+pub mod Counting
+pub mod FactSizes
+pub mod RowForms
+pub mod CombinedLists
+pub mod FaultLists
+pub mod FaultSteps

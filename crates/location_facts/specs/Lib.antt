@@ -8,3 +8,5 @@ pub mod Strengthening
 pub mod Kept
 -- laws, and values that were worked out by hand
 pub mod Laws
+-- the machinery of the functions inside
+pub mod CombinedRows

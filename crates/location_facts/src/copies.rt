@@ -1,11 +1,11 @@
-//! Copies of parts of programs, in memory of their own. Want of memory alone is refused.
+//! Copies of parts of programs and of rows, in memory of their own. Want of memory alone is refused.
 
 ghost use Rattle.std.specs.Prelude.{◌≡◌, IfOk, map, option_map};
-ghost use Rattle.poly_terms.specs.Views.{term_of};
+ghost use Rattle.poly_terms.specs.Views.{term_of, form_of};
 ghost use Rattle.its_model.specs.Views.{name_of, symbol_of, atom_of};
 
 use its_model::{Atom, Name, Symbol};
-use poly_terms::{Expr, Memory};
+use poly_terms::{Expr, Memory, Row};
 use std::alloc::Global;
 
 // A name.
@@ -115,6 +115,27 @@ pub(crate) fn copied_atoms(alloc: Global, atoms: &[Atom]) -> Result<Vec<Atom>, M
     let mut copies = Vec::new(alloc);
     for atom in atoms {
         copies.push(copied_atom(alloc, atom)?)?;
+    }
+    Ok(copies)
+}
+
+/// A row.
+pub(crate) fn copied_row(alloc: Global, row: &Row) -> Result<Row, Memory>
+    ensures { IfOk result (λ copy. form_of copy ≡ form_of row.now) }
+{
+    Ok(Row {
+        coefs: row.coefs.as_slice().to_vec(alloc)?,
+        constant: row.constant,
+    })
+}
+
+/// Rows, in order.
+pub(crate) fn copied_rows(alloc: Global, rows: &[Row]) -> Result<Vec<Row>, Memory>
+    ensures { IfOk result (λ copies. map form_of copies.items ≡ map form_of rows.now) }
+{
+    let mut copies = Vec::new(alloc);
+    for row in rows {
+        copies.push(copied_row(alloc, row)?)?;
     }
     Ok(copies)
 }

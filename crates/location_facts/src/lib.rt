@@ -3,11 +3,15 @@
 //! the same runs (`strengthening_changes_no_run`). Which facts are kept within a number of pivots is said by `Kept`.
 #![tactic(auto)]
 
+mod checks;
 mod copies;
 mod fact;
+mod faults;
 mod laws;
+mod rows;
 mod strengthening;
 
 pub use fact::{FactFault, FactProof, LocFact, LocFacts};
+pub use faults::facts_fault;
 pub use laws::{kept_facts_are_one, proved_facts_hold, strengthening_changes_no_run};
 pub use strengthening::strengthen;

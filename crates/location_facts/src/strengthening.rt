@@ -101,8 +101,8 @@ fn room_for(rule: &Rule) -> usize
     limit.saturating_sub(rule.guard.len())
 }
 
-// The facts of a symbol, in order.
-fn facts_at(alloc: Global, symbol: u32, kept: &[LocFact]) -> Result<Vec<LocFact>, Memory>
+/// The facts of a symbol, in order.
+pub(crate) fn facts_at(alloc: Global, symbol: u32, kept: &[LocFact]) -> Result<Vec<LocFact>, Memory>
     ensures { IfOk result (λ facts. facts.items ≡ facts_of_symbol symbol kept.now) }
 {
     let mut found = Vec::new(alloc);
