@@ -14,8 +14,8 @@ loop-proof-preserved c =
 pub returns-then-not-is_small : goal.returns-then-not-is_small
 returns-then-not-is_small c = (
   λ e. absurd (let no : ⊥ = cc in no),
-  λ h. c.is_within_limit-is_small.ensures.1 (subst IsWithinLimit (sym c.proof-item.is)
-      (h c.loop-proof.proof-index c.proof-item.result c.loop-proof-test.true)),
+  λ h. absurd (let t = c.is_within_limit-is_small.ensures.1 (subst IsWithinLimit (sym c.proof-item.is)
+      (h c.loop-proof.proof-index c.proof-item.result c.loop-proof-test.true)) in let no : ⊥ = cc in no),
 )
 
 pub returns : goal.returns
