@@ -10,3 +10,4 @@ pub mod Strengthened
 pub mod StrongValid
 pub mod StrongLaws
 pub mod AtomLists
+pub mod WorkedFacts

@@ -8,3 +8,4 @@ pub mod Strengthening
 pub mod Kept
 -- laws, and values that were worked out by hand
 pub mod Laws
+pub mod Worked
