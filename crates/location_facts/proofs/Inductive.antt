@@ -1,5 +1,5 @@
 -- Facts that hold by induction along runs hold on every run.
-use Rattle.std.proofs.Common.{◌≡◌, ℕ, zero, suc, ◌<◌, ◌≤◌, ap, arith, sym, ◌∙◌, subst, List, [], ◌∷◌, ◌++◌, length, map}
+use Rattle.std.proofs.Common.{◌≡◌, ℕ, ◌<◌, ◌≤◌, ap, arith, sym, ◌∙◌, subst, List, [], ◌∷◌, ◌++◌, length, map}
 use Rattle.std.proofs.Common.{Some, get_or}
 use Rattle.std.specs.Prelude.{ℤ, pos, ◌-ℤ◌, ◌*ℤ◌, ◌≤ℤ◌, ◌<ℤ◌, nat_eq}
 use Rattle.std.specs.List.{All, Contains}
@@ -9,10 +9,10 @@ use Rattle.std.proofs.lemmas.List.Elements.{All-append, All-map, All-filter, fil
 use Rattle.poly_terms.proofs.int_laws.OrderLaws.{le-of-mul_ℤ}
 use Rattle.poly_terms.specs.linear_forms.Forms.{Form, at, form_value}
 use Rattle.poly_terms.specs.linear_forms.Combinations.{form_times}
-use Rattle.poly_terms.specs.linear_forms.Points.{Meets, IsPoint}
+use Rattle.poly_terms.specs.linear_forms.Points.{Meets}
 use Rattle.poly_terms.proofs.linear_forms.CertificateLaws.{implied, no_point}
 use Rattle.poly_terms.proofs.linear_forms.CombinationLaws.{form_value-times}
-use Rattle.poly_terms.specs.model.Programs.{Program, Rule, rule_at, arity_of}
+use Rattle.poly_terms.specs.model.Programs.{Program, arity_of}
 use Rattle.poly_terms.specs.model.Runs.{Config, Step, IsStep, IsRun, Begins, place_value}
 use Rattle.poly_terms.proofs.model.StepLaws.{values}
 use Rattle.its_model.specs.Valid.{IsValid}
@@ -21,7 +21,7 @@ use Rattle.proof_tree.specs.guard_prep.Prepared.{rows_of, news_of}
 use Rattle.proof_tree.proofs.guard_prep.StepLaws.{steps-are-points}
 use Rattle.proof_tree.proofs.guard_prep.its_model.ValidLaws.{arities_agree}
 use Rattle.poly_terms.specs.linear_forms.RuleQuestions.{RuleForms}
-use Rattle.rule_questions.specs.ProgramQuestions.{forms_in, forms_at}
+use Rattle.rule_questions.specs.ProgramQuestions.{forms_in}
 use Rattle.location_facts.specs.declared.fact.LocFact.{LocFact}
 use Rattle.location_facts.specs.declared.fact.FactProof.{FactProof}
 use Rattle.location_facts.specs.declared.fact.FactProof.TheVariants.{Empty, Implied}

@@ -10,6 +10,7 @@ pub mod Strengthened
 pub mod StrongValid
 pub mod StrongLaws
 pub mod AtomLists
+pub mod WorkedFacts
 -- the first fault of facts and their proofs
 pub mod Counting
 pub mod FactSizes

@@ -1,5 +1,5 @@
 -- A list of facts has one next list, and a sequence of lists one end.
-use Rattle.std.proofs.Common.{◌≡◌, ◌⊎◌, inl, inr, ℕ, List, [], ◌∷◌, ap, refl, sym, ◌∙◌, subst}
+use Rattle.std.proofs.Common.{◌≡◌, inl, inr, ℕ, List, [], ◌∷◌, ap, refl, sym, ◌∙◌, subst}
 use Rattle.poly_terms.specs.model.Programs.{Program}
 use Rattle.location_facts.specs.declared.fact.LocFact.{LocFact}
 use Rattle.location_facts.specs.Candidates.{candidates}

@@ -1,8 +1,7 @@
 -- Facts with proofs of which nothing is wrong hold by induction, and so on every run.
-use Rattle.std.proofs.Common.{◌≡◌, ℕ, zero, suc, ◌+◌, ◌<◌, ◌≤◌, ap, arith, refl, sym, ◌∙◌, subst, List, length, get_or}
+use Rattle.std.proofs.Common.{◌≡◌, ℕ, zero, suc, ◌<◌, ◌≤◌, ap, arith, refl, sym, ◌∙◌, subst, List, length}
 use Rattle.std.proofs.Common.{Some, true, min}
-use Rattle.std.specs.Prelude.{slice_get}
-use Rattle.std.specs.List.{All, Contains, range_with_len}
+use Rattle.std.specs.List.{Contains, range_with_len}
 use Rattle.std.proofs.lemmas.List.FromFn.{length-range_with_len, get_or-range_with_len}
 use Rattle.std.proofs.lemmas.Option.{slice_get_read, slice_get_within, get_or_from_slice_get}
 use Rattle.poly_terms.specs.model.Entries.{is_in}
@@ -11,11 +10,9 @@ use Rattle.poly_terms.specs.model.Programs.{Program, Rule, rule_at, arity_of}
 use Rattle.poly_terms.proofs.model.Cases.{none_some, slice_get-there}
 use Rattle.poly_terms.proofs.model.Membership.{is_in-contained, is_in-filter, contains-is_in}
 use Rattle.poly_terms.proofs.model.StepLaws.{target_of-rule, same_symbol-same}
-use Rattle.its_model.specs.Valid.{IsValid}
 use Rattle.location_facts.specs.declared.fact.LocFact.{LocFact}
 use Rattle.location_facts.specs.declared.fact.FactProof.{FactProof}
 use Rattle.location_facts.specs.Certificates.{IsWithinLimit, IsKeptBy, AreInductive}
-use Rattle.location_facts.specs.Facts.{HoldsAlways}
 use Rattle.location_facts.specs.Faults.{rules_into, StandsAt, IsRight, least_rank, AreProved}
 use Rattle.location_facts.specs.Laws.{ProvedFactsHold}
 use Rattle.location_facts.proofs.Inductive.{inductive-hold}

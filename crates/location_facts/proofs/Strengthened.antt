@@ -1,12 +1,12 @@
 -- A program that is strengthened by facts that hold has the same runs.
-use Rattle.std.proofs.Common.{◌≡◌, ℕ, zero, suc, ◌+◌, ◌<◌, ◌≤◌, ◌==◌, ap, arith, refl, sym, ◌∙◌, subst, List, [], ◌∷◌}
-use Rattle.std.proofs.Common.{◌++◌, length, map, take, min, Option, Some, None, if◌then◌else◌, get_or}
-use Rattle.std.specs.Prelude.{ℤ, ◌↔◌, slice_get, option_map}
-use Rattle.std.specs.List.{All, Contains}
+use Rattle.std.proofs.Common.{◌≡◌, ℕ, zero, suc, ◌+◌, ◌≤◌, ◌==◌, ap, arith, refl, sym, ◌∙◌, subst, List, [], ◌∷◌}
+use Rattle.std.proofs.Common.{◌++◌, length, map, take, min, Option, Some, None, if◌then◌else◌}
+use Rattle.std.specs.Prelude.{ℤ, slice_get, option_map}
+use Rattle.std.specs.List.{Contains}
 use Rattle.std.proofs.lemmas.List.Elements.{All-append, All-take, All-contains}
 use Rattle.poly_terms.specs.model.Bounds.{Bound, val}
 use Rattle.poly_terms.specs.model.Costs.{cost_by, updated, values_after, step_cost, spent}
-use Rattle.poly_terms.specs.model.Facts.{Fact, Time, Size, Cost, Holds, HoldsTime, HoldsSize, HoldsCost, HoldsTotal}
+use Rattle.poly_terms.specs.model.Facts.{Fact, Time, Size, Cost, Holds, HoldsTotal}
 use Rattle.poly_terms.specs.model.Programs.{Program, Rule, rule_at, arity_of, AtomHolds, GuardHolds}
 use Rattle.poly_terms.specs.model.Runs.{Config, Step, Leads, IsStep, IsRun, sizes_of_start}
 use Rattle.poly_terms.specs.model.RunLaws.{AritiesAgree}

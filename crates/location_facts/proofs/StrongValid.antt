@@ -1,5 +1,5 @@
 -- A valid program that is strengthened by facts that are tried is valid.
-use Rattle.std.proofs.Common.{◌≡◌, ℕ, zero, suc, ◌+◌, ◌-◌, ◌<◌, ◌≤◌, ◌&&◌, ◌||◌, ap, arith, refl, sym, ◌∙◌, subst, List, []}
+use Rattle.std.proofs.Common.{◌≡◌, ℕ, zero, suc, ◌+◌, ◌-◌, ◌≤◌, ◌||◌, ap, arith, refl, sym, ◌∙◌, subst, List, []}
 use Rattle.std.proofs.Common.{◌∷◌, ◌++◌, length, map, take, min, Bool, true, false, Option, Some, None}
 use Rattle.std.specs.Prelude.{ℤ, pos, negsuc, ◌≤ℤ◌, nat_eq, IsTrue}
 use Rattle.std.specs.List.{All, AllByRecursion, Contains, list_all, list_any, range_with_len}
@@ -8,11 +8,10 @@ use Rattle.std.proofs.lemmas.Bool.{and_parts}
 use Rattle.std.proofs.lemmas.List.{length-append, length-map}
 use Rattle.std.proofs.lemmas.List.Elements.{All-take, All-contains}
 use Rattle.poly_terms.specs.model.Limits.{atom_limit, rule_limit}
-use Rattle.poly_terms.specs.model.Programs.{AtLeast, Program, Rule, Symbol, arity_of}
-use Rattle.poly_terms.specs.model.Terms.{Term, Literal}
+use Rattle.poly_terms.specs.model.Programs.{AtLeast, Program, Rule, arity_of}
+use Rattle.poly_terms.specs.model.Terms.{Literal}
 use Rattle.poly_terms.specs.Checked.{ReadsBelow}
 use Rattle.poly_terms.specs.Faults.{Fault, first_fault}
-use Rattle.poly_terms.proofs.model.Cases.{some_none}
 use Rattle.poly_terms.proofs.model.Membership.{contains-is_in, is_in-numbers}
 use Rattle.its_model.specs.Valid.{difference_of, cost_atoms, IsValidAtom, IsValidRule, IsValid}
 use Rattle.proof_tree.proofs.guard_prep.its_model.CostSteps.{joined-hold}

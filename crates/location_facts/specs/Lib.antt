@@ -8,5 +8,6 @@ pub mod Strengthening
 pub mod Kept
 -- laws, and values that were worked out by hand
 pub mod Laws
+pub mod Worked
 -- the machinery of the functions inside
 pub mod CombinedRows

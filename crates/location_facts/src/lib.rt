@@ -13,5 +13,7 @@ mod strengthening;
 
 pub use fact::{FactFault, FactProof, LocFact, LocFacts};
 pub use faults::facts_fault;
-pub use laws::{kept_facts_are_one, proved_facts_hold, strengthening_changes_no_run};
+pub use laws::{
+    facts_are_as_worked_out, kept_facts_are_one, proved_facts_hold, strengthening_changes_no_run,
+};
 pub use strengthening::strengthen;
