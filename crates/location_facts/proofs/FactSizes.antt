@@ -103,6 +103,10 @@ combined-small rows s kept few numbers leasts few-facts = record {
   constants = together (λ f. f.constant) (λ f h. h.constant) fact-constant;
 }
   where
+    sums : (a b n m whole : ℕ) → whole ≡ a + b → a ≤ row_limit * n → b ≤ 2 * m → n ≤ 128 → m ≤ 243
+        → whole ≤ 2 ^ 70 + 2 ^ 10
+    sums a b n m whole e k l g h = omega (arith, e, k, l, g, h)
+
     together : (number : Form → ℤ) → ((f : Form) → HasRowNumbers f → unsigned_abs (number f) < row_limit)
         → ((f : LocFact) → (negsuc 0 ≤ℤ f.least) × (f.least ≤ℤ pos 1) → unsigned_abs (number (row_before f)) ≤ 2)
         → column_size number (rows ++ map row_before (facts_at s kept)) ≤ 2 ^ 70 + 2 ^ 10
@@ -112,7 +116,3 @@ combined-small rows s kept few numbers leasts few-facts = record {
         (column-append number rows (map row_before (facts_at s kept))) (rows-size number rows numbers small)
         (facts-size number (λ f. (negsuc 0 ≤ℤ f.least) × (f.least ≤ℤ pos 1)) (facts_at s kept)
         (All-filter _ (λ f. (negsuc 0 ≤ℤ f.least) × (f.least ≤ℤ pos 1)) kept leasts) small-facts) few few-facts
-
-    sums : (a b n m whole : ℕ) → whole ≡ a + b → a ≤ row_limit * n → b ≤ 2 * m → n ≤ 128 → m ≤ 243
-        → whole ≤ 2 ^ 70 + 2 ^ 10
-    sums a b n m whole e k l g h = omega (arith, e, k, l, g, h)

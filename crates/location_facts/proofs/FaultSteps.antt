@@ -1,11 +1,11 @@
 -- What is told of facts and their proofs, one position after the other.
 use Rattle.std.proofs.Common.{◌≡◌, ◌⊎◌, inl, inr, ℕ, zero, suc, ◌+◌, ◌<◌, ◌≤◌, ap, arith, refl, sym, ◌∙◌, subst, List}
-use Rattle.std.proofs.Common.{length, Option, Some, None, option_map}
+use Rattle.std.proofs.Common.{length, get_or, Option, Some, None, option_map}
 use Rattle.std.specs.Prelude.{slice_get, Vec, MatchOption}
 use Rattle.std.specs.declared.alloc.Global.{Global}
 use Rattle.std.proofs.lemmas.Bool.{cases_lt}
 use Rattle.std.proofs.lemmas.List.{length-map}
-use Rattle.std.proofs.lemmas.Option.{slice_get-map}
+use Rattle.std.proofs.lemmas.Option.{slice_get-map, slice_get_read}
 use Rattle.poly_terms.specs.model.Programs.{Program}
 use Rattle.poly_terms.proofs.model.Cases.{some_same}
 use Rattle.location_facts.specs.declared.fact.LocFact.{LocFact}
@@ -171,3 +171,66 @@ pub right-at : (p : Program) (f : LocFacts) (i : ℕ) (fact : LocFact) (proofs :
     → AreRight p f.kept.items (proofs_of f) (length f.kept.items) → slice_get f.kept.items i ≡ Some fact
     → slice_get f.proofs.items i ≡ Some proofs → IsRight p (least_rank f.kept.items i) fact proofs.items
 right-at p f i fact proofs l right g h = right i fact proofs.items l (stands-at f i fact proofs g h)
+
+-- an element that is read is there
+read : {X : Type 0} (xs : List X) (i : ℕ) (x : X) → i < length xs → x ≡ get_or xs i x → slice_get xs i ≡ Some x
+read xs i x l e = slice_get_read xs (length xs) i x refl l e
+
+-- the fact and the proofs that are read at a position
+pub stands-read : (f : LocFacts) (i : ℕ) (fact : LocFact) (v : Vec FactProof Global) (ps : List FactProof)
+    → i < length f.kept.items → length f.proofs.items ≡ length f.kept.items → fact ≡ get_or f.kept.items i fact
+    → v ≡ get_or f.proofs.items i v → ps ≡ v.items → StandsAt f.kept.items (proofs_of f) i fact ps
+stands-read f i fact v ps l one_each e g h =
+    subst (StandsAt f.kept.items (proofs_of f) i fact) (sym h)
+    (stands-at f i fact v (read f.kept.items i fact l e) (read f.proofs.items i v (omega (arith, l, one_each)) g))
+
+-- one right fact more, as it is read
+pub right-next : (p : Program) (f : LocFacts) (i least : ℕ) (fact : LocFact) (v : Vec FactProof Global)
+    (ps : List FactProof) → i < length f.kept.items → length f.proofs.items ≡ length f.kept.items
+    → fact ≡ get_or f.kept.items i fact → v ≡ get_or f.proofs.items i v → ps ≡ v.items
+    → AreRight p f.kept.items (proofs_of f) i → least ≡ least_rank f.kept.items i → IsRight p least fact ps
+    → AreRight p f.kept.items (proofs_of f) (i + 1)
+right-next p f i least fact v ps l one_each e g h before k right =
+    right-more p f.kept.items (proofs_of f) i fact ps before (stands-read f i fact v ps l one_each e g h)
+    (subst (λ (n : ℕ). IsRight p n fact ps) k right)
+
+-- the least number for the fact behind one that is read
+pub rank-after : (f : LocFacts) (i : ℕ) (fact : LocFact) (n : ℕ) → i < length f.kept.items
+    → fact ≡ get_or f.kept.items i fact → n ≡ rank fact → n + 1 ≡ least_rank f.kept.items (i + 1)
+rank-after f i fact n l e g =
+    ap (λ (k : ℕ). k + 1) g ∙ next i fact (read f.kept.items i fact l e)
+  where
+    next : (i : ℕ) (fact : LocFact) → slice_get f.kept.items i ≡ Some fact
+        → rank fact + 1 ≡ least_rank f.kept.items (i + 1)
+    next i fact e =
+        (let z : rank fact + 1 ≡ suc (rank fact) = omega arith in z)
+        ∙ (ap (λ (o : Option LocFact). suc (rank_in o)) (sym e)
+        ∙ ap (least_rank f.kept.items) (let y : suc i ≡ i + 1 = omega arith in y))
+
+-- the shape of the proofs of a fact that is read, where all are right
+pub shape-at : (p : Program) (f : LocFacts) (i : ℕ) (fact : LocFact) (v : Vec FactProof Global) (ps : List FactProof)
+    → i < length f.kept.items → length f.proofs.items ≡ length f.kept.items → fact ≡ get_or f.kept.items i fact
+    → v ≡ get_or f.proofs.items i v → ps ≡ v.items → AreRight p f.kept.items (proofs_of f) (length f.kept.items)
+    → IsRight p (least_rank f.kept.items i) fact ps
+shape-at p f i fact v ps l one_each e g h right =
+    right i fact ps l (stands-read f i fact v ps l one_each e g h)
+
+-- one shown fact more, as it is read
+pub shown-next : (p : Program) (f : LocFacts) (i : ℕ) (fact : LocFact) (v : Vec FactProof Global) (ps : List FactProof)
+    → i < length f.kept.items → length f.proofs.items ≡ length f.kept.items → fact ≡ get_or f.kept.items i fact
+    → v ≡ get_or f.proofs.items i v → ps ≡ v.items → AreShown p f.kept.items (proofs_of f) i
+    → ProofsShow p f.kept.items fact ps (length ps) → AreShown p f.kept.items (proofs_of f) (i + 1)
+shown-next p f i fact v ps l one_each e g h before shown =
+    shown-more p f.kept.items (proofs_of f) i fact ps before (stands-read f i fact v ps l one_each e g h) shown
+
+-- an unshown fact behind shown ones is the first, as it is read
+pub unshown-next : (p : Program) (f : LocFacts) (i t : ℕ) (x : FactFault) (fact : LocFact) (v : Vec FactProof Global)
+    (ps : List FactProof) → i < length f.kept.items → length f.proofs.items ≡ length f.kept.items
+    → fact ≡ get_or f.kept.items i fact → v ≡ get_or f.proofs.items i v → ps ≡ v.items
+    → AreRight p f.kept.items (proofs_of f) (length f.kept.items) → AreShown p f.kept.items (proofs_of f) i
+    → IsUnshownBy p f.kept.items fact ps t → x.fact ≡ i + 1 → x.rule ≡ t
+    → TellsFault p f.kept.items (proofs_of f) (Some x)
+unshown-next p f i t x fact v ps l one_each e g h right before by k m =
+    unshown-told p f i t x fact v one_each right (read f.kept.items i fact l e)
+    (read f.proofs.items i v (omega (arith, l, one_each)) g) before
+    (subst (λ (qs : List FactProof). IsUnshownBy p f.kept.items fact qs t) h by) k m

@@ -18,3 +18,4 @@ pub mod RowForms
 pub mod CombinedLists
 pub mod FaultLists
 pub mod FaultSteps
+pub mod ShownRules

@@ -63,7 +63,8 @@ pub(crate) fn rank_of(fact: LocFact) -> u64
     requires minus { fact.minus ≤ 8 }
     requires low { negsuc 0 ≤ℤ fact.least }
     requires high { fact.least ≤ℤ pos 1 }
-    ensures { result ≡ rank fact }
+    ensures same { result ≡ rank fact }
+    ensures small { result < 2 ^ 40 }
 {
     let places = (u64::from(fact.symbol) * 9 + u64::from(fact.plus)) * 9 + u64::from(fact.minus);
     places * 3 + (fact.least + 1).unsigned_abs()

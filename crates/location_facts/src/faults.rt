@@ -68,7 +68,8 @@ fn first_wrong(alloc: Global, p: &Program, f: &LocFacts) -> Result<Option<u32>, 
     for i in 0..f.kept.len() {
         let fact = f.kept[i];
         let into = rules_into(alloc, p, fact.symbol)?;
-        if !is_right(p, least, fact, &f.proofs[i], into.len()) {
+        let right = is_right(p, least, fact, &f.proofs[i], into.len());
+        if !right {
             return Ok(Some(i as u32 + 1));
         }
         least = rank_of(fact) + 1;
@@ -123,8 +124,11 @@ fn unshown_rule(
     let into = rules_into(alloc, p, fact.symbol)?;
     for k in 0..into.len() {
         let rule = into[k];
-        let goal = row_after(alloc, &preps[rule as usize - 1].news, fact)?;
-        let shown = is_shown(alloc, &rows[rule as usize - 1], &goal, &proofs[k])?;
+        let prep = &preps[rule as usize - 1];
+        let own = &rows[rule as usize - 1];
+        let proof = &proofs[k];
+        let goal = row_after(alloc, &prep.news, fact)?;
+        let shown = is_shown(alloc, own, &goal, proof)?;
         if !shown {
             return Ok(Some(rule));
         }
@@ -144,7 +148,9 @@ fn rows_by_rule(
 {
     let mut all = Vec::new(alloc);
     for i in 0..p.rules.len() {
-        let rows = combined_rows(alloc, &preps[i].rows, p.rules[i].source, kept)?;
+        let prep = &preps[i];
+        let rule = &p.rules[i];
+        let rows = combined_rows(alloc, &prep.rows, rule.source, kept)?;
         all.push(rows)?;
     }
     Ok(all)

@@ -38,7 +38,10 @@ fn value_after(alloc: Global, news: &[Row], place: u32) -> Result<Row, Memory>
         return Ok(constant_row(alloc, 0));
     }
     match news.get(place as usize - 1) {
-        Some(row) => copied_row(alloc, row),
+        Some(row) => {
+            let copy = copied_row(alloc, row)?;
+            Ok(copy)
+        }
         None => Ok(constant_row(alloc, 0)),
     }
 }
