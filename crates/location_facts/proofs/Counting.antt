@@ -8,7 +8,7 @@ use Rattle.poly_terms.specs.model.Programs.{Program, arity_of}
 use Rattle.location_facts.specs.declared.fact.LocFact.{LocFact}
 use Rattle.location_facts.specs.declared.fact.FactProof.{FactProof}
 use Rattle.location_facts.specs.Candidates.{IsCandidate, rank}
-use Rattle.location_facts.specs.Faults.{rank_in, least_rank, StandsAt, IsRight, AreRight}
+use Rattle.location_facts.specs.Faults.{rank_in, StandsAt, IsRight, AreRight}
 use Rattle.location_facts.specs.Rows.{facts_at}
 
 -- facts that are tried, each with a number over that of the one before, the first with at least k

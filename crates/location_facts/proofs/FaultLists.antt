@@ -1,10 +1,10 @@
 -- Rules into a symbol, places and symbols of the code, as tests and loops meet them.
-use Rattle.std.proofs.Common.{◌≡◌, ℕ, ◌+◌, ◌<◌, ◌≤◌, ap, arith, refl, sym, ◌∙◌, List, [], ◌∷◌, ◌++◌, filter, length, map, min}
+use Rattle.std.proofs.Common.{◌≡◌, ℕ, ◌+◌, ap, arith, sym, ◌∙◌, List, [], ◌∷◌, ◌++◌, filter, length, min}
 use Rattle.std.proofs.Common.{Bool, true, false, Option, Some, None, option_map}
 use Rattle.std.specs.Prelude.{slice_get}
 use Rattle.std.specs.List.{range_with_len}
 use Rattle.std.proofs.lemmas.List.{length-map}
-use Rattle.std.proofs.lemmas.Option.{slice_get-map, slice_get_past}
+use Rattle.std.proofs.lemmas.Option.{slice_get-map}
 use Rattle.poly_terms.specs.model.Paths.{target_of, same_symbol}
 use Rattle.poly_terms.specs.model.Programs as plain
 use Rattle.poly_terms.specs.model.Programs.{arity_of, arity_in}

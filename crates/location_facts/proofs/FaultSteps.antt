@@ -1,5 +1,5 @@
 -- What is told of facts and their proofs, one position after the other.
-use Rattle.std.proofs.Common.{◌≡◌, ◌⊎◌, inl, inr, ℕ, zero, suc, ◌+◌, ◌<◌, ◌≤◌, ap, arith, refl, sym, ◌∙◌, subst, List}
+use Rattle.std.proofs.Common.{◌≡◌, ◌⊎◌, inl, inr, ℕ, suc, ◌+◌, ◌<◌, ◌≤◌, ap, arith, refl, sym, ◌∙◌, subst, List}
 use Rattle.std.proofs.Common.{length, get_or, Option, Some, None, option_map}
 use Rattle.std.specs.Prelude.{slice_get, Vec, MatchOption}
 use Rattle.std.specs.declared.alloc.Global.{Global}
@@ -13,7 +13,7 @@ use Rattle.location_facts.specs.declared.fact.LocFacts.{LocFacts}
 use Rattle.location_facts.specs.declared.fact.FactProof.{FactProof}
 use Rattle.location_facts.specs.declared.fact.FactFault.{FactFault}
 use Rattle.location_facts.specs.Candidates.{rank}
-use Rattle.location_facts.specs.Faults.{rank_in, least_rank, StandsAt, IsRight, AreRight, rules_into, IsProofFor}
+use Rattle.location_facts.specs.Faults.{rank_in, least_rank, StandsAt, IsRight, AreRight, IsProofFor}
 use Rattle.location_facts.specs.Faults.{ShowsFact, ProofsShow, AreShown, AreProved, IsFirstFault, proofs_of}
 use Rattle.location_facts.specs.CombinedRows.{TellsWrong, TellsFault, IsUnshownBy}
 

@@ -11,6 +11,9 @@ pub mod StrongValid
 pub mod StrongLaws
 pub mod AtomLists
 pub mod WorkedFacts
+-- the facts that are tried, and what answers tell of them
+pub mod CandidateList
+pub mod Answered
 -- the first fault of facts and their proofs
 pub mod Counting
 pub mod FactSizes

@@ -1,5 +1,5 @@
 -- What is read of a rule is what its proofs speak of.
-use Rattle.std.proofs.Common.{◌≡◌, ◌⊎◌, ℕ, zero, suc, ◌+◌, ◌-◌, ◌<◌, ◌≤◌, ap, arith, refl, sym, ◌∙◌, subst, List, length, map}
+use Rattle.std.proofs.Common.{◌≡◌, ℕ, zero, suc, ◌-◌, ◌<◌, ◌≤◌, ap, arith, refl, sym, ◌∙◌, subst, List, length, map}
 use Rattle.std.proofs.Common.{get_or, Option, Some}
 use Rattle.std.specs.Prelude.{slice_get, Vec}
 use Rattle.std.specs.declared.alloc.Global.{Global}
@@ -27,11 +27,10 @@ use Rattle.rule_questions.proofs.NewValues.{news-small}
 use Rattle.location_facts.specs.declared.fact.LocFact.{LocFact}
 use Rattle.location_facts.specs.declared.fact.FactProof.{FactProof}
 use Rattle.location_facts.specs.Certificates.{Shows}
-use Rattle.location_facts.specs.CombinedRows.{AreCombined, IsUnshownBy}
-use Rattle.location_facts.specs.Faults.{rules_into, IsProofFor, ShowsFact, ProofsShow}
+use Rattle.location_facts.specs.CombinedRows.{AreCombined}
+use Rattle.location_facts.specs.Faults.{rules_into, IsProofFor, ShowsFact}
 use Rattle.location_facts.specs.Rows.{row_after, combined}
 use Rattle.location_facts.proofs.CombinedLists.{prepared-at, prepared-many, is-prepared, combined-at}
-use Rattle.location_facts.proofs.FaultSteps.{proofs-more}
 
 -- there are as many rules as in the code
 pub rule-count : (p : Program) → length (program_of p).rules ≡ length p.rules.items

@@ -1,6 +1,12 @@
--- What facts that are proved are worth, and what strengthening changes.
-use Rattle.std.specs.Prelude.{◌≡◌, ◌↔◌, ℕ, List, ℤ}
-use Rattle.std.specs.List.{All}
+-- Which facts are tried and kept, what proved ones are worth, and what strengthening changes.
+use Rattle.std.specs.Prelude.{◌≡◌, ◌↔◌, ◌⊎◌, ℕ, ◌+◌, ◌<◌, List, ℤ, Some, slice_get}
+use Rattle.std.specs.List.{All, Contains}
+use Rattle.poly_terms.specs.linear_forms.Certificates.{minus_one}
+use Rattle.poly_terms.specs.linear_forms.LinearProgram.{LinearProgram}
+use Rattle.poly_terms.specs.linear_forms.RuleQuestions.{RuleForms}
+use Rattle.lp_builder.specs.simplex_core.declared.answers.Answer.{Answer}
+use Rattle.lp_builder.specs.simplex_core.declared.answers.Answer.TheVariants.{Solution, Dual, Tripped}
+use Rattle.lp_builder.specs.simplex_core.Trips.{IsWholeAnswer}
 use Rattle.poly_terms.specs.model.Bounds.{Bound}
 use Rattle.poly_terms.specs.model.Facts.{Fact, Holds, HoldsTotal}
 use Rattle.poly_terms.specs.model.Programs.{Program}
@@ -8,12 +14,20 @@ use Rattle.poly_terms.specs.model.Runs.{Config, Step, IsRun}
 use Rattle.its_model.specs.Valid.{IsValid}
 use Rattle.location_facts.specs.declared.fact.LocFact.{LocFact}
 use Rattle.location_facts.specs.declared.fact.FactProof.{FactProof}
-use Rattle.location_facts.specs.Candidates.{IsCandidate}
+use Rattle.location_facts.specs.Candidates.{IsCandidate, rank, candidates}
 use Rattle.location_facts.specs.Certificates.{AreInductive}
 use Rattle.location_facts.specs.Facts.{HoldsAlways}
 use Rattle.location_facts.specs.Faults.{AreProved}
-use Rattle.location_facts.specs.Kept.{IsNext, AreKept, EndsWith}
+use Rattle.location_facts.specs.Kept.{IsNext, AreKept, EndsWith, goal_program, IsSolvedWithin, IsImplied}
+use Rattle.location_facts.specs.Rows.{combined, row_after}
 use Rattle.location_facts.specs.Strengthening.{strengthened}
+
+-- the list of the facts that are tried has each of them and no others, in order: each has a number over that of the one
+-- before it
+pub record CandidatesAreListed : Type 0 where
+  pub listed : (p : Program) (f : LocFact) → Contains (candidates p) f ↔ IsCandidate p f
+  pub ordered : (p : Program) (i : ℕ) (f g : LocFact) → slice_get (candidates p) i ≡ Some f
+      → slice_get (candidates p) (i + 1) ≡ Some g → rank f < rank g
 
 -- facts that hold by induction along runs hold on every run of a valid program; and facts with proofs of which nothing is
 -- wrong hold by induction, whoever found them
@@ -46,3 +60,19 @@ pub record KeptFactsAreOne : Type 0 where
       → EndsWith p pivots other from → end ≡ other
   pub kept : (p : Program) (pivots : ℕ) (end other : List LocFact) → AreKept p pivots end → AreKept p pivots other
       → end ≡ other
+
+-- a linear program is answered by a solution
+abbrev pub SaysSolution : Answer → Type 0
+SaysSolution (Solution s) = Unit {0}
+SaysSolution (Dual s) = ⊥
+SaysSolution (Tripped c) = ⊥
+
+-- a linear program is solved within a number of pivots exactly where it is answered by a solution: a dual shows that it
+-- has none. So what answers the two linear programs of a rule and a fact tells whether the rule implies the fact
+pub record AnswersTellImplied : Type 0 where
+  pub solved : (q : LinearProgram) (pivots : ℕ) (a : Answer) → IsWholeAnswer q pivots a
+      → SaysSolution a ↔ IsSolvedWithin pivots q
+  pub implied : (pivots : ℕ) (r : RuleForms) (kept : List LocFact) (f : LocFact) (a b : Answer)
+      → IsWholeAnswer (goal_program r.unknowns (combined r kept) minus_one) pivots a
+      → IsWholeAnswer (goal_program r.unknowns (combined r kept) (row_after r.news f)) pivots b
+      → (SaysSolution a ⊎ SaysSolution b) ↔ IsImplied pivots r kept f

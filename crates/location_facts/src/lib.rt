@@ -14,6 +14,7 @@ mod strengthening;
 pub use fact::{FactFault, FactProof, LocFact, LocFacts};
 pub use faults::facts_fault;
 pub use laws::{
-    facts_are_as_worked_out, kept_facts_are_one, proved_facts_hold, strengthening_changes_no_run,
+    answers_tell_implied, candidates_are_listed, facts_are_as_worked_out, kept_facts_are_one,
+    proved_facts_hold, strengthening_changes_no_run,
 };
 pub use strengthening::strengthen;

@@ -1,4 +1,4 @@
-use Rattle.std.proofs.Common.{arith, ◌+◌, refl, subst, Option}
+use Rattle.std.proofs.Common.{arith, ◌+◌, refl, subst}
 use Rattle.its_model.specs.Views.{program_of}
 use Rattle.location_facts.specs.CombinedRows.{TellsUnshown}
 use Rattle.location_facts.proofs.FaultSteps.{shape-at, unshown-next, shown-next}
