@@ -3,7 +3,7 @@ use Rattle.std.proofs.Common.{◌≡◌, ℕ, zero, suc, ◌+◌, ◌-◌, ◌<�
 use Rattle.std.proofs.Common.{length, map, take, drop, get_or, Option, Some, None, if◌then◌else◌, append_assoc}
 use Rattle.std.specs.Prelude.{ℤ, nat_eq}
 use Rattle.std.specs.List.{range_with_len}
-use Rattle.std.proofs.lemmas.List.{drop_more, take-map}
+use Rattle.std.proofs.lemmas.List.{drop_more, take-map, map-append, append-nil}
 use Rattle.poly_terms.specs.model.Programs.{Atom}
 use Rattle.poly_terms.specs.model.Terms.{Variable, Negation, Subtraction}
 use Rattle.proof_tree.proofs.Numbers.{numbers-more}
@@ -11,24 +11,14 @@ use Rattle.location_facts.specs.declared.fact.LocFact.{LocFact}
 use Rattle.location_facts.specs.Strengthening.{difference_term, greater, greatest_least, atom_by, atoms_with_plus}
 use Rattle.location_facts.specs.Strengthening.{atoms_with}
 
--- what is made of two lists is made of each
-map-joined : {A B : Type 0} (f : A → B) (xs ys : List A) → map f (xs ++ ys) ≡ map f xs ++ map f ys
-map-joined f [] ys = refl
-map-joined {B = B} f (x ∷ xs) ys = ap (λ (zs : List B). f x ∷ zs) (map-joined f xs ys)
-
 -- atoms behind others, as many as are taken
 pub joined-taken : {A B : Type 0} (f : A → B) (base added whole : List A) (n : ℕ) (first more : List B)
     → map f base ≡ first → map f added ≡ more → whole ≡ base ++ take n added → map f whole ≡ first ++ take n more
 joined-taken {A} {B} f base added whole n first more e g h =
     ap (map f) h
-    ∙ (map-joined f base (take n added)
+    ∙ (map-append f base (take n added)
     ∙ (ap (λ (xs : List B). xs ++ map f (take n added)) e
     ∙ ap (λ (xs : List B). first ++ xs) (sym (take-map f n added) ∙ ap (take n) g)))
-
--- nothing behind a list
-append-nothing : {A : Type 0} (xs : List A) → xs ++ [] ≡ xs
-append-nothing [] = refl
-append-nothing {A} (x ∷ xs) = ap (λ (ys : List A). x ∷ ys) (append-nothing xs)
 
 module _ (facts : List LocFact) where
   -- the atoms of two lists of places
@@ -66,7 +56,7 @@ module _ (facts : List LocFact) where
           ∙ (ap (λ (m : ℕ). atoms_with_plus facts i (range_with_len 0 n) ++ atoms_with_plus facts i (m ∷ []))
           (let z : 0 + n ≡ n = omega arith in z)
           ∙ ap (λ (xs : List Atom). atoms_with_plus facts i (range_with_len 0 n) ++ xs)
-          (append-nothing (atom_by i n (greatest_least i n None facts)))))
+          (append-nil (atom_by i n (greatest_least i n None facts)))))
 
   pub plus-pushed : (n : ℕ) (old new : List Atom) → old ≡ atoms_with facts (range_with_len 0 n)
       → new ≡ old ++ atoms_with_plus facts n (range_with_len 0 9) → new ≡ atoms_with facts (range_with_len 0 (n + 1))
@@ -82,7 +72,7 @@ module _ (facts : List LocFact) where
           ∙ (ap (λ (m : ℕ). atoms_with facts (range_with_len 0 n) ++ atoms_with facts (m ∷ []))
           (let z : 0 + n ≡ n = omega arith in z)
           ∙ ap (λ (xs : List Atom). atoms_with facts (range_with_len 0 n) ++ xs)
-          (append-nothing (atoms_with_plus facts n (range_with_len 0 9)))))
+          (append-nil (atoms_with_plus facts n (range_with_len 0 9)))))
 
   -- the best so far and the next fact
   pub best-next : (i j : ℕ) (best : Option ℤ) (n : ℕ) (d : LocFact) → n < length facts

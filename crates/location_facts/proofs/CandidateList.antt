@@ -10,14 +10,14 @@ use Rattle.std.proofs.lemmas.List.Elements.{Contains-append_left, Contains-appen
 use Rattle.poly_terms.specs.model.Programs.{Program}
 use Rattle.poly_terms.proofs.model.Cases.{some_same}
 use Rattle.location_facts.specs.declared.fact.LocFact.{LocFact}
-use Rattle.location_facts.specs.Candidates.{last_place, IsCandidate, rank, with_places, with_plus, with_symbol}
+use Rattle.location_facts.specs.Candidates.{last_place, IsCandidate, order_number, with_places, with_plus, with_symbol}
 use Rattle.location_facts.specs.Candidates.{candidates_at, candidates_among, candidates}
 use Rattle.location_facts.specs.Laws.{CandidatesAreListed}
 
 -- facts that are tried, each with a number over that of the one before, from k on and below n
 abbrev Between : Program → ℕ → ℕ → List LocFact → Type 0
 Between p k n [] = k ≤ n
-Between p k n (f ∷ facts) = IsCandidate p f × (k ≤ rank f) × Between p (suc (rank f)) n facts
+Between p k n (f ∷ facts) = IsCandidate p f × (k ≤ order_number f) × Between p (suc (order_number f)) n facts
 
 -- they are so from less on, and below more
 lower : (p : Program) (j k n : ℕ) (facts : List LocFact) → j ≤ k → Between p k n facts → Between p j n facts
@@ -26,22 +26,22 @@ lower p j k n (f ∷ facts) l (c, m, h) = (c, omega (arith, l, m), h)
 
 higher : (p : Program) (k m n : ℕ) (facts : List LocFact) → m ≤ n → Between p k m facts → Between p k n facts
 higher p k m n [] l h = omega (arith, l, h)
-higher p k m n (f ∷ facts) l (c, g, h) = (c, g, higher p (suc (rank f)) m n facts l h)
+higher p k m n (f ∷ facts) l (c, g, h) = (c, g, higher p (suc (order_number f)) m n facts l h)
 
 -- two lists, one behind the other
 joined : (p : Program) (k m n : ℕ) (facts more : List LocFact) → Between p k m facts → Between p m n more
     → Between p k n (facts ++ more)
 joined p k m n [] more h g = lower p k m n more h g
-joined p k m n (f ∷ facts) more (c, l, h) g = (c, l, joined p (suc (rank f)) m n facts more h g)
+joined p k m n (f ∷ facts) more (c, l, h) g = (c, l, joined p (suc (order_number f)) m n facts more h g)
 
 -- the number of the first fact with a symbol and two places
-abbrev first_rank : ℕ → ℕ → ℕ → ℕ
-first_rank s i j = ((s * 9 + i) * 9 + j) * 3
+abbrev first_number : ℕ → ℕ → ℕ → ℕ
+first_number s i j = ((s * 9 + i) * 9 + j) * 3
 
 module _ (p : Program) (s : ℕ) (here : s < length p.symbols) (other : s ≢ p.start) where
   -- the three facts with two places
   places-between : (i j : ℕ) → i ≤ last_place p s → j ≤ last_place p s → i ≢ j
-      → Between p (first_rank s i j) (first_rank s i j + 3) (with_places s i j)
+      → Between p (first_number s i j) (first_number s i j + 3) (with_places s i j)
   places-between i j l m differ = (
     tried (negsuc 0) (omega (arith, ints)) (omega (arith, ints)),
     omega arith,
@@ -66,27 +66,27 @@ module _ (p : Program) (s : ℕ) (here : s < length p.symbols) (other : s ≢ p.
 
   -- those with a plus, and a minus among n places from a on
   plus-between : (i n a : ℕ) → i ≤ last_place p s → a + n ≤ suc (last_place p s)
-      → Between p (first_rank s i a) (first_rank s i (a + n)) (with_plus s i (range_with_len a n))
+      → Between p (first_number s i a) (first_number s i (a + n)) (with_plus s i (range_with_len a n))
   plus-between i zero a l m = omega arith
   plus-between i (suc n) a l m =
       go (nat_eq i a) refl (plus-between i n (a + 1) l (omega (arith, m)))
     where
       go : (v : Bool) → nat_eq i a ≡ v
-          → Between p (first_rank s i (a + 1)) (first_rank s i ((a + 1) + n)) (with_plus s i (range_with_len (a + 1) n))
-          → Between p (first_rank s i a) (first_rank s i (a + suc n))
+          → Between p (first_number s i (a + 1)) (first_number s i ((a + 1) + n)) (with_plus s i (range_with_len (a + 1) n))
+          → Between p (first_number s i a) (first_number s i (a + suc n))
           ((if v then [] else with_places s i a) ++ with_plus s i (range_with_len (a + 1) n))
       go true e h =
-          lower p (first_rank s i a) (first_rank s i (a + 1)) (first_rank s i (a + suc n))
+          lower p (first_number s i a) (first_number s i (a + 1)) (first_number s i (a + suc n))
           (with_plus s i (range_with_len (a + 1) n)) (omega arith)
-          (higher p (first_rank s i (a + 1)) (first_rank s i ((a + 1) + n)) (first_rank s i (a + suc n))
+          (higher p (first_number s i (a + 1)) (first_number s i ((a + 1) + n)) (first_number s i (a + suc n))
           (with_plus s i (range_with_len (a + 1) n)) (omega arith) h)
       go false e h =
-          joined p (first_rank s i a) (first_rank s i a + 3) (first_rank s i (a + suc n)) (with_places s i a)
+          joined p (first_number s i a) (first_number s i a + 3) (first_number s i (a + suc n)) (with_places s i a)
           (with_plus s i (range_with_len (a + 1) n))
           (places-between i a l (omega (arith, m)) (λ same. absurd (let no : ⊥ = cc (eq-eqb i a same) in no)))
-          (lower p (first_rank s i a + 3) (first_rank s i (a + 1)) (first_rank s i (a + suc n))
+          (lower p (first_number s i a + 3) (first_number s i (a + 1)) (first_number s i (a + suc n))
           (with_plus s i (range_with_len (a + 1) n)) (omega arith)
-          (higher p (first_rank s i (a + 1)) (first_rank s i ((a + 1) + n)) (first_rank s i (a + suc n))
+          (higher p (first_number s i (a + 1)) (first_number s i ((a + 1) + n)) (first_number s i (a + suc n))
           (with_plus s i (range_with_len (a + 1) n)) (omega arith) h))
 
   -- those with a plus among n places from a on
@@ -98,9 +98,9 @@ module _ (p : Program) (s : ℕ) (here : s < length p.symbols) (other : s ≢ p.
       joined p ((s * 9 + a) * 27) ((s * 9 + (a + 1)) * 27) ((s * 9 + (a + suc n)) * 27)
       (with_plus s a (range_with_len 0 (suc (last_place p s))))
       (with_symbol s (range_with_len (a + 1) n) (range_with_len 0 (suc (last_place p s))))
-      (lower p ((s * 9 + a) * 27) (first_rank s a 0) ((s * 9 + (a + 1)) * 27)
+      (lower p ((s * 9 + a) * 27) (first_number s a 0) ((s * 9 + (a + 1)) * 27)
       (with_plus s a (range_with_len 0 (suc (last_place p s)))) (omega arith)
-      (higher p (first_rank s a 0) (first_rank s a (0 + suc (last_place p s))) ((s * 9 + (a + 1)) * 27)
+      (higher p (first_number s a 0) (first_number s a (0 + suc (last_place p s))) ((s * 9 + (a + 1)) * 27)
       (with_plus s a (range_with_len 0 (suc (last_place p s)))) (omega (arith, few))
       (plus-between a (suc (last_place p s)) 0 (omega (arith, m)) (omega arith))))
       (higher p ((s * 9 + (a + 1)) * 27) ((s * 9 + ((a + 1) + n)) * 27) ((s * 9 + (a + suc n)) * 27)
@@ -141,20 +141,20 @@ among-between p (suc n) a m =
 
 -- such facts are tried, and in order
 each-tried : (p : Program) (k n : ℕ) (facts : List LocFact) (i : ℕ) (f : LocFact) → Between p k n facts
-    → slice_get facts i ≡ Some f → IsCandidate p f × (k ≤ rank f)
+    → slice_get facts i ≡ Some f → IsCandidate p f × (k ≤ order_number f)
 each-tried p k n [] i f h e = absurd (let no : ⊥ = cc in no)
 each-tried p k n (g ∷ facts) zero f (c, l, h) e =
-    subst (λ (x : LocFact). IsCandidate p x × (k ≤ rank x)) (some_same g f e) (c, l)
+    subst (λ (x : LocFact). IsCandidate p x × (k ≤ order_number x)) (some_same g f e) (c, l)
 each-tried p k n (g ∷ facts) (suc i) f (c, l, h) e =
-    let t = each-tried p (suc (rank g)) n facts i f h e in (t.0, omega (arith, l, t.1))
+    let t = each-tried p (suc (order_number g)) n facts i f h e in (t.0, omega (arith, l, t.1))
 
 in-order : (p : Program) (k n : ℕ) (facts : List LocFact) (i : ℕ) (f g : LocFact) → Between p k n facts
-    → slice_get facts i ≡ Some f → slice_get facts (suc i) ≡ Some g → rank f < rank g
+    → slice_get facts i ≡ Some f → slice_get facts (suc i) ≡ Some g → order_number f < order_number g
 in-order p k n [] i f g h e m = absurd (let no : ⊥ = cc in no)
 in-order p k n (x ∷ facts) zero f g (c, l, h) e m =
-    subst (λ (y : LocFact). rank y < rank g) (some_same x f e)
-    (omega (arith, (each-tried p (suc (rank x)) n facts 0 g h m).1))
-in-order p k n (x ∷ facts) (suc i) f g (c, l, h) e m = in-order p (suc (rank x)) n facts i f g h e m
+    subst (λ (y : LocFact). order_number y < order_number g) (some_same x f e)
+    (omega (arith, (each-tried p (suc (order_number x)) n facts 0 g h m).1))
+in-order p k n (x ∷ facts) (suc i) f g (c, l, h) e m = in-order p (suc (order_number x)) n facts i f g h e m
 
 -- a fact with two places is among the three
 in-places : (s i j : ℕ) (k : ℤ) → negsuc 0 ≤ℤ k → k ≤ℤ pos 1

@@ -4,7 +4,7 @@ use Rattle.std.proofs.Common.{map, take, length, get_or, Option, Some, option_ma
 use Rattle.std.specs.Prelude.{ℤ, slice_get, Vec, negsuc, pos, ◌≤ℤ◌, nat_abs, unsigned_abs}
 use Rattle.std.specs.declared.alloc.Global.{Global}
 use Rattle.std.specs.List.{All}
-use Rattle.std.proofs.lemmas.List.{take_more, length-map}
+use Rattle.std.proofs.lemmas.List.{take_more, length-map, map-append}
 use Rattle.std.proofs.lemmas.List.Elements.{All-weaker, All-from_recursion}
 use Rattle.std.proofs.lemmas.Option.{slice_get-map, slice_get_within, get_or_from_slice_get, slice_get-get_or}
 use Rattle.poly_terms.specs.linear_forms.Forms.{Form}
@@ -66,11 +66,6 @@ is-prepared p preps i m valid rows e =
 abbrev rows_by : List LocFact → plain.Rule → List Form
 rows_by kept q = combined (forms_in (Some q)) kept
 
--- what is made of two lists is made of each
-map-joined : {A B : Type 0} (f : A → B) (xs ys : List A) → map f (xs ++ ys) ≡ map f xs ++ map f ys
-map-joined f [] ys = refl
-map-joined {B = B} f (x ∷ xs) ys = ap (λ (zs : List B). f x ∷ zs) (map-joined f xs ys)
-
 -- the combined rows of one rule more
 pub combined-pushed : (p : Program) (preps : List RuleRows) (kept : List LocFact) (i : ℕ) (m : RuleRows) (r : Rule)
     (old new : List (Vec Row Global)) (v : Vec Row Global) → AreRowsOf preps (program_of p)
@@ -81,10 +76,10 @@ pub combined-pushed : (p : Program) (preps : List RuleRows) (kept : List LocFact
     → map forms_of_rows new ≡ map (λ q. combined (forms_in (Some q)) kept) (take (i + 1) (program_of p).rules)
 combined-pushed p preps kept i m r old new v rows e f g h made =
     ap (map forms_of_rows) h
-    ∙ (map-joined forms_of_rows old (v ∷ [])
+    ∙ (map-append forms_of_rows old (v ∷ [])
     ∙ (ap (λ (xs : List (List Form)). xs ++ forms_of_rows v ∷ []) g
     ∙ (ap (λ (x : List Form). map (rows_by kept) (take i (program_of p).rules) ++ x ∷ []) last
-    ∙ (sym (map-joined (rows_by kept) (take i (program_of p).rules) (rule_of r ∷ []))
+    ∙ (sym (map-append (rows_by kept) (take i (program_of p).rules) (rule_of r ∷ []))
     ∙ ap (map (rows_by kept)) (ap (λ (x : plain.Rule). take i (program_of p).rules ++ x ∷ []) (sym here)
     ∙ sym (take_more (program_of p).rules i (rule_of r) (slice_get_within (program_of p).rules i (rule_of r) there)))))))
   where

@@ -7,19 +7,19 @@ use Rattle.std.proofs.lemmas.Bool.{eqb-true}
 use Rattle.poly_terms.specs.model.Programs.{Program, arity_of}
 use Rattle.location_facts.specs.declared.fact.LocFact.{LocFact}
 use Rattle.location_facts.specs.declared.fact.FactProof.{FactProof}
-use Rattle.location_facts.specs.Candidates.{IsCandidate, rank}
-use Rattle.location_facts.specs.Faults.{rank_in, StandsAt, IsRight, AreRight}
+use Rattle.location_facts.specs.Candidates.{IsCandidate, order_number}
+use Rattle.location_facts.specs.Faults.{number_in, StandsAt, IsRight, AreRight}
 use Rattle.location_facts.specs.Rows.{facts_at}
 
 -- facts that are tried, each with a number over that of the one before, the first with at least k
 abbrev pub Ascend : Program → ℕ → List LocFact → Type 0
 Ascend p k [] = ⊤
-Ascend p k (f ∷ kept) = IsCandidate p f × (k ≤ rank f) × Ascend p (suc (rank f)) kept
+Ascend p k (f ∷ kept) = IsCandidate p f × (k ≤ order_number f) × Ascend p (suc (order_number f)) kept
 
 -- the least number at a position, where the first has at least k
 abbrev least_from : ℕ → List LocFact → ℕ → ℕ
 least_from k kept zero = k
-least_from k kept (suc i) = suc (rank_in (slice_get kept i))
+least_from k kept (suc i) = suc (number_in (slice_get kept i))
 
 ascends-from : (p : Program) (kept : List LocFact) (proofs : List (List FactProof)) (k : ℕ)
     → length proofs ≡ length kept
@@ -32,24 +32,24 @@ ascends-from p (f ∷ kept) (ps ∷ proofs) k e h =
     let first = h 0 f ps (omega arith) (record { fact = refl; listed = refl }) in (
       first.candidate,
       first.behind,
-      ascends-from p kept proofs (suc (rank f)) (omega (arith, e)) (λ i g qs l stands. rest i g qs l stands),
+      ascends-from p kept proofs (suc (order_number f)) (omega (arith, e)) (λ i g qs l stands. rest i g qs l stands),
     )
   where
     rest : (i : ℕ) (g : LocFact) (qs : List FactProof) → i < length kept → StandsAt kept proofs i g qs
-        → IsRight p (least_from (suc (rank f)) kept i) g qs
+        → IsRight p (least_from (suc (order_number f)) kept i) g qs
     rest zero g qs l stands = h 1 g qs (omega (arith, l)) (record { fact = stands.fact; listed = stands.listed })
     rest (suc i) g qs l stands =
         h (suc (suc i)) g qs (omega (arith, l)) (record { fact = stands.fact; listed = stands.listed })
 
 -- the numbers of facts of a symbol are 243 from one on
-rank-low : (f : LocFact) (s : ℕ) → f.symbol ≡ s → s * 243 ≤ rank f
-rank-low f s e = go f.symbol s f.plus f.minus (nat_abs (f.least +ℤ pos 1)) e
+number-low : (f : LocFact) (s : ℕ) → f.symbol ≡ s → s * 243 ≤ order_number f
+number-low f s e = go f.symbol s f.plus f.minus (nat_abs (f.least +ℤ pos 1)) e
   where
     go : (a s i j n : ℕ) → a ≡ s → s * 243 ≤ ((a * 9 + i) * 9 + j) * 3 + n
     go a s i j n e = omega (arith, e)
 
-rank-high : (p : Program) (f : LocFact) (s : ℕ) → IsCandidate p f → f.symbol ≡ s → rank f < s * 243 + 243
-rank-high p f s c e =
+number-high : (p : Program) (f : LocFact) (s : ℕ) → IsCandidate p f → f.symbol ≡ s → order_number f < s * 243 + 243
+number-high p f s c e =
     go f.symbol s f.plus f.minus (nat_abs (f.least +ℤ pos 1)) (arity_of p f.symbol) e c.plus c.minus
     (small f.least c.low c.high)
   where
@@ -69,19 +69,19 @@ few-from : (p : Program) (s k : ℕ) (kept : List LocFact) → Ascend p k kept
     → (length (facts_at s kept) ≤ 243) × (length (facts_at s kept) ≤ s * 243 + 243 - k)
 few-from p s k [] h = (omega arith, omega arith)
 few-from p s k (f ∷ kept) (c, l, rest) =
-    go (nat_eq f.symbol s) refl (length (facts_at s kept)) refl (few-from p s (suc (rank f)) kept rest)
+    go (nat_eq f.symbol s) refl (length (facts_at s kept)) refl (few-from p s (suc (order_number f)) kept rest)
   where
     go : (v : Bool) → nat_eq f.symbol s ≡ v → (n : ℕ) → length (facts_at s kept) ≡ n
-        → (length (facts_at s kept) ≤ 243) × (length (facts_at s kept) ≤ s * 243 + 243 - suc (rank f))
+        → (length (facts_at s kept) ≤ 243) × (length (facts_at s kept) ≤ s * 243 + 243 - suc (order_number f))
         → (length (if v then f ∷ facts_at s kept else facts_at s kept) ≤ 243)
         × (length (if v then f ∷ facts_at s kept else facts_at s kept) ≤ s * 243 + 243 - k)
-    go false test n e (a, b) = (a, later (length (facts_at s kept)) (rank f) (s * 243 + 243) k l b)
+    go false test n e (a, b) = (a, later (length (facts_at s kept)) (order_number f) (s * 243 + 243) k l b)
       where
         later : (n r m k : ℕ) → k ≤ r → n ≤ m - suc r → n ≤ m - k
         later n r m k l b = omega (arith, l, b)
     go true test n e (a, b) =
-        both (length (facts_at s kept)) (rank f) (s * 243) k (rank-low f s (eqb-true f.symbol s test))
-        (rank-high p f s c (eqb-true f.symbol s test)) l b
+        both (length (facts_at s kept)) (order_number f) (s * 243) k (number-low f s (eqb-true f.symbol s test))
+        (number-high p f s c (eqb-true f.symbol s test)) l b
       where
         both : (n r m k : ℕ) → m ≤ r → r < m + 243 → k ≤ r → n ≤ m + 243 - suc r
             → (suc n ≤ 243) × (suc n ≤ m + 243 - k)

@@ -5,17 +5,18 @@ use Rattle.std.specs.Prelude.{slice_get, Vec, MatchOption}
 use Rattle.std.specs.declared.alloc.Global.{Global}
 use Rattle.std.proofs.lemmas.Bool.{cases_lt}
 use Rattle.std.proofs.lemmas.List.{length-map}
-use Rattle.std.proofs.lemmas.Option.{slice_get-map, slice_get_read}
+use Rattle.std.proofs.lemmas.Option.{slice_get-map}
 use Rattle.poly_terms.specs.model.Programs.{Program}
 use Rattle.poly_terms.proofs.model.Cases.{some_same}
 use Rattle.location_facts.specs.declared.fact.LocFact.{LocFact}
 use Rattle.location_facts.specs.declared.fact.LocFacts.{LocFacts}
 use Rattle.location_facts.specs.declared.fact.FactProof.{FactProof}
 use Rattle.location_facts.specs.declared.fact.FactFault.{FactFault}
-use Rattle.location_facts.specs.Candidates.{rank}
-use Rattle.location_facts.specs.Faults.{rank_in, least_rank, StandsAt, IsRight, AreRight, IsProofFor}
+use Rattle.location_facts.specs.Candidates.{order_number}
+use Rattle.location_facts.specs.Faults.{number_in, least_number, StandsAt, IsRight, AreRight, IsProofFor}
 use Rattle.location_facts.specs.Faults.{ShowsFact, ProofsShow, AreShown, AreProved, IsFirstFault, proofs_of}
 use Rattle.location_facts.specs.CombinedRows.{TellsWrong, TellsFault, IsUnshownBy}
+use Rattle.location_facts.proofs.ShownRules.{read}
 
 -- the fact and the proofs at a position of the code's lists
 pub stands-at : (f : LocFacts) (i : ℕ) (fact : LocFact) (proofs : Vec FactProof Global)
@@ -29,7 +30,7 @@ stands-at f i fact proofs e g = record {
 }
 
 -- what stands at a position is one fact with its proofs
-fact-same : (kept : List LocFact) (proofs : List (List FactProof)) (i : ℕ) (f g : LocFact) (ps qs : List FactProof)
+pub fact-same : (kept : List LocFact) (proofs : List (List FactProof)) (i : ℕ) (f g : LocFact) (ps qs : List FactProof)
     → StandsAt kept proofs i f ps → StandsAt kept proofs i g qs → (f ≡ g) × (ps ≡ qs)
 fact-same kept proofs i f g ps qs h k =
     (some_same f g (sym h.fact ∙ k.fact), some_same ps qs (sym h.listed ∙ k.listed))
@@ -41,27 +42,20 @@ module _ (p : Program) (kept : List LocFact) (proofs : List (List FactProof)) wh
 
   -- one right fact more
   pub right-more : (n : ℕ) (f : LocFact) (ps : List FactProof) → AreRight p kept proofs n
-      → StandsAt kept proofs n f ps → IsRight p (least_rank kept n) f ps → AreRight p kept proofs (n + 1)
+      → StandsAt kept proofs n f ps → IsRight p (least_number kept n) f ps → AreRight p kept proofs (n + 1)
   right-more n f ps before stands right i g qs l at = go (cases_lt i n)
     where
-      same : i ≡ n → IsRight p (least_rank kept i) g qs
+      same : i ≡ n → IsRight p (least_number kept i) g qs
       same e =
           let at-n : StandsAt kept proofs n g qs = subst (λ (k : ℕ). StandsAt kept proofs k g qs) e at in
           let both = fact-same kept proofs n f g ps qs stands at-n in
-          subst (λ (k : ℕ). IsRight p (least_rank kept k) g qs) (sym e)
-          (subst (λ (x : LocFact). IsRight p (least_rank kept n) x qs) both.0
-          (subst (λ (x : List FactProof). IsRight p (least_rank kept n) f x) both.1 right))
+          subst (λ (k : ℕ). IsRight p (least_number kept k) g qs) (sym e)
+          (subst (λ (x : LocFact). IsRight p (least_number kept n) x qs) both.0
+          (subst (λ (x : List FactProof). IsRight p (least_number kept n) f x) both.1 right))
 
-      go : (i < n) ⊎ (n ≤ i) → IsRight p (least_rank kept i) g qs
+      go : (i < n) ⊎ (n ≤ i) → IsRight p (least_number kept i) g qs
       go (inl m) = before i g qs m at
       go (inr m) = same (omega (arith, l, m))
-
-  -- the least number for the next fact
-  pub rank-next : (n : ℕ) (f : LocFact) → slice_get kept n ≡ Some f → rank f + 1 ≡ least_rank kept (n + 1)
-  rank-next n f e =
-      (let z : rank f + 1 ≡ suc (rank f) = omega arith in z)
-      ∙ (ap (λ (o : Option LocFact). suc (rank_in o)) (sym e)
-      ∙ ap (least_rank kept) (let y : suc n ≡ n + 1 = omega arith in y))
 
   -- none of no facts is unshown
   pub shown-none : AreShown p kept proofs 0
@@ -130,7 +124,7 @@ wrong-fault p kept proofs n h = inr (inl h)
 pub wrong-told : (p : Program) (f : LocFacts) (i n : ℕ) (fact : LocFact) (proofs : Vec FactProof Global)
     → length f.proofs.items ≡ length f.kept.items → slice_get f.kept.items i ≡ Some fact
     → slice_get f.proofs.items i ≡ Some proofs → AreRight p f.kept.items (proofs_of f) i
-    → (IsRight p (least_rank f.kept.items i) fact proofs.items → ⊥) → n ≡ i + 1
+    → (IsRight p (least_number f.kept.items i) fact proofs.items → ⊥) → n ≡ i + 1
     → TellsWrong p f.kept.items (proofs_of f) (Some n)
 wrong-told p f i n fact proofs e g h before wrong k = record {
   one_each = proofs-many f ∙ e;
@@ -169,12 +163,8 @@ unshown-told p f i t x fact proofs e right g h before by k l = record {
 -- the shape of the proofs of a fact that is right
 pub right-at : (p : Program) (f : LocFacts) (i : ℕ) (fact : LocFact) (proofs : Vec FactProof Global) → i < length f.kept.items
     → AreRight p f.kept.items (proofs_of f) (length f.kept.items) → slice_get f.kept.items i ≡ Some fact
-    → slice_get f.proofs.items i ≡ Some proofs → IsRight p (least_rank f.kept.items i) fact proofs.items
+    → slice_get f.proofs.items i ≡ Some proofs → IsRight p (least_number f.kept.items i) fact proofs.items
 right-at p f i fact proofs l right g h = right i fact proofs.items l (stands-at f i fact proofs g h)
-
--- an element that is read is there
-read : {X : Type 0} (xs : List X) (i : ℕ) (x : X) → i < length xs → x ≡ get_or xs i x → slice_get xs i ≡ Some x
-read xs i x l e = slice_get_read xs (length xs) i x refl l e
 
 -- the fact and the proofs that are read at a position
 pub stands-read : (f : LocFacts) (i : ℕ) (fact : LocFact) (v : Vec FactProof Global) (ps : List FactProof)
@@ -188,30 +178,30 @@ stands-read f i fact v ps l one_each e g h =
 pub right-next : (p : Program) (f : LocFacts) (i least : ℕ) (fact : LocFact) (v : Vec FactProof Global)
     (ps : List FactProof) → i < length f.kept.items → length f.proofs.items ≡ length f.kept.items
     → fact ≡ get_or f.kept.items i fact → v ≡ get_or f.proofs.items i v → ps ≡ v.items
-    → AreRight p f.kept.items (proofs_of f) i → least ≡ least_rank f.kept.items i → IsRight p least fact ps
+    → AreRight p f.kept.items (proofs_of f) i → least ≡ least_number f.kept.items i → IsRight p least fact ps
     → AreRight p f.kept.items (proofs_of f) (i + 1)
 right-next p f i least fact v ps l one_each e g h before k right =
     right-more p f.kept.items (proofs_of f) i fact ps before (stands-read f i fact v ps l one_each e g h)
     (subst (λ (n : ℕ). IsRight p n fact ps) k right)
 
 -- the least number for the fact behind one that is read
-pub rank-after : (f : LocFacts) (i : ℕ) (fact : LocFact) (n : ℕ) → i < length f.kept.items
-    → fact ≡ get_or f.kept.items i fact → n ≡ rank fact → n + 1 ≡ least_rank f.kept.items (i + 1)
-rank-after f i fact n l e g =
+pub number-after : (f : LocFacts) (i : ℕ) (fact : LocFact) (n : ℕ) → i < length f.kept.items
+    → fact ≡ get_or f.kept.items i fact → n ≡ order_number fact → n + 1 ≡ least_number f.kept.items (i + 1)
+number-after f i fact n l e g =
     ap (λ (k : ℕ). k + 1) g ∙ next i fact (read f.kept.items i fact l e)
   where
     next : (i : ℕ) (fact : LocFact) → slice_get f.kept.items i ≡ Some fact
-        → rank fact + 1 ≡ least_rank f.kept.items (i + 1)
+        → order_number fact + 1 ≡ least_number f.kept.items (i + 1)
     next i fact e =
-        (let z : rank fact + 1 ≡ suc (rank fact) = omega arith in z)
-        ∙ (ap (λ (o : Option LocFact). suc (rank_in o)) (sym e)
-        ∙ ap (least_rank f.kept.items) (let y : suc i ≡ i + 1 = omega arith in y))
+        (let z : order_number fact + 1 ≡ suc (order_number fact) = omega arith in z)
+        ∙ (ap (λ (o : Option LocFact). suc (number_in o)) (sym e)
+        ∙ ap (least_number f.kept.items) (let y : suc i ≡ i + 1 = omega arith in y))
 
 -- the shape of the proofs of a fact that is read, where all are right
 pub shape-at : (p : Program) (f : LocFacts) (i : ℕ) (fact : LocFact) (v : Vec FactProof Global) (ps : List FactProof)
     → i < length f.kept.items → length f.proofs.items ≡ length f.kept.items → fact ≡ get_or f.kept.items i fact
     → v ≡ get_or f.proofs.items i v → ps ≡ v.items → AreRight p f.kept.items (proofs_of f) (length f.kept.items)
-    → IsRight p (least_rank f.kept.items i) fact ps
+    → IsRight p (least_number f.kept.items i) fact ps
 shape-at p f i fact v ps l one_each e g h right =
     right i fact ps l (stands-read f i fact v ps l one_each e g h)
 

@@ -25,10 +25,10 @@ use Rattle.rule_questions.specs.ProgramQuestions.{forms_in}
 use Rattle.location_facts.specs.declared.fact.LocFact.{LocFact}
 use Rattle.location_facts.specs.declared.fact.FactProof.{FactProof}
 use Rattle.location_facts.specs.declared.fact.FactProof.TheVariants.{Empty, Implied}
-use Rattle.location_facts.specs.Certificates.{IsWithinLimit, Shows, IsKeptBy, AreInductive}
+use Rattle.location_facts.specs.Certificates.{IsWithinLimit, Shows, IsShownBy, AreInductive}
 use Rattle.location_facts.specs.Facts.{IsMetAt, HoldsAlways}
 use Rattle.location_facts.specs.Rows.{value_before, value_after, row_before, row_after, facts_at, combined}
-use Rattle.location_facts.proofs.RowValues.{excess-value, before-value, after-value}
+use Rattle.location_facts.proofs.RowValues.{margin-value, before-value, after-value}
 
 -- what a fact says, as a number that is at least 0
 above : (x k v : ℤ) → v ≡ x -ℤ k *ℤ pos 1 → k ≤ℤ x → pos 0 ≤ℤ v
@@ -43,7 +43,7 @@ met-row : (f : LocFact) (c : Config) (z : ℕ → ℤ) → ((j : ℕ) → j < le
     → pos 0 ≤ℤ form_value (row_before f) z (pos 1)
 met-row f c z h l m same met =
     above (place_value c f.plus -ℤ place_value c f.minus) f.least (form_value (row_before f) z (pos 1))
-    (excess-value (value_before f.plus) (value_before f.minus) f.least z (pos 1)
+    (margin-value (value_before f.plus) (value_before f.minus) f.least z (pos 1)
     ∙ (ap (λ (x : ℤ). (x -ℤ form_value (value_before f.minus) z (pos 1)) -ℤ f.least *ℤ pos 1)
     (before-value c z (pos 1) f.plus h l)
     ∙ ap (λ (x : ℤ). (place_value c f.plus -ℤ x) -ℤ f.least *ℤ pos 1) (before-value c z (pos 1) f.minus h m)))
@@ -57,7 +57,7 @@ goal-met : (f : LocFact) (news : List Form) (c : Config) (z : ℕ → ℤ)
     → f.least ≤ℤ (place_value c f.plus -ℤ place_value c f.minus)
 goal-met f news c z e l m above =
     below (place_value c f.plus -ℤ place_value c f.minus) f.least (form_value (row_after news f) z (pos 1))
-    (excess-value (value_after news f.plus) (value_after news f.minus) f.least z (pos 1)
+    (margin-value (value_after news f.plus) (value_after news f.minus) f.least z (pos 1)
     ∙ (ap (λ (x : ℤ). (x -ℤ form_value (value_after news f.minus) z (pos 1)) -ℤ f.least *ℤ pos 1)
     (after-value news c z f.plus e l)
     ∙ ap (λ (x : ℤ). (place_value c f.plus -ℤ x) -ℤ f.least *ℤ pos 1) (after-value news c z f.minus e m)))
@@ -113,8 +113,8 @@ module _ (p : Program) (valid : IsValid p) (kept : List LocFact) (known : AreInd
       z : ℕ → ℤ
       z = at (point_of step.rule (b.values ++ s.free))
 
-      by : IsKeptBy p s.rule kept f
-      by = known.keeps f member s.rule step.rule step.numbered (sym step.leads.target ∙ here)
+      by : IsShownBy p s.rule kept f
+      by = known.shown f member s.rule step.rule step.numbered (sym step.leads.target ∙ here)
 
       reach : (i : ℕ) → i ≤ arity_of p f.symbol → i ≤ length c.values
       reach i l = let e = long-after ∙ ap (arity_of p) here in omega (arith, l, e)

@@ -10,7 +10,6 @@ pub mod Strengthened
 pub mod StrongValid
 pub mod StrongLaws
 pub mod AtomLists
-pub mod WorkedFacts
 -- the facts that are tried, and what answers tell of them
 pub mod CandidateList
 pub mod Answered
@@ -22,3 +21,8 @@ pub mod CombinedLists
 pub mod FaultLists
 pub mod FaultSteps
 pub mod ShownRules
+pub mod FirstFaults
+-- values that were worked out by hand
+pub mod WorkedFacts
+pub mod WorkedFaults
+pub mod WorkedKept

@@ -1,9 +1,9 @@
 -- Facts with proofs of which nothing is wrong hold by induction, and so on every run.
 use Rattle.std.proofs.Common.{◌≡◌, ℕ, zero, suc, ◌<◌, ◌≤◌, ap, arith, refl, sym, ◌∙◌, subst, List, length}
-use Rattle.std.proofs.Common.{Some, true, min}
-use Rattle.std.specs.List.{Contains, range_with_len}
+use Rattle.std.proofs.Common.{Some, true, min, get_or}
+use Rattle.std.specs.List.{All, Contains, range_with_len}
 use Rattle.std.proofs.lemmas.List.FromFn.{length-range_with_len, get_or-range_with_len}
-use Rattle.std.proofs.lemmas.Option.{slice_get_read, slice_get_within, get_or_from_slice_get}
+use Rattle.std.proofs.lemmas.Option.{slice_get_read, slice_get_within, get_or_from_slice_get, slice_get-get_or}
 use Rattle.poly_terms.specs.model.Entries.{is_in}
 use Rattle.poly_terms.specs.model.Paths.{target_of, same_symbol}
 use Rattle.poly_terms.specs.model.Programs.{Program, Rule, rule_at, arity_of}
@@ -12,8 +12,9 @@ use Rattle.poly_terms.proofs.model.Membership.{is_in-contained, is_in-filter, co
 use Rattle.poly_terms.proofs.model.StepLaws.{target_of-rule, same_symbol-same}
 use Rattle.location_facts.specs.declared.fact.LocFact.{LocFact}
 use Rattle.location_facts.specs.declared.fact.FactProof.{FactProof}
-use Rattle.location_facts.specs.Certificates.{IsWithinLimit, IsKeptBy, AreInductive}
-use Rattle.location_facts.specs.Faults.{rules_into, StandsAt, IsRight, least_rank, AreProved}
+use Rattle.location_facts.specs.Candidates.{IsCandidate}
+use Rattle.location_facts.specs.Certificates.{IsWithinLimit, IsShownBy, AreInductive}
+use Rattle.location_facts.specs.Faults.{rules_into, StandsAt, IsRight, least_number, AreProved}
 use Rattle.location_facts.specs.Laws.{ProvedFactsHold}
 use Rattle.location_facts.proofs.Inductive.{inductive-hold}
 
@@ -44,7 +45,7 @@ module _ (p : Program) (kept : List LocFact) (proofs : List (List FactProof)) (h
     low : position < length kept
     ps : List FactProof
     stands : StandsAt kept proofs position f ps
-    right : IsRight p (least_rank kept position) f ps
+    right : IsRight p (least_number kept position) f ps
 
   right-fact : (f : LocFact) → Contains kept f → Right f
   right-fact f (i, low, e) =
@@ -53,15 +54,15 @@ module _ (p : Program) (kept : List LocFact) (proofs : List (List FactProof)) (h
       record { fact = slice_get_read kept (length kept) i f refl low (sym e); listed = there } in
       record { position = i; low = low; ps = ps; stands = stands; right = h.right i f ps low stands }
 
-  -- each rule into the symbol of a fact keeps it
-  kept-by : (f : LocFact) → Contains kept f → (t : ℕ) (r : Rule) → rule_at p t ≡ Some r → r.target ≡ f.symbol
-      → IsKeptBy p t kept f
-  kept-by f member t r e same = go (into p t r f.symbol e same)
+  -- a fact is shown after each rule into its symbol
+  shown-by : (f : LocFact) → Contains kept f → (t : ℕ) (r : Rule) → rule_at p t ≡ Some r → r.target ≡ f.symbol
+      → IsShownBy p t kept f
+  shown-by f member t r e same = go (into p t r f.symbol e same)
     where
       w : Right f
       w = right-fact f member
 
-      go : Contains (rules_into p f.symbol) t → IsKeptBy p t kept f
+      go : Contains (rules_into p f.symbol) t → IsShownBy p t kept f
       go (k, low, is) =
           let l : k < length w.ps = (let n = w.right.one_each in omega (arith, low, n)) in
           let (proof, there) = slice_get-there w.ps k l in
@@ -81,11 +82,20 @@ module _ (p : Program) (kept : List LocFact) (proofs : List (List FactProof)) (h
     not_start = λ f member. (right-fact f member).right.candidate.not_start;
     plus = λ f member. in-arity f.plus (arity_of p f.symbol) (right-fact f member).right.candidate.plus;
     minus = λ f member. in-arity f.minus (arity_of p f.symbol) (right-fact f member).right.candidate.minus;
-    keeps = kept-by;
+    shown = shown-by;
   }
+
+  -- the facts are tried
+  pub proved-tried : All (IsCandidate p) kept
+  proved-tried k d l =
+      let (ps, there) = slice_get-there proofs k (let e = h.one_each in omega (arith, l, e)) in
+      (h.right k (get_or kept k d) ps l (record { fact = slice_get-get_or kept k d l; listed = there })).candidate
 
 pub facts-hold : ProvedFactsHold
 facts-hold = record {
   inductive = λ p kept valid h. inductive-hold p valid kept h;
-  proved = λ p kept proofs valid h. inductive-hold p valid kept (proved-inductive p kept proofs h);
+  proved = λ p kept proofs valid h. record {
+    candidates = proved-tried p kept proofs h;
+    hold = inductive-hold p valid kept (proved-inductive p kept proofs h);
+  };
 }

@@ -17,7 +17,7 @@ use Rattle.rule_questions.specs.SmallForms.{IsSmall, IsDifferenceSmall}
 use Rattle.location_facts.specs.CombinedRows.{IsGoalSmall}
 use Rattle.rule_questions.proofs.Sums.{constant-small, unknown-small}
 use Rattle.location_facts.specs.declared.fact.LocFact.{LocFact}
-use Rattle.location_facts.specs.Rows.{value_before, value_after, lowered, excess, row_before, row_after}
+use Rattle.location_facts.specs.Rows.{value_before, value_after, lowered, margin, row_before, row_after}
 
 -- the value at a place before a rule, by whether it is 0
 pub before_none : (f : Form) (i : ℕ) → i ≡ 0 → f ≡ constant_form (pos 0) → f ≡ value_before i
@@ -83,18 +83,18 @@ lowered_small f g k h l e = subst IsGoalSmall (sym e) (record {
     less a b m n e g h l = omega (arith, ints, e, g, h, l)
 
 -- a fact as a row, made step by step
-pub excess_made : (r s plus minus : Form) (k : ℤ) → r ≡ lowered s k → s ≡ form_sum plus (opposite minus)
-    → r ≡ excess plus minus k
-excess_made r s plus minus k h e = h ∙ ap (λ (f : Form). lowered f k) e
+pub margin_made : (r s plus minus : Form) (k : ℤ) → r ≡ lowered s k → s ≡ form_sum plus (opposite minus)
+    → r ≡ margin plus minus k
+margin_made r s plus minus k h e = h ∙ ap (λ (f : Form). lowered f k) e
 
-pub row_before_made : (f : LocFact) (r plus minus : Form) → r ≡ excess plus minus f.least
+pub row_before_made : (f : LocFact) (r plus minus : Form) → r ≡ margin plus minus f.least
     → plus ≡ value_before f.plus → minus ≡ value_before f.minus → r ≡ row_before f
 row_before_made f r plus minus h e g =
     h
-    ∙ (ap (λ (x : Form). excess x minus f.least) e ∙ ap (λ (x : Form). excess (value_before f.plus) x f.least) g)
+    ∙ (ap (λ (x : Form). margin x minus f.least) e ∙ ap (λ (x : Form). margin (value_before f.plus) x f.least) g)
 
-pub row_after_made : (news : List Form) (f : LocFact) (r plus minus : Form) → r ≡ excess plus minus f.least
+pub row_after_made : (news : List Form) (f : LocFact) (r plus minus : Form) → r ≡ margin plus minus f.least
     → plus ≡ value_after news f.plus → minus ≡ value_after news f.minus → r ≡ row_after news f
 row_after_made news f r plus minus h e g =
     h
-    ∙ (ap (λ (x : Form). excess x minus f.least) e ∙ ap (λ (x : Form). excess (value_after news f.plus) x f.least) g)
+    ∙ (ap (λ (x : Form). margin x minus f.least) e ∙ ap (λ (x : Form). margin (value_after news f.plus) x f.least) g)

@@ -12,7 +12,7 @@ use Rattle.poly_terms.proofs.linear_forms.CombinationLaws.{form_value-sum, form_
 use Rattle.poly_terms.proofs.linear_forms.SolutionLaws.{length-map}
 use Rattle.poly_terms.specs.model.Runs.{Config, place_value}
 use Rattle.proof_tree.proofs.rule_forms.Rays.{unknown_form-value}
-use Rattle.location_facts.specs.Rows.{value_before, value_after, lowered, excess}
+use Rattle.location_facts.specs.Rows.{value_before, value_after, lowered, margin}
 
 -- the value of a form less a number
 lowered-value : (f : Form) (k : ℤ) (z : ℕ → ℤ) (d : ℤ) → form_value (lowered f k) z d ≡ form_value f z d -ℤ k *ℤ d
@@ -23,10 +23,10 @@ lowered-value f k z d = regroup (list_dot f.coefs z) f.constant k d
         omega (arith, ints, mul_comm_ℤ (c -ℤ k) d, mul-sub_ℤ d c k, mul_comm_ℤ d c, mul_comm_ℤ d k)
 
 -- by how much a fact is met is the value of its plus less that of its minus, less its least
-pub excess-value : (a b : Form) (k : ℤ) (z : ℕ → ℤ) (d : ℤ)
-    → form_value (excess a b k) z d ≡ (form_value a z d -ℤ form_value b z d) -ℤ k *ℤ d
-excess-value a b k z d =
-    regroup (form_value (excess a b k) z d) (form_value (form_sum a (opposite b)) z d) (form_value a z d)
+pub margin-value : (a b : Form) (k : ℤ) (z : ℕ → ℤ) (d : ℤ)
+    → form_value (margin a b k) z d ≡ (form_value a z d -ℤ form_value b z d) -ℤ k *ℤ d
+margin-value a b k z d =
+    regroup (form_value (margin a b k) z d) (form_value (form_sum a (opposite b)) z d) (form_value a z d)
     (form_value (opposite b) z d) (form_value b z d) (k *ℤ d) (lowered-value (form_sum a (opposite b)) k z d)
     (form_value-sum a (opposite b) z d) (form_value-times (negsuc 0) b z d)
   where

@@ -4,6 +4,7 @@ use Rattle.std.proofs.Common.{◌++◌, length, map, take, min, Option, Some, No
 use Rattle.std.specs.Prelude.{ℤ, slice_get, option_map}
 use Rattle.std.specs.List.{Contains}
 use Rattle.std.proofs.lemmas.List.Elements.{All-append, All-take, All-contains}
+use Rattle.std.proofs.lemmas.Option.{slice_get-map}
 use Rattle.poly_terms.specs.model.Bounds.{Bound, val}
 use Rattle.poly_terms.specs.model.Costs.{cost_by, updated, values_after, step_cost, spent}
 use Rattle.poly_terms.specs.model.Facts.{Fact, Time, Size, Cost, Holds, HoldsTotal}
@@ -22,16 +23,10 @@ use Rattle.location_facts.specs.Strengthening.{fact_atom, room_for, strongest_at
 use Rattle.location_facts.proofs.Strongest.{HasFact, strongest-all, atom-holds, fact-of-symbol}
 
 -- the rule with a number, strengthened
-get-strong : (kept : List LocFact) (rules : List Rule) (i : ℕ)
-    → slice_get (map (strengthened_rule kept) rules) i ≡ option_map (strengthened_rule kept) (slice_get rules i)
-get-strong kept [] i = refl
-get-strong kept (r ∷ rules) zero = refl
-get-strong kept (r ∷ rules) (suc i) = get-strong kept rules i
-
 pub at-strong : (kept : List LocFact) (p : Program) (t : ℕ)
     → rule_at (strengthened kept p) t ≡ option_map (strengthened_rule kept) (rule_at p t)
 at-strong kept p zero = refl
-at-strong kept p (suc t) = get-strong kept p.rules t
+at-strong kept p (suc t) = slice_get-map (strengthened_rule kept) p.rules t
 
 -- what is there when it is strengthened comes from a rule
 from-strong : (kept : List LocFact) (o : Option Rule) (r : Rule) → option_map (strengthened_rule kept) o ≡ Some r

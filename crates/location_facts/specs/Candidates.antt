@@ -21,8 +21,8 @@ pub record IsCandidate (p : Program) (f : LocFact) : Type 0 where
   pub high : f.least ≤ℤ pos 1
 
 -- the number of a fact in the order by symbol, plus, minus and least: a place is one of 9, and a least one of 3
-abbrev pub rank : LocFact → ℕ
-rank f = ((f.symbol * 9 + f.plus) * 9 + f.minus) * 3 + nat_abs (f.least +ℤ pos 1)
+abbrev pub order_number : LocFact → ℕ
+order_number f = ((f.symbol * 9 + f.plus) * 9 + f.minus) * 3 + nat_abs (f.least +ℤ pos 1)
 
 -- the facts with a symbol and two places, by their leasts
 abbrev pub with_places : ℕ → ℕ → ℕ → List LocFact

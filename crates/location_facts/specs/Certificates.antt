@@ -1,4 +1,4 @@
--- What shows that the rules into the symbols of facts keep them.
+-- What shows facts after the rules into their symbols.
 use Rattle.std.specs.Prelude.{◌≡◌, ◌≢◌, ℕ, ◌≤◌, List, Some, pos}
 use Rattle.std.specs.List.{Contains}
 use Rattle.poly_terms.specs.linear_forms.Forms.{Form}
@@ -23,17 +23,17 @@ abbrev pub Shows : List Form → Form → FactProof → Type 0
 Shows rows goal (Empty multipliers) = Implies rows multipliers.items minus_one
 Shows rows goal (Implied multipliers den) = Implies rows multipliers.items (form_times (pos den) goal)
 
--- a proof within the limit shows that rule t, under a list of facts, keeps a fact
-pub record IsKeptBy (p : Program) (t : ℕ) (kept : List LocFact) (f : LocFact) : Type 0 where
+-- a proof within the limit shows a fact after rule t, under a list of facts
+pub record IsShownBy (p : Program) (t : ℕ) (facts : List LocFact) (f : LocFact) : Type 0 where
   pub proof : FactProof
   pub within : IsWithinLimit proof
-  pub shows : Shows (combined (forms_at p t) kept) (row_after (forms_at p t).news f) proof
+  pub shows : Shows (combined (forms_at p t) facts) (row_after (forms_at p t).news f) proof
 
 -- the facts hold by induction along runs: each is one of another symbol than the start symbol, about places of it, and
--- each rule into its symbol keeps it under the list
-pub record AreInductive (p : Program) (kept : List LocFact) : Type 0 where
-  pub not_start : (f : LocFact) → Contains kept f → f.symbol ≢ p.start
-  pub plus : (f : LocFact) → Contains kept f → f.plus ≤ arity_of p f.symbol
-  pub minus : (f : LocFact) → Contains kept f → f.minus ≤ arity_of p f.symbol
-  pub keeps : (f : LocFact) → Contains kept f → (t : ℕ) (r : Rule) → rule_at p t ≡ Some r → r.target ≡ f.symbol
-      → IsKeptBy p t kept f
+-- it is shown after each rule into its symbol, under the list
+pub record AreInductive (p : Program) (facts : List LocFact) : Type 0 where
+  pub not_start : (f : LocFact) → Contains facts f → f.symbol ≢ p.start
+  pub plus : (f : LocFact) → Contains facts f → f.plus ≤ arity_of p f.symbol
+  pub minus : (f : LocFact) → Contains facts f → f.minus ≤ arity_of p f.symbol
+  pub shown : (f : LocFact) → Contains facts f → (t : ℕ) (r : Rule) → rule_at p t ≡ Some r → r.target ≡ f.symbol
+      → IsShownBy p t facts f

@@ -9,7 +9,7 @@ use Rattle.location_facts.specs.declared.fact.LocFact.{LocFact}
 use Rattle.location_facts.specs.declared.fact.LocFacts.{LocFacts}
 use Rattle.location_facts.specs.declared.fact.FactProof.{FactProof}
 use Rattle.location_facts.specs.declared.fact.FactFault.{FactFault}
-use Rattle.location_facts.specs.Candidates.{IsCandidate, rank}
+use Rattle.location_facts.specs.Candidates.{IsCandidate, order_number}
 use Rattle.location_facts.specs.Certificates.{IsWithinLimit, Shows}
 use Rattle.location_facts.specs.Rows.{row_after, combined}
 
@@ -22,13 +22,13 @@ abbrev pub proofs_of : LocFacts → List (List FactProof)
 proofs_of f = map (λ proofs. proofs.items) f.proofs.items
 
 -- the least number in the order of facts that the fact at a position may have: one over that of the fact before it
-abbrev pub rank_in : Option LocFact → ℕ
-rank_in None = 0
-rank_in (Some f) = rank f
+abbrev pub number_in : Option LocFact → ℕ
+number_in None = 0
+number_in (Some f) = order_number f
 
-abbrev pub least_rank : List LocFact → ℕ → ℕ
-least_rank kept zero = 0
-least_rank kept (suc i) = suc (rank_in (slice_get kept i))
+abbrev pub least_number : List LocFact → ℕ → ℕ
+least_number kept zero = 0
+least_number kept (suc i) = suc (number_in (slice_get kept i))
 
 -- at a position of the lists stands the fact with these proofs
 pub record StandsAt (kept : List LocFact) (proofs : List (List FactProof)) (i : ℕ) (f : LocFact) (ps : List FactProof)
@@ -40,7 +40,7 @@ pub record StandsAt (kept : List LocFact) (proofs : List (List FactProof)) (i : 
 -- has a proof for each rule into its symbol, with numbers within the limit
 pub record IsRight (p : Program) (least : ℕ) (f : LocFact) (ps : List FactProof) : Type 0 where
   pub candidate : IsCandidate p f
-  pub behind : least ≤ rank f
+  pub behind : least ≤ order_number f
   pub one_each : length ps ≡ length (rules_into p f.symbol)
   pub numbers : All IsWithinLimit ps
 
@@ -48,14 +48,14 @@ pub record IsRight (p : Program) (least : ℕ) (f : LocFact) (ps : List FactProo
 abbrev pub AreRight : Program → List LocFact → List (List FactProof) → ℕ → Type 0
 AreRight p kept proofs n =
     (i : ℕ) (f : LocFact) (ps : List FactProof) → i < n → StandsAt kept proofs i f ps
-    → IsRight p (least_rank kept i) f ps
+    → IsRight p (least_number kept i) f ps
 
 -- among the proofs of a fact this one is for rule t, the one at position k of those into its symbol
 pub record IsProofFor (p : Program) (f : LocFact) (ps : List FactProof) (k t : ℕ) (proof : FactProof) : Type 0 where
   pub rule : slice_get (rules_into p f.symbol) k ≡ Some t
   pub listed : slice_get ps k ≡ Some proof
 
--- the proof shows that rule t keeps the fact
+-- the proof shows the fact after rule t
 abbrev pub ShowsFact : Program → List LocFact → LocFact → ℕ → FactProof → Type 0
 ShowsFact p kept f t proof = Shows (combined (forms_at p t) kept) (row_after (forms_at p t).news f) proof
 
@@ -92,7 +92,7 @@ pub record IsFirstWrong (p : Program) (kept : List LocFact) (proofs : List (List
     pub with_proofs : List FactProof
     pub stands : StandsAt kept proofs position wrong with_proofs
     pub before : AreRight p kept proofs position
-    pub is_wrong : ¬ (IsRight p (least_rank kept position) wrong with_proofs)
+    pub is_wrong : ¬ (IsRight p (least_number kept position) wrong with_proofs)
     pub fact : x.fact ≡ position + 1
     pub rule : x.rule ≡ 0
 

@@ -14,10 +14,11 @@ use Rattle.poly_terms.specs.model.Runs.{Config, Step, IsRun}
 use Rattle.its_model.specs.Valid.{IsValid}
 use Rattle.location_facts.specs.declared.fact.LocFact.{LocFact}
 use Rattle.location_facts.specs.declared.fact.FactProof.{FactProof}
-use Rattle.location_facts.specs.Candidates.{IsCandidate, rank, candidates}
+use Rattle.location_facts.specs.declared.fact.FactFault.{FactFault}
+use Rattle.location_facts.specs.Candidates.{IsCandidate, order_number, candidates}
 use Rattle.location_facts.specs.Certificates.{AreInductive}
 use Rattle.location_facts.specs.Facts.{HoldsAlways}
-use Rattle.location_facts.specs.Faults.{AreProved}
+use Rattle.location_facts.specs.Faults.{AreProved, IsFirstFault}
 use Rattle.location_facts.specs.Kept.{IsNext, AreKept, EndsWith, goal_program, IsSolvedWithin, IsImplied}
 use Rattle.location_facts.specs.Rows.{combined, row_after}
 use Rattle.location_facts.specs.Strengthening.{strengthened}
@@ -27,22 +28,29 @@ use Rattle.location_facts.specs.Strengthening.{strengthened}
 pub record CandidatesAreListed : Type 0 where
   pub listed : (p : Program) (f : LocFact) → Contains (candidates p) f ↔ IsCandidate p f
   pub ordered : (p : Program) (i : ℕ) (f g : LocFact) → slice_get (candidates p) i ≡ Some f
-      → slice_get (candidates p) (i + 1) ≡ Some g → rank f < rank g
+      → slice_get (candidates p) (i + 1) ≡ Some g → order_number f < order_number g
 
--- facts that hold by induction along runs hold on every run of a valid program; and facts with proofs of which nothing is
--- wrong hold by induction, whoever found them
-pub record ProvedFactsHold : Type 0 where
-  pub inductive : (p : Program) (kept : List LocFact) → IsValid p → AreInductive p kept → All (HoldsAlways p) kept
-  pub proved : (p : Program) (kept : List LocFact) (proofs : List (List FactProof)) → IsValid p
-      → AreProved p kept proofs → All (HoldsAlways p) kept
-
--- facts that are tried and hold on every run of a valid program
+-- facts that are tried and hold on every run of a program
 pub record AreHeld (p : Program) (kept : List LocFact) : Type 0 where
   pub candidates : All (IsCandidate p) kept
   pub hold : All (HoldsAlways p) kept
 
--- strengthened by such facts, a valid program is valid, it has the same runs, and each bound of it holds for the program
--- itself
+-- facts that hold by induction along runs hold on every run of a valid program; so do facts with proofs of which nothing
+-- is wrong, whoever found them, and they are tried
+pub record ProvedFactsHold : Type 0 where
+  pub inductive : (p : Program) (facts : List LocFact) → IsValid p → AreInductive p facts → All (HoldsAlways p) facts
+  pub proved : (p : Program) (kept : List LocFact) (proofs : List (List FactProof)) → IsValid p
+      → AreProved p kept proofs → AreHeld p kept
+
+-- one thing at most is wrong first with facts and their proofs, and where something is, it isn't so that nothing is
+pub record FaultsAreDecided : Type 0 where
+  pub excluded : (p : Program) (kept : List LocFact) (proofs : List (List FactProof)) (x : FactFault)
+      → IsFirstFault p kept proofs x → ¬ (AreProved p kept proofs)
+  pub one : (p : Program) (kept : List LocFact) (proofs : List (List FactProof)) (x y : FactFault)
+      → IsFirstFault p kept proofs x → IsFirstFault p kept proofs y → x ≡ y
+
+-- strengthened by facts that are tried a valid program is valid; by such as hold, too, it has the same runs, and each
+-- bound of it holds for the program itself
 pub record StrengtheningChangesNoRun : Type 0 where
   pub valid : (p : Program) (kept : List LocFact) → IsValid p → All (IsCandidate p) kept → IsValid (strengthened kept p)
   pub runs : (p : Program) (kept : List LocFact) → IsValid p → AreHeld p kept → (start : List ℤ) (steps : List Step)
@@ -52,7 +60,8 @@ pub record StrengtheningChangesNoRun : Type 0 where
   pub totals : (p : Program) (kept : List LocFact) → IsValid p → AreHeld p kept → (bound : Bound)
       → HoldsTotal (strengthened kept p) bound → HoldsTotal p bound
 
--- a list has one next list, and the sequence that goes on from a list has one end; so one list of facts is kept
+-- a list has one next list at most, and the sequence that goes on from a list one end; so at most one list of facts is
+-- kept
 pub record KeptFactsAreOne : Type 0 where
   pub next : (p : Program) (pivots : ℕ) (old new other : List LocFact) → IsNext p pivots old new
       → IsNext p pivots old other → new ≡ other

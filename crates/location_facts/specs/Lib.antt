@@ -9,5 +9,7 @@ pub mod Kept
 -- laws, and values that were worked out by hand
 pub mod Laws
 pub mod Worked
+pub mod WorkedFaults
+pub mod WorkedKept
 -- the machinery of the functions inside
 pub mod CombinedRows

@@ -3,7 +3,7 @@
 ghost use Rattle.std.specs.Prelude.{◌≡◌, ◌≤◌, ◌<◌, ◌↔◌, ◌-◌, ◌^◌, length, pos, negsuc, ◌≤ℤ◌, IsTrue, IfOk, Some};
 ghost use Rattle.std.specs.List.{All};
 ghost use Rattle.its_model.specs.Views.{program_of};
-ghost use Rattle.location_facts.specs.Candidates.{IsCandidate, last_place as place_limit, rank};
+ghost use Rattle.location_facts.specs.Candidates.{IsCandidate, last_place as place_limit, order_number};
 ghost use Rattle.location_facts.specs.Certificates.{IsWithinLimit};
 ghost use Rattle.location_facts.specs.Faults.{IsRight, rules_into as rules_to};
 ghost use Rattle.farkas_cert.specs.Sizes.{AreWithinLimit};
@@ -58,12 +58,12 @@ pub(crate) fn is_candidate(p: &Program, fact: LocFact) -> bool
 }
 
 /// The number of a fact in the order of facts.
-pub(crate) fn rank_of(fact: LocFact) -> u64
+pub(crate) fn number_of(fact: LocFact) -> u64
     requires plus { fact.plus ≤ 8 }
     requires minus { fact.minus ≤ 8 }
     requires low { negsuc 0 ≤ℤ fact.least }
     requires high { fact.least ≤ℤ pos 1 }
-    ensures same { result ≡ rank fact }
+    ensures same { result ≡ order_number fact }
     ensures small { result < 2 ^ 40 }
 {
     let places = (u64::from(fact.symbol) * 9 + u64::from(fact.plus)) * 9 + u64::from(fact.minus);
@@ -122,7 +122,7 @@ pub(crate) fn is_right(
     if !is_candidate(p, fact) {
         return false;
     }
-    least <= rank_of(fact) && proofs.len() == count && are_within_limit(proofs)
+    least <= number_of(fact) && proofs.len() == count && are_within_limit(proofs)
 }
 
 /// The rules that lead to a symbol, ascending.

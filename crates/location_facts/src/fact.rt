@@ -11,7 +11,7 @@ pub struct LocFact {
     pub least: i64,
 }
 
-/// What shows that a rule into a fact's symbol keeps the fact. The rows are those of the rule, and then those of the
+/// What shows a fact after a rule into its symbol. The rows are those of the rule, and then those of the
 /// facts at its source.
 #[derive(Debug, PartialEq, Eq, Drop)]
 pub enum FactProof {

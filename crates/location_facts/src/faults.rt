@@ -15,23 +15,23 @@ ghost use Rattle.location_facts.specs.Certificates.{IsWithinLimit, Shows};
 ghost use Rattle.location_facts.specs.CombinedRows.{AreCombined, IsGoalSmall, TellsUnshown, TellsWrong, TellsFault};
 ghost use Rattle.location_facts.specs.Faults.{rules_into as rules_to, proofs_of, AreProved, AreRight, IsFirstFault};
 
-use crate::checks::{is_right, rank_of, rules_into};
+use crate::checks::{is_right, number_of, rules_into};
 use crate::fact::{FactFault, FactProof, LocFact, LocFacts};
 use crate::rows::{combined_rows, row_after};
 use farkas_cert::{empty, implies};
 use guard_prep::RuleRows;
 use its_model::Program;
 use poly_terms::{Memory, Row};
-use std::alloc::Global;
+use std::alloc::{AllocError, Global};
 
 /// What is wrong first with facts and their proofs, or `None` exactly where nothing is: where the facts are facts that
 /// are tried, in their order, each once; each has a proof for each rule into its symbol, in order, with numbers of at
-/// most 2^55 and denominators of at least 1; and each proof shows that its rule keeps the fact. First every fact with
+/// most 2^55 and denominators of at least 1; and each proof shows its fact after its rule. First every fact with
 /// the shape of its proofs is looked at, in order, and then every proof, by fact and then by rule.
 ///
 /// # Errors
 ///
-/// `Memory` where an allocation fails.
+/// `Memory` where an allocation fails, and where the number of the fact that is told has more than 32 bits.
 pub fn facts_fault(
     alloc: Global,
     p: &Program,
@@ -40,7 +40,6 @@ pub fn facts_fault(
 ) -> Result<Option<FactFault>, Memory>
     requires valid { IsValid (program_of p.now) }
     requires rows { AreRowsOf preps.now (program_of p.now) }
-    requires few { length f.now.kept.items < 2 ^ 32 - 1 }
     ensures { IfOk result (λ fault. MatchOption fault
         (AreProved (program_of p.now) f.now.kept.items (proofs_of f.now))
         (IsFirstFault (program_of p.now) f.now.kept.items (proofs_of f.now))) }
@@ -60,7 +59,6 @@ pub fn facts_fault(
 // The number of the first fact that is wrong, itself or in the shape of its proofs.
 fn first_wrong(alloc: Global, p: &Program, f: &LocFacts) -> Result<Option<u32>, Memory>
     requires valid { IsValid (program_of p.now) }
-    requires few { length f.now.kept.items < 2 ^ 32 - 1 }
     requires one_each { length f.now.proofs.items ≡ length f.now.kept.items }
     ensures { IfOk result (TellsWrong (program_of p.now) f.now.kept.items (proofs_of f.now)) }
 {
@@ -70,11 +68,22 @@ fn first_wrong(alloc: Global, p: &Program, f: &LocFacts) -> Result<Option<u32>, 
         let into = rules_into(alloc, p, fact.symbol)?;
         let right = is_right(p, least, fact, &f.proofs[i], into.len());
         if !right {
-            return Ok(Some(i as u32 + 1));
+            return Ok(Some(number_at(i)?));
         }
-        least = rank_of(fact) + 1;
+        least = number_of(fact) + 1;
     }
     Ok(None)
+}
+
+// The number of the fact at a position, from 1; `Memory` where it has more than 32 bits.
+fn number_at(position: usize) -> Result<u32, Memory>
+    ensures { IfOk result (λ number. number ≡ position + 1) }
+{
+    if position < u32::MAX as usize {
+        Ok(position as u32 + 1)
+    } else {
+        Err(AllocError)
+    }
 }
 
 // The first fact with a proof that doesn't show it, and the rule of that proof.
@@ -88,7 +97,6 @@ fn first_unshown(
     requires valid { IsValid (program_of p.now) }
     requires preps { AreRowsOf preps.now (program_of p.now) }
     requires rows { AreCombined (program_of p.now) f.now.kept.items rows.now }
-    requires few { length f.now.kept.items < 2 ^ 32 - 1 }
     requires one_each { length f.now.proofs.items ≡ length f.now.kept.items }
     requires right { AreRight (program_of p.now) f.now.kept.items (proofs_of f.now) (length f.now.kept.items) }
     requires small { All (λ v. AreSmall (map form_of v.items)) rows.now }
@@ -96,7 +104,7 @@ fn first_unshown(
 {
     for i in 0..f.kept.len() {
         if let Some(rule) = unshown_rule(alloc, p, preps, f.kept[i], &f.proofs[i], rows)? {
-            let fact = i as u32 + 1;
+            let fact = number_at(i)?;
             return Ok(Some(FactFault { fact, rule }));
         }
     }

@@ -5,7 +5,7 @@ ghost use Rattle.std.specs.List.{All};
 ghost use Rattle.poly_terms.specs.Views.{form_of};
 ghost use Rattle.rule_questions.specs.SmallForms.{IsSmall, IsDifferenceSmall};
 ghost use Rattle.location_facts.specs.CombinedRows.{IsGoalSmall};
-ghost use Rattle.location_facts.specs.Rows.{value_before as before, value_after as after, lowered, excess};
+ghost use Rattle.location_facts.specs.Rows.{value_before as before, value_after as after, lowered, margin};
 ghost use Rattle.location_facts.specs.Rows.{row_before as row_of, row_after as goal_of, facts_at as facts_of_symbol};
 
 use crate::copies::{copied_row, copied_rows};
@@ -61,11 +61,11 @@ fn lowered_row(row: Row, least: i64) -> Row
 }
 
 // By how much a fact is met where the values at its places are these.
-#[tactic(auto, using(crate::proofs::RowForms::excess_made))]
-fn excess_row(alloc: Global, plus: &Row, minus: &Row, least: i64) -> Result<Row, Memory>
+#[tactic(auto, using(crate::proofs::RowForms::margin_made))]
+fn margin_row(alloc: Global, plus: &Row, minus: &Row, least: i64) -> Result<Row, Memory>
     requires plus { IsSmall (form_of plus.now) }
     requires minus { IsSmall (form_of minus.now) }
-    ensures same { IfOk result (λ row. form_of row ≡ excess (form_of plus.now) (form_of minus.now) least) }
+    ensures same { IfOk result (λ row. form_of row ≡ margin (form_of plus.now) (form_of minus.now) least) }
     ensures small { IfOk result (λ row. IsGoalSmall (form_of row)) }
 {
     let row = difference(alloc, plus, minus)?;
@@ -79,7 +79,7 @@ pub(crate) fn row_before(alloc: Global, fact: LocFact) -> Result<Row, Memory>
 {
     let plus = value_before(alloc, fact.plus)?;
     let minus = value_before(alloc, fact.minus)?;
-    excess_row(alloc, &plus, &minus, fact.least)
+    margin_row(alloc, &plus, &minus, fact.least)
 }
 
 /// A fact at the target of a rule with these new values, as a goal.
@@ -91,7 +91,7 @@ pub(crate) fn row_after(alloc: Global, news: &[Row], fact: LocFact) -> Result<Ro
 {
     let plus = value_after(alloc, news, fact.plus)?;
     let minus = value_after(alloc, news, fact.minus)?;
-    excess_row(alloc, &plus, &minus, fact.least)
+    margin_row(alloc, &plus, &minus, fact.least)
 }
 
 /// The combined rows of a rule: its own rows, and then the facts at its source, in order.

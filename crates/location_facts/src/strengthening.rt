@@ -16,6 +16,7 @@ ghost use Rattle.location_facts.specs.Strengthening.{strengthened_rule as rule_w
 use crate::copies::{copied_atoms, copied_cost, copied_exprs, copied_names, copied_symbols};
 use crate::fact::{LocFact, LocFacts};
 use its_model::{Atom, Program, Rel, Rule};
+use model::ATOM_LIMIT;
 use poly_terms::{Expr, Memory};
 use std::alloc::Global;
 
@@ -94,9 +95,9 @@ fn strengthened_guard(alloc: Global, rule: &Rule, kept: &[LocFact]) -> Result<Ve
 fn room_for(rule: &Rule) -> usize
     ensures { result ≡ room_of (rule_of rule.now) }
 {
-    let limit: usize = match rule.cost {
-        None => 64,
-        Some(_) => 63,
+    let limit = match rule.cost {
+        None => ATOM_LIMIT,
+        Some(_) => ATOM_LIMIT - 1,
     };
     limit.saturating_sub(rule.guard.len())
 }

@@ -1,6 +1,6 @@
 use Rattle.std.proofs.Common.{arith}
 use Rattle.its_model.specs.Views.{program_of}
-use Rattle.location_facts.proofs.FaultSteps.{right-next, rank-after}
+use Rattle.location_facts.proofs.FaultSteps.{right-next, number-after}
 use Rattle.location_facts.proofs.faults.first_wrong.Goals as goal
 
 pub loop-i-preserved : goal.loop-i-preserved
@@ -9,8 +9,8 @@ loop-i-preserved c = record {
       c.index.result.now c.deref.result.now (omega arith) c.requires.one_each c.index-fact.ensures c.index.ensures
       c.deref.ensures.value c.loop-i.invariant.right c.loop-i.invariant.next
       (c.is_right-right.ensures.0 c.if-not-right.false);
-  next = rank-after c.args.f.now c.loop-i.i c.index-fact.result.now c.rank_of-least.result (omega arith)
-      c.index-fact.ensures c.rank_of-least.ensures.same;
+  next = number-after c.args.f.now c.loop-i.i c.index-fact.result.now c.number_of-least.result (omega arith)
+      c.index-fact.ensures c.number_of-least.ensures.same;
 }
 
 pub returns : goal.returns
