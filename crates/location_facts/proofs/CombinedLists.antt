@@ -1,5 +1,5 @@
 -- The combined rows of all rules, one after the other, and that they are small.
-use Rattle.std.proofs.Common.{◌≡◌, ℕ, suc, ◌+◌, ◌<◌, ◌≤◌, ap, arith, refl, sym, ◌∙◌, subst, List, [], ◌∷◌, ◌++◌}
+use Rattle.std.proofs.Common.{◌≡◌, ℕ, suc, ◌+◌, ◌<◌, ◌≤◌, ap, arith, sym, ◌∙◌, subst, List, [], ◌∷◌, ◌++◌}
 use Rattle.std.proofs.Common.{map, take, length, get_or, Option, Some, option_map}
 use Rattle.std.specs.Prelude.{ℤ, slice_get, Vec, negsuc, pos, ◌≤ℤ◌, nat_abs, unsigned_abs}
 use Rattle.std.specs.declared.alloc.Global.{Global}

@@ -1,7 +1,7 @@
 -- A program that is strengthened by facts that hold has the same runs.
 use Rattle.std.proofs.Common.{◌≡◌, ℕ, zero, suc, ◌+◌, ◌≤◌, ◌==◌, ap, arith, refl, sym, ◌∙◌, subst, List, [], ◌∷◌}
-use Rattle.std.proofs.Common.{◌++◌, length, map, take, min, Option, Some, None, if◌then◌else◌}
-use Rattle.std.specs.Prelude.{ℤ, slice_get, option_map}
+use Rattle.std.proofs.Common.{◌++◌, length, take, min, Option, Some, None, if◌then◌else◌}
+use Rattle.std.specs.Prelude.{ℤ, option_map}
 use Rattle.std.specs.List.{Contains}
 use Rattle.std.proofs.lemmas.List.Elements.{All-append, All-take, All-contains}
 use Rattle.std.proofs.lemmas.Option.{slice_get-map}

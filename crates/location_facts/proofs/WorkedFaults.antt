@@ -14,7 +14,7 @@ use Rattle.location_facts.specs.declared.fact.LocFact.{LocFact}
 use Rattle.location_facts.specs.declared.fact.FactProof.{FactProof}
 use Rattle.location_facts.specs.declared.fact.FactProof.TheVariants.{Implied}
 use Rattle.location_facts.specs.Certificates.{IsWithinLimit}
-use Rattle.location_facts.specs.Faults.{StandsAt, IsRight, AreRight, IsProofFor, ShowsFact, ProofsShow, AreShown}
+use Rattle.location_facts.specs.Faults.{IsRight, AreRight, ShowsFact, ProofsShow}
 use Rattle.location_facts.specs.Faults.{IsFirstFault, least_number}
 use Rattle.location_facts.specs.Worked.{counting, natural, positive, fact, line}
 use Rattle.location_facts.specs.WorkedFaults.{two_proofs, fault, ProvedIsTold, ShapesAreTold, UnshownIsTold}

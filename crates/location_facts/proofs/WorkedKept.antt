@@ -1,24 +1,23 @@
 -- Which facts of small programs are kept is what was worked out by hand.
-use Rattle.std.proofs.Common.{◌≡◌, ◌⊎◌, inl, inr, ℕ, zero, suc, ◌<◌, ap, arith, refl, sym, ◌∙◌, List, [], ◌∷◌, Some}
-use Rattle.std.specs.Prelude.{ℤ, pos, negsuc, ◌≤ℤ◌}
+use Rattle.std.proofs.Common.{◌≡◌, inl, inr, ℕ, zero, suc, ◌<◌, ap, arith, refl, ◌∙◌, List, [], ◌∷◌, Some}
+use Rattle.std.specs.Prelude.{ℤ, pos, negsuc}
 use Rattle.std.specs.List.{AllByRecursion}
 use Rattle.std.proofs.lemmas.Int.{ints}
 use Rattle.poly_terms.specs.linear_forms.Certificates.{minus_one}
 use Rattle.poly_terms.specs.linear_forms.Forms.{at}
-use Rattle.poly_terms.specs.linear_forms.LinearProgram.{LinearProgram, IsSolution, IsDual}
+use Rattle.poly_terms.specs.linear_forms.LinearProgram.{LinearProgram, IsDual}
 use Rattle.poly_terms.specs.linear_forms.Questions.{program_of_question}
-use Rattle.poly_terms.specs.linear_forms.RuleQuestions.{RuleForms}
-use Rattle.poly_terms.specs.model.Programs.{Program, Rule, rule_at}
+use Rattle.poly_terms.specs.model.Programs.{Rule, rule_at}
 use Rattle.poly_terms.proofs.model.Cases.{none_some, some_same}
 use Rattle.lp_builder.proofs.simplex_core.Certificates.{dual-excludes}
 use Rattle.proof_tree.specs.guard_prep.Tightening.{divisor_of}
 use Rattle.rule_questions.specs.ProgramQuestions.{forms_at}
 use Rattle.location_facts.specs.declared.fact.LocFact.{LocFact}
 use Rattle.location_facts.specs.Candidates.{candidates}
-use Rattle.location_facts.specs.Kept.{goal_program, IsSolvedWithin, IsImplied, IsImpliedByAll, HasThose, IsNext, EndsWith}
+use Rattle.location_facts.specs.Kept.{goal_program, IsImplied, IsImpliedByAll, HasThose, IsNext}
 use Rattle.location_facts.specs.Kept.{AreKept, Stays, GoesOn}
 use Rattle.location_facts.specs.Rows.{row_after, combined}
-use Rattle.location_facts.specs.Worked.{fact, natural, positive}
+use Rattle.location_facts.specs.Worked.{fact, positive}
 use Rattle.location_facts.specs.WorkedKept.{handing, passing, staying, falling_forms, empty_program, fact_program}
 use Rattle.location_facts.specs.WorkedKept.{KeptAreTold, FollowingIsTold, NotFollowingIsTold, EmptyIsTold}
 use Rattle.location_facts.specs.WorkedKept.{KeptFactsAreWorkedOut}
@@ -91,9 +90,16 @@ none-kept pivots = GoesOn next (Stays refl refl)
   where
     next : IsNext passing pivots (candidates passing) []
     next =
-        those-none (IsImpliedByAll passing pivots (candidates passing)) (candidates passing)
-        (not-above pivots (negsuc 0), (not-above pivots (pos 0), (not-above pivots (pos 1),
-        (not-below pivots (negsuc 0), (not-below pivots (pos 0), (not-below pivots (pos 1), tt))))))
+        those-none (IsImpliedByAll passing pivots (candidates passing)) (candidates passing) (
+          not-above pivots (negsuc 0),
+          (
+            not-above pivots (pos 0),
+            (
+              not-above pivots (pos 1),
+              (not-below pivots (negsuc 0), (not-below pivots (pos 0), (not-below pivots (pos 1), tt))),
+            ),
+          ),
+        )
 
 -- no rule leads to l1 where each leads to l0
 none-leads : (t : ℕ) (r : Rule) → rule_at staying t ≡ Some r → r.target ≡ 1 → ⊥
@@ -110,10 +116,25 @@ all-kept pivots = Stays refl next
 
     next : IsNext staying pivots (candidates staying) (candidates staying)
     next =
-        those-all (IsImpliedByAll staying pivots (candidates staying)) (candidates staying)
-        (implied (fact 1 0 1 (negsuc 0)) refl, (implied (fact 1 0 1 (pos 0)) refl, (implied (fact 1 0 1 (pos 1)) refl,
-        (implied (fact 1 1 0 (negsuc 0)) refl, (implied (fact 1 1 0 (pos 0)) refl, (implied (fact 1 1 0 (pos 1)) refl,
-        tt))))))
+        those-all (IsImpliedByAll staying pivots (candidates staying)) (candidates staying) (
+          implied (fact 1 0 1 (negsuc 0)) refl,
+          (
+            implied (fact 1 0 1 (pos 0)) refl,
+            (
+              implied (fact 1 0 1 (pos 1)) refl,
+              (
+                implied (fact 1 1 0 (negsuc 0)) refl,
+                (
+                  implied (fact 1 1 0 (pos 0)) refl,
+                  (
+                    implied (fact 1 1 0 (pos 1)) refl,
+                    tt,
+                  ),
+                ),
+              ),
+            ),
+          ),
+        )
 
 kept-told : KeptAreTold
 kept-told = record { none = none-kept; all = all-kept }

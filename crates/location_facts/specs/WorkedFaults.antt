@@ -1,7 +1,6 @@
 -- Whether something is wrong with facts of a small program and their proofs, and what first, worked out by hand.
 use Rattle.std.specs.Prelude.{◌≡◌, ℕ, List, [], ◌∷◌, Vec}
 use Rattle.std.specs.declared.alloc.Global.{Global}
-use Rattle.location_facts.specs.declared.fact.LocFact.{LocFact}
 use Rattle.location_facts.specs.declared.fact.FactProof.{FactProof}
 use Rattle.location_facts.specs.declared.fact.FactProof.TheVariants.{Implied}
 use Rattle.location_facts.specs.declared.fact.FactFault.{FactFault}
