@@ -1,0 +1,10 @@
+use Rattle.its_model.specs.Views.{program_of}
+use Rattle.location_facts.specs.Faults.{proofs_of}
+use Rattle.location_facts.proofs.Proved.{facts-hold}
+use Rattle.facts_tests.proofs.answers.strengthened_text.Goals as goal
+
+-- facts with which nothing is wrong are tried and hold
+pub strengthen-requires-clause-held : goal.strengthen-requires-clause-held
+strengthen-requires-clause-held c =
+    facts-hold.proved (program_of c.args.p.now) c.args.facts.now.kept.items (proofs_of c.args.facts.now) c.requires
+    c.in_ok-facts_fault.ensures

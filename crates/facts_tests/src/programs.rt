@@ -1,0 +1,49 @@
+//! Programs of some rules, their rows, and their canonical texts.
+
+ghost use Rattle.std.specs.Prelude.{IfOk, IfSome};
+ghost use Rattle.its_model.specs.Valid.{IsValid};
+ghost use Rattle.its_model.specs.Views.{program_of};
+ghost use Rattle.proof_tree.specs.Composing.{AreRowsOf};
+
+use guard_prep::{RuleRows, rows};
+use its_model::Program;
+use its_reader::{ReadError, read};
+use its_writer::print;
+use model::Memory;
+use std::alloc::{AllocError, Global};
+
+/// The program with these rules, from l0, where they are read.
+pub(crate) fn program(alloc: Global, rules: &str) -> Result<Option<Program>, Memory>
+    ensures { IfOk result (λ read. IfSome read (λ p. IsValid (program_of p))) }
+{
+    let mut text = b"(STARTTERM (FUNCTIONSYMBOLS l0))(RULES ".to_vec(alloc)?;
+    text.extend_from_slice(rules.as_bytes())?;
+    text.push(b')')?;
+    match read(alloc, &text) {
+        Ok(p) => Ok(Some(p)),
+        Err(ReadError::Memory) => Err(AllocError),
+        Err(_) => Ok(None),
+    }
+}
+
+/// The rows of each rule, in order.
+pub(crate) fn all_rows(alloc: Global, p: &Program) -> Result<Vec<RuleRows>, Memory>
+    requires { IsValid (program_of p.now) }
+    ensures { IfOk result (λ preps. AreRowsOf preps.items (program_of p.now)) }
+{
+    let mut preps = Vec::new(alloc);
+    for rule in &p.rules {
+        preps.push(rows(alloc, rule)?)?;
+    }
+    Ok(preps)
+}
+
+/// The canonical text of a program in one line, in which `/` stands for a line feed.
+pub(crate) fn text_of(alloc: Global, p: &Program) -> Result<String, Memory> {
+    let text = print(alloc, p)?;
+    let mut line = Vec::new(alloc);
+    for byte in &text {
+        line.push(if *byte == b'\n' { b'/' } else { *byte })?;
+    }
+    String::from_str(alloc, str::from_utf8(&line).unwrap_or("no text"))
+}

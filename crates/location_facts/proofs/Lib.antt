@@ -1,0 +1,28 @@
+-- facts as rows, and what proofs of them are worth
+pub mod RowValues
+pub mod Inductive
+pub mod Proved
+-- the sequence of lists of facts
+pub mod Next
+-- programs that are strengthened by facts
+pub mod Strongest
+pub mod Strengthened
+pub mod StrongValid
+pub mod StrongLaws
+pub mod AtomLists
+-- the facts that are tried, and what answers tell of them
+pub mod CandidateList
+pub mod Answered
+-- the first fault of facts and their proofs
+pub mod Counting
+pub mod FactSizes
+pub mod RowForms
+pub mod CombinedLists
+pub mod FaultLists
+pub mod FaultSteps
+pub mod ShownRules
+pub mod FirstFaults
+-- values that were worked out by hand
+pub mod WorkedFacts
+pub mod WorkedFaults
+pub mod WorkedKept

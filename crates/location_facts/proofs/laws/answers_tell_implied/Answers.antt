@@ -1,0 +1,5 @@
+use Rattle.location_facts.proofs.Answered.{answers-tell-implied}
+use Rattle.location_facts.proofs.laws.answers_tell_implied.Goals as goal
+
+pub returns : goal.returns
+returns c = answers-tell-implied

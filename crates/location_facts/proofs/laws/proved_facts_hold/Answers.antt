@@ -1,0 +1,5 @@
+use Rattle.location_facts.proofs.Proved.{facts-hold}
+use Rattle.location_facts.proofs.laws.proved_facts_hold.Goals as goal
+
+pub returns : goal.returns
+returns c = facts-hold

@@ -1,0 +1,95 @@
+-- Which facts of small programs are kept, and the linear programs that ask whether a rule implies a fact, worked out by
+-- hand.
+use Rattle.std.specs.Prelude.{◌≡◌, ℕ, List, [], ◌∷◌, ℤ, pos, negsuc, None}
+use Rattle.poly_terms.specs.linear_forms.Certificates.{minus_one}
+use Rattle.poly_terms.specs.linear_forms.Forms.{at}
+use Rattle.poly_terms.specs.linear_forms.LinearProgram.{LinearProgram, IsSolution, IsDual}
+use Rattle.poly_terms.specs.linear_forms.Questions.{Equation, equations}
+use Rattle.poly_terms.specs.linear_forms.RuleQuestions.{RuleForms}
+use Rattle.poly_terms.specs.model.Programs.{Rule, Program}
+use Rattle.poly_terms.specs.model.Terms.{Variable}
+use Rattle.rule_questions.specs.ProgramQuestions.{forms_at}
+use Rattle.location_facts.specs.declared.fact.LocFact.{LocFact}
+use Rattle.location_facts.specs.Candidates.{candidates}
+use Rattle.location_facts.specs.Kept.{goal_question, goal_program, IsImplied, AreKept}
+use Rattle.location_facts.specs.Rows.{row_after, combined}
+use Rattle.location_facts.specs.Worked.{fact, counting, natural, positive}
+
+-- the rule from l0(A) to a symbol with the argument A
+abbrev pub handing : ℕ → Rule
+handing target = record {
+  source = 0;
+  target = target;
+  left = 1;
+  free = 0;
+  names = (65 ∷ []) ∷ [];
+  updates = Variable 0 ∷ [];
+  guard = [];
+  cost = None;
+}
+
+-- the program l0(A) -> l1(A), and the program l0(A) -> l0(A), of which no rule leads to l1
+abbrev pub passing : Program
+passing = record counting { rules = handing 1 ∷ [] }
+
+abbrev pub staying : Program
+staying = record counting { rules = handing 0 ∷ [] }
+
+-- whatever the pivots, no fact of l1 is kept where a rule hands on any value: its rows are none, and a point refutes each
+-- goal. Where no rule leads to l1 all its facts are kept, contradictory ones too
+pub record KeptAreTold : Type 0 where
+  pub none : (pivots : ℕ) → AreKept passing pivots []
+  pub all : (pivots : ℕ) → AreKept staying pivots (candidates staying)
+
+-- an equation
+abbrev pub equation : List ℤ → ℤ → Equation
+equation numbers right = record { numbers = numbers; right = right }
+
+-- the second rule, which goes from l1(A) to l1(A - 1) where A >= 1
+abbrev pub falling_forms : RuleForms
+falling_forms = forms_at counting 2
+
+-- the linear programs that ask, under a list of facts, whether the second rule has no point, and whether it implies one
+abbrev pub empty_program : List LocFact → LinearProgram
+empty_program facts = goal_program falling_forms.unknowns (combined falling_forms facts) minus_one
+
+abbrev pub fact_program : List LocFact → LocFact → LinearProgram
+fact_program facts f =
+    goal_program falling_forms.unknowns (combined falling_forms facts) (row_after falling_forms.news f)
+
+-- under A >= 0 the rows are A - 1 and A, and the goal of A >= 0 is A - 1: -m - n = -1 and m - s = 1, in the columns m, n
+-- and s. m = 1 and n = s = 0 solve it, and n = 1 and m = s = 0 don't
+pub record FollowingIsTold : Type 0 where
+  pub equations_are : equations 0 (goal_question falling_forms.unknowns (combined falling_forms (natural ∷ []))
+      (row_after falling_forms.news natural)).groups
+      ≡ equation (negsuc 0 ∷ negsuc 0 ∷ pos 0 ∷ []) (negsuc 0) ∷ equation (pos 1 ∷ pos 0 ∷ negsuc 0 ∷ []) (pos 1) ∷ []
+  pub columns : (fact_program (natural ∷ []) natural).columns ≡ 3
+  pub solved : IsSolution (fact_program (natural ∷ []) natural) (at (pos 1 ∷ pos 0 ∷ pos 0 ∷ [])) (pos 1)
+  pub unsolved : ¬ (IsSolution (fact_program (natural ∷ []) natural) (at (pos 0 ∷ pos 1 ∷ pos 0 ∷ [])) (pos 1))
+
+-- under A >= 1 the rows are A - 1 twice, and the goal of A >= 1 is A - 2: -m - n = -1 and m + n - s = 2. The dual 1, 1
+-- refutes it, with the point A = 1. That the rule has no point is refuted by it, too: -m - n = 0 and m + n - s = 1. So the
+-- rule doesn't imply A >= 1 under itself, whatever the pivots
+pub record NotFollowingIsTold : Type 0 where
+  pub equations_are : equations 0 (goal_question falling_forms.unknowns (combined falling_forms (positive ∷ []))
+      (row_after falling_forms.news positive)).groups
+      ≡ equation (negsuc 0 ∷ negsuc 0 ∷ pos 0 ∷ []) (negsuc 0) ∷ equation (pos 1 ∷ pos 1 ∷ negsuc 0 ∷ []) (pos 2) ∷ []
+  pub refuted : IsDual (fact_program (positive ∷ []) positive) (at (pos 1 ∷ pos 1 ∷ []))
+  pub pointed : IsDual (empty_program (positive ∷ [])) (at (pos 1 ∷ pos 1 ∷ []))
+  pub not_implied : (pivots : ℕ) → ¬ (IsImplied pivots falling_forms (positive ∷ []) positive)
+
+-- under -A >= 0 the rows are A - 1 and -A, of which the sum is -1: -m + n = 0 and m - s = 1. So m = n = 1 solve the
+-- program of -1; under no fact the dual 1, 1 refutes it, with the point A = 1
+pub record EmptyIsTold : Type 0 where
+  pub equations_are : equations 0 (goal_question falling_forms.unknowns
+      (combined falling_forms (fact 1 0 1 (pos 0) ∷ [])) minus_one).groups
+      ≡ equation (negsuc 0 ∷ pos 1 ∷ pos 0 ∷ []) (pos 0) ∷ equation (pos 1 ∷ pos 0 ∷ negsuc 0 ∷ []) (pos 1) ∷ []
+  pub solved : IsSolution (empty_program (fact 1 0 1 (pos 0) ∷ [])) (at (pos 1 ∷ pos 1 ∷ pos 0 ∷ [])) (pos 1)
+  pub refuted : IsDual (empty_program []) (at (pos 1 ∷ pos 1 ∷ []))
+
+-- all of it
+pub record KeptFactsAreWorkedOut : Type 0 where
+  pub kept : KeptAreTold
+  pub following : FollowingIsTold
+  pub not_following : NotFollowingIsTold
+  pub empty : EmptyIsTold

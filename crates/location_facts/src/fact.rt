@@ -1,0 +1,37 @@
+//! Facts that hold at a symbol, and what shows them.
+
+/// A fact of a symbol: the value at place `plus`, less the value at place `minus`, is at least `least`. Places count
+/// from 1, and place 0 stands for the number 0.
+#[derive(Clone, Copy, Debug, PartialEq, Eq)]
+pub struct LocFact {
+    /// The symbol, by its number.
+    pub symbol: u32,
+    pub plus: u32,
+    pub minus: u32,
+    pub least: i64,
+}
+
+/// What shows a fact after a rule into its symbol. The rows are those of the rule, and then those of the
+/// facts at its source.
+#[derive(Debug, PartialEq, Eq, Drop)]
+pub enum FactProof {
+    /// Multipliers of the rows by which -1 follows: the rule can't be used.
+    Empty(Vec<u64>),
+    /// Multipliers of the rows by which the fact follows for the new values, times the number, which is at least 1.
+    Implied(Vec<u64>, u64),
+}
+
+/// Facts, and for each one a proof for each rule into its symbol, in the order of rules.
+#[derive(Debug, PartialEq, Eq, Drop)]
+pub struct LocFacts {
+    pub kept: Vec<LocFact>,
+    pub proofs: Vec<Vec<FactProof>>,
+}
+
+/// The first thing wrong with facts and their proofs: the number of a fact, from 1, and of a rule. The rule is 0 where
+/// the fact itself or the shape of its proofs is wrong; both are 0 where there isn't one list of proofs for each fact.
+#[derive(Clone, Copy, Debug, PartialEq, Eq)]
+pub struct FactFault {
+    pub fact: u32,
+    pub rule: u32,
+}
