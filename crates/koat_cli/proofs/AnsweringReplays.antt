@@ -1,7 +1,5 @@
 -- How calls end that ask for the replay of a run, both files being held: each with what its status says of the bytes.
-use Rattle.std.proofs.Common.{◌≡◌, ◌≢◌, ◌↔◌, ℕ, ◌<◌, ◌≤◌, List, length, refl, sym, subst, inl, inr, arith}
-use Rattle.std.specs.Prelude.{IsSomeAnd, Some}
-use Rattle.std.specs.FinMap.{get}
+use Rattle.std.proofs.Common.{◌≡◌, ◌≢◌, ◌↔◌, ℕ, ◌≤◌, List, length, refl, sym, subst, inl, inr, arith}
 use Rattle.outside_io.specs.Fetching.{MayFail}
 use Rattle.outside_io.specs.Files.{IsHeld}
 use Rattle.asks.specs.Requests.{Replay}
@@ -20,7 +18,6 @@ use Rattle.koat_cli.specs.OnTexts.{Unread, OverLimit, RefusedText, OnText, NoTex
 use Rattle.koat_cli.specs.OnTexts.{NoProgram, Behind}
 use Rattle.koat_cli.specs.Outputs.{IsReplayOf, Tallied, NoRun}
 use Rattle.koat_cli.specs.RunTexts.{run_limit, runs, IsRunRefusedAs}
-use Rattle.koat_cli.specs.Answers.{Says}
 use Rattle.koat_cli.specs.Ends.{Ends}
 use Rattle.koat_cli.specs.Answering.{SpellsOne, SpellsNone}
 use Rattle.koat_cli.specs.AnsweringReplays.{AsksOfTwo, HasRun, HasNoRun, IsInRange, HasBadStep, IsStatusOfReplay}

@@ -1,13 +1,13 @@
 -- One answer fits a call, where the shelf tells what it holds.
-use Rattle.std.proofs.Common.{◌≡◌, ◌≢◌, ℕ, ◌≤◌, ◌<◌, List, length, Option, Some, None, IsSome, IfSome, refl, sym, ◌∙◌}
+use Rattle.std.proofs.Common.{◌≡◌, ◌≢◌, ℕ, ◌≤◌, ◌<◌, List, length, Option, Some, None, IsSome, refl, sym, ◌∙◌}
 use Rattle.std.proofs.Common.{ap, subst, inl, inr, arith, true, false, Bool, cond, nat_lt}
 use Rattle.std.proofs.lemmas.Bool.Decides.{nat_tests}
 use Rattle.std.proofs.lemmas.List.{length-map}
 use Rattle.std.specs.Prelude.{IsSomeAnd}
 use Rattle.std.specs.FinMap.{get}
 use Rattle.outside_io.specs.Counts.{Rose}
-use Rattle.outside_io.specs.Files.{Files, IsHeld, HoldsMore, Lacks}
-use Rattle.outside_io.specs.Fetching.{IsTooLong, MayFail}
+use Rattle.outside_io.specs.Files.{Files, Lacks}
+use Rattle.outside_io.specs.Fetching.{MayFail}
 use Rattle.model.specs.Programs.{Program}
 use Rattle.its_model.specs.text_core.Readers.{Fault}
 use Rattle.its_model.specs.text_core.Reading as reading

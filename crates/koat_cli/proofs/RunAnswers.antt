@@ -4,7 +4,7 @@ use Rattle.std.proofs.Common.{◌≡◌, ℕ, List, length, subst, sym, ◌∙�
 use Rattle.model.specs.Programs.{Program}
 use Rattle.text_grammar.specs.text_core.Readers.{Fault}
 use Rattle.text_grammar.specs.text_core.Faults.{IsFirst}
-use Rattle.text_grammar.specs.text_core.Reading.{Answer, Stands, Answers, answer}
+use Rattle.text_grammar.specs.text_core.Reading.{Answer, Stands, Answers}
 use Rattle.text_grammar.specs.Texts.{reader}
 use Rattle.text_grammar.specs.ByteTexts.{tokens}
 use Rattle.text_grammar.proofs.text_core.FirstFaults.{answer_is, one_first_each}

@@ -1,6 +1,6 @@
 -- Texts of replays, and which tallies are within bounds, as they were worked out by hand.
-use Rattle.std.specs.Prelude.{◌≡◌, ℕ, ◌+◌, ◌-◌, ◌^◌, List, [], ◌∷◌, ◌++◌, None, Some, codes}
-use Rattle.model.specs.Bounds.{Bound, Constant, Input, SumOf, PowerOf, Part, NoParts}
+use Rattle.std.specs.Prelude.{◌≡◌, ℕ, ◌-◌, ◌^◌, [], ◌∷◌, ◌++◌, None, Some, codes}
+use Rattle.model.specs.Bounds.{Constant, Input, SumOf, PowerOf, Part, NoParts}
 use Rattle.its_model.specs.Steps.{OtherRule, AtomFails, PastRange}
 use Rattle.outcome.specs.Reports.{Timed, Untimed, TimeLarge, Sized, Unsized, SizeLarge, Report}
 use Rattle.run_replay.specs.Replays.{Sums}

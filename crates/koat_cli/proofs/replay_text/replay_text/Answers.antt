@@ -1,5 +1,4 @@
-use Rattle.std.proofs.Common.{List, ℕ, ◌++◌, ◌∙◌, ap, refl, Vec, Global}
-use Rattle.outcome.specs.declared.entry.TimeEntry.{TimeEntry}
+use Rattle.std.proofs.Common.{List, ℕ, ◌++◌, ◌∙◌, ap, refl}
 use Rattle.outcome.specs.Views.{report_of}
 use Rattle.report_text.proofs.Lists.{four_pushed}
 use Rattle.run_replay.specs.ReplayAnswers.{sums_of}
