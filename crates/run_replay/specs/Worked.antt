@@ -110,7 +110,8 @@ pub record RunsAreTold : Type 0 where
   pub empty : answer_to [] ≡ refused Syntax 0
   pub start_too_few : answer_to (codes "koat-run 1\nstart 1\n") ≡ refused ArityDiffers 18
   -- kinds are numbered in this order
-  pub kinds : map number_of (Syntax ∷ NumberTooLarge ∷ BadReference ∷ ArityDiffers ∷ Limit ∷ []) ≡ 1 ∷ 2 ∷ 3 ∷ 4 ∷ 5 ∷ []
+  pub kinds : map number_of (Syntax ∷ NumberTooLarge ∷ BadReference ∷ ArityDiffers ∷ Limit ∷ [])
+      ≡ 1 ∷ 2 ∷ 3 ∷ 4 ∷ 5 ∷ []
   -- of 2^32 rules a step can name that numbered 2^32-1, and not the last one
   pub held : (p : Program) → length p.rules ≡ 2 ^ 32 → is_no_rule p (2 ^ 32 - 1) ≡ false
   pub not_held : (p : Program) → length p.rules ≡ 2 ^ 32 → is_no_rule p (2 ^ 32) ≡ true

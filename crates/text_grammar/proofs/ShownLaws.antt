@@ -157,4 +157,5 @@ module _ {P T K : Type 0} (x : Text P T K) (lawful : IsLawful x) where
   shown_where_derived = record {
     shown = λ n done rest f t y e a. shown_stands done f t y e a;
     stands = λ n done rest t y s. stands_shown done t y s;
+    at_end = λ n done f. refl;
   }

@@ -31,7 +31,8 @@ pub record StandsAgainst {P T K : Type 0} (x : Text P T K) (before : List P) (t 
   pub derives : Derives x.grammar (Made 0 ∷ []) (events ++ Read t.piece ∷ later) (before ++ t.piece ∷ more)
   pub stands : Among y (x.faults (onto events []) t)
 
--- a refusal is shown at a token exactly where it stands against it behind the pieces that are done
+-- a refusal is shown at a token exactly where it stands against it behind the pieces that are done, and none is at the
+-- end of a text
 pub record ShownWhereDerived {P T K : Type 0} (x : Text P T K) : Type 0 where
   pub shown : (n : ℕ) (done rest : List (Token P)) (f : Front P) (t : Token P) (y : Fault K)
       → reached (reader x) (pieces done) ≡ Some f → Among y ((reader x).shown n done f (t ∷ rest))
@@ -39,3 +40,4 @@ pub record ShownWhereDerived {P T K : Type 0} (x : Text P T K) : Type 0 where
   pub stands : (n : ℕ) (done rest : List (Token P)) (t : Token P) (y : Fault K)
       → StandsAgainst x (onto (pieces done) []) t y
       → (f : Front P) × (reached (reader x) (pieces done) ≡ Some f) × Among y ((reader x).shown n done f (t ∷ rest))
+  pub at_end : (n : ℕ) (done : List (Token P)) (f : Front P) → (reader x).shown n done f [] ≡ []

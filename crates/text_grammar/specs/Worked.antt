@@ -1,4 +1,4 @@
--- Which small grammars can be read, worked out by hand on both sides, and what one of them derives.
+-- Which small grammars can be read, worked out by hand on both sides, and what texts of one of them come to.
 use Rattle.std.specs.Prelude.{◌≡◌, ℕ, ◌+◌, ◌==◌, ◌&&◌, if◌then◌else◌, true, false, List, [], ◌∷◌, length, Option}
 use Rattle.std.specs.Prelude.{Some, None}
 use Rattle.text_core.specs.Laws.{Laws, AnswersAll, OneTree, OneFirst}
@@ -119,7 +119,7 @@ bracket_text = record {
   off = off;
 }
 
--- what pieces of one byte each are answered with, and the refusal of a kind at a position
+-- what pieces of one byte each are answered with, and when that is a refusal of a kind at a position
 abbrev pub bracket_answer : List ℕ → Answer (List (Event ℕ)) ℕ
 bracket_answer ps = answer (reader bracket_text) (length ps) (tokens ps)
 
