@@ -1,11 +1,12 @@
 -- What was worked out by hand of run texts.
-use Rattle.std.proofs.Common.{◌≡◌, ◌≢◌, ◌≤◌, ℕ, Bool, length, Some, None, refl, ap, arith}
+use Rattle.std.proofs.Common.{◌≡◌, ◌≢◌, ◌≤◌, ℕ, ◌-◌, ◌^◌, Bool, true, false, ◌||◌, length, Some, None, refl, ap, arith}
 use Rattle.std.proofs.lemmas.Bool.{le-leb, lt-leb, ne_eqb}
-use Rattle.std.specs.Prelude.{if◌then◌else◌}
+use Rattle.std.specs.Prelude.{if◌then◌else◌, ◌==◌, nat_lt, min}
 use Rattle.std.specs.Fmt.{digits}
+use Rattle.its_model.specs.model.Programs.{Program}
 use Rattle.text_grammar.specs.text_core.Choices.{when}
 use Rattle.run_replay.specs.declared.kind.RunKind.TheVariants.{Limit}
-use Rattle.run_replay.specs.Texts.{State, run_bytes, is_full}
+use Rattle.run_replay.specs.Texts.{State, is_no_rule, run_bytes, is_full}
 use Rattle.run_replay.specs.Worked.{RunsAreTold, small_program}
 
 -- behind 1,000,000 steps there is no room for one more
@@ -20,12 +21,22 @@ within_told s l = ap (λ (b : Bool). when b Limit) (lt-leb 1000000 (length s.run
 other_told : (s : State) (b : ℕ) → b ≢ 115 → (run_bytes small_program).against_byte s b ≡ None
 other_told s b d = ap (λ (c : Bool). if c then when (is_full (length s.run.steps)) Limit else None) (ne_eqb b 115 d)
 
+-- rule 2^32-1 can be named, and rule 2^32 can't
+held_told : (p : Program) → length p.rules ≡ 2 ^ 32 → is_no_rule p (2 ^ 32 - 1) ≡ false
+held_told p e = ap (λ (n : ℕ). (2 ^ 32 - 1 == 0) || nat_lt (min n (2 ^ 32 - 1)) (2 ^ 32 - 1)) e
+
+not_held_told : (p : Program) → length p.rules ≡ 2 ^ 32 → is_no_rule p (2 ^ 32) ≡ true
+not_held_told p e = ap (λ (n : ℕ). (2 ^ 32 == 0) || nat_lt (min n (2 ^ 32 - 1)) (2 ^ 32)) e
+
 pub runs_told : RunsAreTold
 unfolding digits
 runs_told = record {
   told = refl;
   empty = refl;
   start_too_few = refl;
+  kinds = refl;
+  held = held_told;
+  not_held = not_held_told;
   full = refl;
   room = refl;
   limit = limit_told;

@@ -38,7 +38,8 @@ abbrev pub free_or : ℕ → Option Rule → ℕ
 free_or n None = n
 free_or n (Some r) = r.free
 
--- how many values a line has to have: one for each free variable of its rule, or for each start place where it has none
+-- how many values a line has to have: one for each free variable of its rule, or for each start place where the line
+-- names no rule
 abbrev pub wanted : Program → ℕ → ℕ
 wanted p rule = free_or (arity_of p p.start) (rule_at p rule)
 

@@ -10,7 +10,7 @@ use Rattle.run_replay.specs.declared.kind.RunKind.{RunKind}
 use Rattle.run_replay.specs.declared.kind.RunKind.TheVariants.{Syntax, NumberTooLarge, BadReference, ArityDiffers}
 use Rattle.run_replay.specs.declared.kind.RunKind.TheVariants.{Limit}
 use Rattle.run_replay.specs.Runs.{Run}
-use Rattle.run_replay.specs.Texts.{State, run_bytes, runs_of, is_full}
+use Rattle.run_replay.specs.Texts.{State, number_of, is_no_rule, run_bytes, runs_of, is_full}
 use Rattle.run_replay.specs.Spelled.{text_of, IsShort}
 
 -- a rule with so many free variables
@@ -109,6 +109,12 @@ pub record RunsAreTold : Type 0 where
   -- nothing at all ends too early at 0, and a start value is lacking at byte 18
   pub empty : answer_to [] ≡ refused Syntax 0
   pub start_too_few : answer_to (codes "koat-run 1\nstart 1\n") ≡ refused ArityDiffers 18
+  -- kinds are numbered in this order
+  pub kinds : map number_of (Syntax ∷ NumberTooLarge ∷ BadReference ∷ ArityDiffers ∷ Limit ∷ [])
+      ≡ 1 ∷ 2 ∷ 3 ∷ 4 ∷ 5 ∷ []
+  -- of 2^32 rules a step can name that numbered 2^32-1, and not the last one
+  pub held : (p : Program) → length p.rules ≡ 2 ^ 32 → is_no_rule p (2 ^ 32 - 1) ≡ false
+  pub not_held : (p : Program) → length p.rules ≡ 2 ^ 32 → is_no_rule p (2 ^ 32) ≡ true
   -- a step behind 1,000,000 is too many, and one behind 999,999 isn't
   pub full : is_full 1000000 ≡ true
   pub room : is_full 999999 ≡ false

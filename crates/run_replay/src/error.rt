@@ -23,7 +23,7 @@ pub enum RunTextError {
     /// The line that ends at this position has another number of values than it has to have.
     #[error("arity differs at {at}")]
     ArityDiffers { at: u64 },
-    /// The line that begins at this position is step line 1,000,001.
+    /// At this position, behind 1,000,000 steps, a line begins with `s`, as that of a step does.
     #[error("limit at {at}")]
     Limit { at: u64 },
     /// Memory ran out.

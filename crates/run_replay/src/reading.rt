@@ -31,7 +31,8 @@ use text_grammar::read_bytes;
 /// The refusal at the least position is the answer. `Syntax` stands at the first byte that can't follow, or at the
 /// text's length where it ends too early; `NumberTooLarge` at the first byte of a value over 2^63-1 in absolute value;
 /// `BadReference` at the first byte of a number that no rule has; `ArityDiffers` at the line feed of a line with
-/// another number of values; `Limit` at the first byte of step line 1,000,001. `Memory` comes where memory ran out.
+/// another number of values; `Limit` at the `s` with which a line begins behind 1,000,000 steps. `Memory` comes where
+/// memory ran out.
 pub fn read_run(alloc: Global, p: &Program, bytes: &[u8]) -> Result<RunFile, RunTextError>
     ensures answer { Answers (program_of p.now) bytes.now result }
     ensures complete { (r : Run) → IsTextWithin (program_of p.now) bytes.now r → GivesBack r result }

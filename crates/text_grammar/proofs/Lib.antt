@@ -11,6 +11,7 @@ pub mod FirstLaws
 pub mod ReadingLaws
 pub mod CutLaws
 pub mod SilenceLaws
+pub mod ShownLaws
 pub mod Induction
 pub mod FoldLaws
 pub mod PartLaws

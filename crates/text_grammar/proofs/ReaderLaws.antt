@@ -28,7 +28,7 @@ module _ {P T K : Type 0} (x : Text P T K) (lawful : IsLawful x) where
     pub completed : is_completed x.grammar.classes (completed x.grammar) f.expected ≡ true
 
   -- one piece more
-  at_next : (done : List P) (f g : Front P) (p : P) → IsAt done f → stepped f.events p (lead_at x f p) ≡ Some g → IsAt (p ∷ done) g
+  pub at_next : (done : List P) (f g : Front P) (p : P) → IsAt done f → stepped f.events p (lead_at x f p) ≡ Some g → IsAt (p ∷ done) g
   at_next done f g p h e = go (lead_at x f p) refl e
     where
       go : (l : Lead) → lead_at x f p ≡ l → stepped f.events p l ≡ Some g → IsAt (p ∷ done) g
@@ -46,7 +46,7 @@ module _ {P T K : Type 0} (x : Text P T K) (lawful : IsLawful x) where
       go Stuck k s = cc
 
   -- what pieces lead to is so
-  reached_at : (done : List P) (f : Front P) → reached (reader x) done ≡ Some f → IsAt done f
+  pub reached_at : (done : List P) (f : Front P) → reached (reader x) done ≡ Some f → IsAt done f
   reached_at [] f e = subst (IsAt []) (let same : record { events = []; expected = Made 0 ∷ [] } ≡ f = cc in same) record {
     derives = λ es ps d. d;
     completed = ap (λ (b : Bool). b && true) readable.completes;

@@ -2,15 +2,19 @@
 use Rattle.text_grammar.proofs.SmallRowLaws.{rows_read}
 use Rattle.text_grammar.proofs.WorkedRowLaws.{numerals_told, parts_told, byte_texts_told}
 use Rattle.text_grammar.proofs.WorkedValueLaws.{values_told}
-use Rattle.std.proofs.Common.{ℕ, ◌<◌, Bool, true, false, cond, [], ◌∷◌, refl, arith, lit<, inl, inr}
-use Rattle.std.specs.Prelude.{◌==◌}
+use Rattle.std.proofs.Common.{ℕ, ◌≡◌, ◌<◌, Bool, true, false, cond, [], ◌∷◌, refl, ap, arith, lit<, inl, inr}
+use Rattle.std.specs.Prelude.{◌==◌, ◌+◌, ◌≤◌, ◌&&◌, List, length}
+use Rattle.text_core.specs.Tokens.{Token}
+use Rattle.text_core.specs.Readers.{Fault}
+use Rattle.text_core.specs.Faults.{Among}
 use Rattle.text_core.proofs.FirstFaults.{nowhere_begins, whole_ends, answers_all, one_tree_each, one_first_each}
-use Rattle.text_grammar.specs.Grammars.{Read, nothing, piece, made}
+use Rattle.text_grammar.specs.Grammars.{Event, Read, nothing, piece, made}
 use Rattle.text_grammar.specs.Texts.{Text, reader, IsLawful}
-use Rattle.text_grammar.specs.Worked.{class_of, bracket_text, GrammarsAreTold, RulesAreSpelled, BracketsAreTold}
-use Rattle.text_grammar.specs.Worked.{TextsAreRead, WorkedGrammars}
+use Rattle.text_grammar.specs.Worked.{class_of, fault, against, bracket_text, GrammarsAreTold, RulesAreSpelled}
+use Rattle.text_grammar.specs.Worked.{BracketsAreTold, BracketsAreAnswered, TextsAreRead, WorkedGrammars}
 use Rattle.text_grammar.proofs.ReaderLaws.{reader_laws}
 use Rattle.text_grammar.proofs.SilenceLaws.{stands_where_silent}
+use Rattle.text_grammar.proofs.ShownLaws.{shown_where_derived}
 
 grammars : GrammarsAreTold
 grammars = record {
@@ -47,6 +51,22 @@ classed p = go (p == 0) (p == 1)
     go false true = lit< tt
     go false false = lit< tt
 
+-- what stands against a piece stands at it or behind it
+behind_it : (es : List (Event ℕ)) (t : Token ℕ) (y : Fault ℕ) → Among y (against es t) → t.at ≤ y.at
+behind_it es t y a = go ((length es == 2) && (t.piece == 0)) ((length es == 3) && (t.piece == 1)) a
+  where
+    at_one : (kind at : ℕ) → t.at ≤ at → y ≡ fault kind at → t.at ≤ y.at
+    at_one kind at l e = let k : y.at ≡ at = ap (λ (z : Fault ℕ). z.at) e in omega (arith, k, l)
+
+    go : (a b : Bool) → Among y (cond a (fault 2 t.at ∷ fault 1 t.at ∷ []) (cond b (fault 1 (t.at + 1) ∷ fault 2 t.at ∷ []) [])) → t.at ≤ y.at
+    go true b (inl e) = at_one 2 t.at (omega arith) e
+    go true b (inr (inl e)) = at_one 1 t.at (omega arith) e
+    go true b (inr (inr n)) = absurd n
+    go false true (inl e) = at_one 1 (t.at + 1) (omega arith) e
+    go false true (inr (inl e)) = at_one 2 t.at (omega arith) e
+    go false true (inr (inr n)) = absurd n
+    go false false n = absurd n
+
 -- texts of brackets are lawful
 lawful : IsLawful bracket_text
 lawful = record {
@@ -54,7 +74,7 @@ lawful = record {
   classed = classed;
   differ = λ a b e. e;
   floor_next = λ es at. omega arith;
-  floor_shown = λ es t y a. absurd a;
+  floor_shown = behind_it;
   floor_did = λ es m at. omega arith;
   floor_read = λ es t at some behind. omega (arith, some, behind);
 }
@@ -69,6 +89,19 @@ brackets = record {
   other = nowhere_begins (reader bracket_text) (reader_laws bracket_text lawful) (2 ∷ []) refl;
 }
 
+answered : BracketsAreAnswered
+answered = record {
+  none = refl;
+  one = refl;
+  too_early = refl;
+  other_piece = refl;
+  closed_first = refl;
+  lesser = refl;
+  before_end = refl;
+  nearer = refl;
+  not_shown = refl;
+}
+
 -- a lawful text is read
 pub texts_read : {P T K : Type 0} (x : Text P T K) → IsLawful x → TextsAreRead x
 texts_read x h = record {
@@ -77,6 +110,7 @@ texts_read x h = record {
   one_tree = one_tree_each (reader x) (reader_laws x h);
   one_first = one_first_each (reader x) (reader_laws x h);
   silence = stands_where_silent x h;
+  shown = shown_where_derived x h;
 }
 
 pub worked_grammars : WorkedGrammars
@@ -84,6 +118,7 @@ worked_grammars = record {
   grammars = grammars;
   spelled = spelled;
   brackets_told = brackets;
+  brackets_answered = answered;
   brackets_read = texts_read bracket_text lawful;
   rows_read = rows_read;
   numerals = numerals_told;

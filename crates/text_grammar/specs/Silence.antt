@@ -1,10 +1,12 @@
--- Which texts stand: those that are derived with nothing against their tokens.
-use Rattle.std.specs.Prelude.{◌≡◌, ℕ, List, [], ◌∷◌}
+-- Which texts stand, and which refusals are shown, by what is derived alone.
+use Rattle.std.specs.Prelude.{◌≡◌, ℕ, List, [], ◌∷◌, ◌++◌, Some}
 use Rattle.text_core.specs.Tokens.{Token, pieces}
+use Rattle.text_core.specs.Readers.{Fault, onto, reached}
+use Rattle.text_core.specs.Faults.{Among}
 use Rattle.text_core.specs.Reading.{Stands, answer}
 use Rattle.text_grammar.specs.declared.symbol.Symbol.TheVariants.{Made}
-use Rattle.text_grammar.specs.Grammars.{Event, Derives}
-use Rattle.text_grammar.specs.Texts.{Text, reader, IsSilent}
+use Rattle.text_grammar.specs.Grammars.{Event, Read, Did, Derives}
+use Rattle.text_grammar.specs.Texts.{Text, Front, reader, IsSilent}
 
 -- a tree is answered exactly where the text derives events that stand for it, and nothing stands against the tokens
 pub record StandsWhereSilent {P T K : Type 0} (x : Text P T K) : Type 0 where
@@ -12,3 +14,30 @@ pub record StandsWhereSilent {P T K : Type 0} (x : Text P T K) : Type 0 where
       → (es : List (Event P)) × Derives x.grammar (Made 0 ∷ []) es (pieces ts) × (x.value es ≡ t) × IsSilent x [] es ts
   pub silent : (n : ℕ) (ts : List (Token P)) (es : List (Event P)) → Derives x.grammar (Made 0 ∷ []) es (pieces ts)
       → IsSilent x [] es ts → answer (reader x) n ts ≡ Stands (x.value es)
+
+-- the pieces that events read
+abbrev pub read_in : {P : Type 0} → List (Event P) → List P
+read_in [] = []
+read_in (Read p ∷ es) = p ∷ read_in es
+read_in (Did m ∷ es) = read_in es
+
+-- a refusal stands against a token behind pieces: the text derives these pieces, the token's and some more, and the
+-- refusal is among those that stand against the token behind the events before it
+pub record StandsAgainst {P T K : Type 0} (x : Text P T K) (before : List P) (t : Token P) (y : Fault K) : Type 0 where
+  pub events : List (Event P)
+  pub later : List (Event P)
+  pub more : List P
+  pub reads : read_in events ≡ before
+  pub derives : Derives x.grammar (Made 0 ∷ []) (events ++ Read t.piece ∷ later) (before ++ t.piece ∷ more)
+  pub stands : Among y (x.faults (onto events []) t)
+
+-- a refusal is shown at a token exactly where it stands against it behind the pieces that are done, and none is at the
+-- end of a text
+pub record ShownWhereDerived {P T K : Type 0} (x : Text P T K) : Type 0 where
+  pub shown : (n : ℕ) (done rest : List (Token P)) (f : Front P) (t : Token P) (y : Fault K)
+      → reached (reader x) (pieces done) ≡ Some f → Among y ((reader x).shown n done f (t ∷ rest))
+      → StandsAgainst x (onto (pieces done) []) t y
+  pub stands : (n : ℕ) (done rest : List (Token P)) (t : Token P) (y : Fault K)
+      → StandsAgainst x (onto (pieces done) []) t y
+      → (f : Front P) × (reached (reader x) (pieces done) ≡ Some f) × Among y ((reader x).shown n done f (t ∷ rest))
+  pub at_end : (n : ℕ) (done : List (Token P)) (f : Front P) → (reader x).shown n done f [] ≡ []

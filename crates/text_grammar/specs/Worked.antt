@@ -1,14 +1,18 @@
--- Which small grammars can be read, worked out by hand on both sides, and what one of them derives.
-use Rattle.std.specs.Prelude.{◌≡◌, ℕ, ◌==◌, if◌then◌else◌, true, false, List, [], ◌∷◌}
+-- Which small grammars can be read, worked out by hand on both sides, and what texts of one of them come to.
+use Rattle.std.specs.Prelude.{◌≡◌, ℕ, ◌+◌, ◌==◌, ◌&&◌, if◌then◌else◌, true, false, List, [], ◌∷◌, length, Option}
+use Rattle.std.specs.Prelude.{Some, None}
 use Rattle.text_core.specs.Laws.{Laws, AnswersAll, OneTree, OneFirst}
-use Rattle.text_core.specs.Readers.{IsBeginning, IsWhole}
+use Rattle.text_core.specs.Tokens.{Token}
+use Rattle.text_core.specs.Readers.{Fault, IsBeginning, IsWhole}
+use Rattle.text_core.specs.Reading.{Answer, Stands, Refused, answer}
 use Rattle.text_grammar.specs.declared.symbol.Symbol.{Symbol}
 use Rattle.text_grammar.specs.declared.symbol.Symbol.TheVariants.{Piece, Made, Mark}
 use Rattle.text_grammar.specs.declared.symbol.Item.TheVariants.{APiece, AMade, AMark, Or, End}
 use Rattle.text_grammar.specs.Grammars.{Grammar, Event, Read, rules_of}
 use Rattle.text_grammar.specs.Sounding.{is_readable}
 use Rattle.text_grammar.specs.Texts.{Text, Writes, reader}
-use Rattle.text_grammar.specs.Silence.{StandsWhereSilent}
+use Rattle.text_grammar.specs.Silence.{StandsWhereSilent, ShownWhereDerived}
+use Rattle.text_grammar.specs.ByteTexts.{tokens}
 use Rattle.text_grammar.specs.SmallRows.{RowsAreRead}
 use Rattle.text_grammar.specs.WorkedRows.{NumeralsAreTold, PartsAreTold, ByteTextsAreTold}
 use Rattle.text_grammar.specs.WorkedValues.{ValuesAreTold}
@@ -87,16 +91,40 @@ pub record RulesAreSpelled : Type 0 where
   pub open_end : rules_of (APiece 0 ∷ Or ∷ AMark 1 ∷ []) ≡ []
   pub two : rules_of (AMark 1 ∷ End ∷ APiece 0 ∷ End ∷ []) ≡ ((Mark 1 ∷ []) ∷ []) ∷ ((Piece 0 ∷ []) ∷ []) ∷ []
 
--- texts of brackets, which stand for their events, with nothing against them
+-- a refusal of a kind at a position
+abbrev pub fault : ℕ → ℕ → Fault ℕ
+fault kind at = record { kind = kind; at = at }
+
+-- against a 0 behind two pieces kinds 2 and 1 stand where it is; against a 1 behind three pieces kind 1 stands behind
+-- its byte, and kind 2 at it
+abbrev pub against : List (Event ℕ) → Token ℕ → List (Fault ℕ)
+against es t =
+    if (length es == 2) && (t.piece == 0) then fault 2 t.at ∷ fault 1 t.at ∷ []
+    else if (length es == 3) && (t.piece == 1) then fault 1 (t.at + 1) ∷ fault 2 t.at ∷ []
+    else []
+
+-- a text that ends too early is refused for kind 3, and a piece that can't follow for kind 4
+abbrev pub off : Option ℕ → ℕ
+off None = 3
+off (Some p) = 4
+
+-- texts of brackets, which stand for their events
 abbrev pub bracket_text : Text ℕ (List (Event ℕ)) ℕ
 bracket_text = record {
   grammar = brackets;
   value = λ es. es;
-  faults = λ es t. [];
+  faults = against;
   floor = λ es at. at;
   number = λ kind. kind;
-  off = λ piece. 1;
+  off = off;
 }
+
+-- what pieces of one byte each are answered with, and when that is a refusal of a kind at a position
+abbrev pub bracket_answer : List ℕ → Answer (List (Event ℕ)) ℕ
+bracket_answer ps = answer (reader bracket_text) (length ps) (tokens ps)
+
+abbrev pub bracket_refused : ℕ → ℕ → Answer (List (Event ℕ)) ℕ
+bracket_refused kind at = Refused (fault kind at)
 
 -- what brackets derive: 0 0 1 1 and nothing at all, and neither 0 nor 1 0; pieces that are done have the last one first
 pub record BracketsAreTold : Type 0 where
@@ -107,19 +135,38 @@ pub record BracketsAreTold : Type 0 where
   pub closed_first : ¬ IsBeginning (reader bracket_text) (1 ∷ [])
   pub other : ¬ IsBeginning (reader bracket_text) (2 ∷ [])
 
--- a lawful text is read as the laws of readers have it, and a tree stands exactly where it is derived in silence
+-- what brackets are answered with
+pub record BracketsAreAnswered : Type 0 where
+  pub none : bracket_answer [] ≡ Stands []
+  pub one : bracket_answer (0 ∷ 1 ∷ []) ≡ Stands (Read 0 ∷ Read 1 ∷ [])
+  -- the end of a text and a piece break it off for kinds of their own
+  pub too_early : bracket_answer (0 ∷ []) ≡ bracket_refused 3 1
+  pub other_piece : bracket_answer (0 ∷ 2 ∷ []) ≡ bracket_refused 4 1
+  pub closed_first : bracket_answer (1 ∷ []) ≡ bracket_refused 4 0
+  -- of two refusals at one byte that of the lesser number counts, also where it is told second and the text breaks off
+  pub lesser : bracket_answer (0 ∷ 0 ∷ 0 ∷ 1 ∷ 1 ∷ 1 ∷ []) ≡ bracket_refused 1 2
+  pub before_end : bracket_answer (0 ∷ 0 ∷ 0 ∷ []) ≡ bracket_refused 1 2
+  -- of two positions the lesser one counts, whatever the numbers
+  pub nearer : bracket_answer (0 ∷ 0 ∷ 1 ∷ 1 ∷ []) ≡ bracket_refused 2 3
+  -- against a piece that can't follow nothing else is shown
+  pub not_shown : bracket_answer (0 ∷ 1 ∷ 0 ∷ []) ≡ bracket_refused 4 2
+
+-- a lawful text is read as the laws of readers have it, a tree stands exactly where it is derived in silence, and a
+-- refusal is shown exactly where it stands against a piece that is derived behind others
 pub record TextsAreRead {P T K : Type 0} (x : Text P T K) : Type 0 where
   pub laws : Laws (reader x)
   pub answers : AnswersAll (reader x)
   pub one_tree : OneTree (reader x)
   pub one_first : OneFirst (reader x)
   pub silence : StandsWhereSilent x
+  pub shown : ShownWhereDerived x
 
 -- all of it, with a small text in single bytes; the laws hold of every lawful text
 pub record WorkedGrammars : Type 0 where
   pub grammars : GrammarsAreTold
   pub spelled : RulesAreSpelled
   pub brackets_told : BracketsAreTold
+  pub brackets_answered : BracketsAreAnswered
   pub brackets_read : TextsAreRead bracket_text
   pub rows_read : RowsAreRead
   pub numerals : NumeralsAreTold

@@ -1,6 +1,6 @@
 //! The reader of a grammar: tokens are pulled one by one, and none is kept.
 
-ghost use Rattle.std.specs.Prelude.{◌≡◌, ◌∷◌, [], ◌+◌, ◌<◌, List, ℕ, IfOk, IfSome, OnOk, Some, None, ⊤, MatchOption};
+ghost use Rattle.std.specs.Prelude.{◌≡◌, ◌∷◌, [], ◌+◌, ◌<◌, ◌≤◌, List, ℕ, IfOk, IfSome, OnOk, Some, None, MatchOption};
 ghost use Rattle.text_core.specs.Readers.{onto};
 ghost use Rattle.text_core.specs.Tokens.{AreInOrder};
 ghost use Rattle.text_core.specs.Reading.{answer, ended as answered, first_of as first_at};
@@ -72,9 +72,10 @@ fn off<X: Text>(
     }
 }
 
-// The refusal so far, where all that can still be shown stands behind it.
+// The refusal so far, exactly where all that can still be shown stands behind it.
 fn settled<X: Text>(text: &X, best: Option<Fault<X::Kind>>, at: u64) -> Option<Fault<X::Kind>>
-    ensures { MatchOption result ⊤ (λ y. (fault_of best ≡ Some (refusal_of y))
+    ensures { MatchOption result (IfSome (fault_of best) (λ y. (es : List (Event X.Piece)) → X.Knows text.now es
+        → (X.text_of text.now).floor es at ≤ y.at)) (λ y. (fault_of best ≡ Some (refusal_of y))
         × ((es : List (Event X.Piece)) → X.Knows text.now es → y.at < (X.text_of text.now).floor es at)) }
 {
     match best {

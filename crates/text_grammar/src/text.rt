@@ -54,7 +54,8 @@ pub trait Text {
         ensures known { OnOk result ((es : List (Event Self.Piece)) → Knows self.old es
             → Knows self.new (Did mark ∷ es)) };
 
-    /// Reads a token that can follow, and tells the first of what stands against it.
+    /// Reads a token, and tells the first of what stands against it, `None` where nothing does. What it tells is owed
+    /// for every token, whether it can follow or not.
     ///
     /// # Errors
     ///
