@@ -143,6 +143,8 @@ sizes = record {
     rule = _;
     numbered = refl;
     straight = refl;
+    long_ray = refl;
+    long_kept = refl;
     from = free_point;
     along = worked.rays.loose;
     passes = loose_passes [] 1 free_value from_one along_free free_point worked.rays.loose;
@@ -153,6 +155,8 @@ sizes = record {
   moving = λ h. still (of_rule (λ r. IsLooseRay (prepared r).rows (prepared r).left (value_on Up (prepared r) 1) (at (pos 1 ∷ pos 1 ∷ []))) _
       h.rule h.numbered h.along);
   no_point = λ h. let low = h.from.denominator in omega (arith, ints, low);
+  long_ray = λ h. three (of_rule (λ r. 3 ≡ (prepared r).unknowns) _ h.rule h.numbered h.long_ray);
+  long_point = λ h. three (of_rule (λ r. 3 ≡ (prepared r).unknowns) _ h.rule h.numbered h.long_kept);
   bounded = bounded;
   known = λ h. some_none (Input 0) h.missing;
   timed = λ h. some_none (Constant 1) h.missing;
@@ -160,6 +164,9 @@ sizes = record {
   where
     down : IsLooseRay [] 1 lowered_value (at along_free) → ⊥
     down l = let rises = l.rises in omega (arith, ints, rises)
+
+    three : ◌≡◌ {A = ℕ} 3 2 → ⊥
+    three e = omega (arith, e)
 
     still : IsLooseRay [] 1 free_value (at (pos 1 ∷ pos 1 ∷ [])) → ⊥
     still l = let e = l.still 0 (omega arith) in omega (arith, ints, e)

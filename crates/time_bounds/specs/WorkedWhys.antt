@@ -74,13 +74,16 @@ abbrev pub guessed_said : Bounds
 guessed_said = bounds_said guessed guessed_report
 
 -- along C the free value passes every affine form in A, up and not down; not where A moves too, nor from a point
--- without a denominator; and A - 1 passes not all of them, whatever the ray. A size that rests on one that is known
--- isn't missing, and one isn't untimed by a rule that has a time
+-- without a denominator, nor by a ray or a point of three numbers; and A - 1 passes not all of them, whatever the ray. A
+-- size that rests on one that is known isn't missing, and one isn't untimed by a rule that has a time
 pub record SizeWhysAreWorkedOut : Type 0 where
   pub loose : HasNoSize guessed 10 guessed_said 1 1 (SizeLoose Up along_free from_one)
   pub not_down : ¬ (HasNoSize guessed 10 guessed_said 1 1 (SizeLoose Low along_free from_one))
   pub moving : ¬ (HasNoSize guessed 10 guessed_said 1 1 (SizeLoose Up (pos 1 ∷ pos 1 ∷ []) from_one))
   pub no_point : ¬ (HasNoSize guessed 10 guessed_said 1 1 (SizeLoose Up along_free (scaled (pos 1 ∷ pos 1 ∷ []) 0)))
+  pub long_ray : ¬ (HasNoSize guessed 10 guessed_said 1 1 (SizeLoose Up (pos 0 ∷ pos 1 ∷ pos 0 ∷ []) from_one))
+  pub long_point :
+      ¬ (HasNoSize guessed 10 guessed_said 1 1 (SizeLoose Up along_free (scaled (pos 1 ∷ pos 1 ∷ pos 0 ∷ []) 1)))
   pub bounded : (ray : List ℤ) (kept : ScaledPoint)
       → ¬ (HasNoSize guessed 10 guessed_said 2 1 (SizeLoose Up ray kept))
   pub known : ¬ (HasNoSize looping 10 staying_said 1 1 (SizeMissing (key 0 1)))
