@@ -46,9 +46,10 @@ pub record PassesForms (rows : List Form) (left : ℕ) (value : Form) (kept : Sc
 
 -- the new value at a place, or its negation on the low side, passes every affine form in the arguments: from the point
 -- along the ray, on which no argument moves and the value rises; so no affine form in the arguments is at least the
--- value on all rational points of the rule's rows. A new value of degree 2 or more counts as a variable of its own there,
--- which may be any number, and comparisons of degree 2 or more have no rows. And the update isn't a polynomial of degree
--- 2 or more in the arguments alone, which would bound it. The ray and the point have a number for each variable
+-- value on all rational points of the rule's rows. A new value of degree 2 or more counts as a variable of its own
+-- there, which may be any number, and comparisons of degree 2 or more have no rows. And the update isn't a polynomial
+-- of degree 2 or more in the arguments alone, which would bound it. The ray and the point have a number for each
+-- variable
 pub record PassesEveryForm (p : Program) (t i : ℕ) (side : Side) (ray : List ℤ) (kept : ScaledPoint) : Type 0 where
   pub rule : Rule
   pub numbered : rule_at p t ≡ Some rule

@@ -1,5 +1,5 @@
--- Reports of small programs, as they were worked out by hand: of k(A) -> k(A); and of k(A) -> l(C), where C is free, with
--- l(A) -> l(A - 1) where A >= 1.
+-- Reports of small programs, as they were worked out by hand: of k(A) -> k(A); and of k(A) -> l(C), where C is free,
+-- with l(A) -> l(A - 1) where A >= 1.
 use Rattle.std.specs.Prelude.{List, [], ◌∷◌, ℤ, pos, None}
 use Rattle.model.specs.Bounds.{Constant, Input}
 use Rattle.outcome.specs.Reports.{NoFunction, Timed, Untimed, SizeLoose, SizeMissing, Sized, Unsized, Report}

@@ -84,7 +84,8 @@ pub record SetsAreSought : Type 0 where
   pub not_alone : ¬ (IsSought twice both_said 1 (1 ∷ []) [])
 
 -- no function ranks the first rule, as the gap of its own set shows, and no other: the gap of another set or of other
--- shut places says nothing of it, that of the first rule nothing of the second, and a gap that doesn't hold shows nothing
+-- shut places says nothing of it, that of the first rule nothing of the second, and a gap that doesn't hold shows
+-- nothing
 pub record GapsSaySo : Type 0 where
   pub alone : HasNoTime twice 10 second_said 1 (NoFunction staying_gap)
   pub other_set : ¬ (HasNoTime twice 10 second_said 1 (NoFunction pair_gap))

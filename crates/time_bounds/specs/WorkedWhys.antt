@@ -46,8 +46,8 @@ pub record TimeWhysAreWorkedOut : Type 0 where
   pub other_question : ¬ (HasNoTime looping 10 staying_said 1 (TimeTripped other_trip))
 
 -- along C the free value passes every affine form in A, up and not down; not where A moves too, nor from a point
--- without a denominator, nor by a ray or a point of three numbers; and A - 1 passes not all of them, whatever the ray. A
--- size that rests on one that is known isn't missing, and one isn't untimed by a rule that has a time
+-- without a denominator, nor by a ray or a point of three numbers; and A - 1 passes not all of them, whatever the ray.
+-- A size that rests on one that is known isn't missing, and one isn't untimed by a rule that has a time
 pub record SizeWhysAreWorkedOut : Type 0 where
   pub loose : HasNoSize guessed 10 guessed_said 1 1 (SizeLoose Up along_free from_one)
   pub not_down : ¬ (HasNoSize guessed 10 guessed_said 1 1 (SizeLoose Low along_free from_one))
