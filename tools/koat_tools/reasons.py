@@ -63,7 +63,8 @@ ADVICE = ("Where no run gets there, a comparison of degree 1 is missing from the
 
 def _no_function(rule, rules):
     others = [it for it in rules if it != rule]
-    told = f"Over fractions no affine function of the arguments falls with each use of rule {rule}"
+    told = ("Over fractions, with each new value of degree 2 or more as any number, no affine function of the "
+            f"arguments falls with each use of rule {rule}")
     if not others:
         return [told + " and is bounded from below before it."]
     return [told + f", is bounded from below before it, and never rises by {_rules(others, 'or')}."]
@@ -113,8 +114,8 @@ def _loose(report, entry, program):
     rule, facts = program.rule(entry.rule), entry.why.facts
     side = "upwards" if facts["side"] == "up" else "downwards"
     free = [it.text for it in rule.free]
-    told = [f"Nothing on the left of rule {entry.rule} limits the new value of {_argument(entry.rule, entry.place)} "
-            f"{side}."]
+    told = [f"No affine function of the arguments of rule {entry.rule} limits the new value of "
+            f"{_argument(entry.rule, entry.place)} {side}, where one of degree 2 or more is taken as any number."]
     told.append(f"From {point(facts['kept'], rule)} it goes without end along {point(facts['ray'], rule)}.")
     if free:
         told.append(f"Free here, so any integer: {', '.join(free)}. Limit it in the guard by arguments of the left.")

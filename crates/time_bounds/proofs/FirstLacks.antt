@@ -150,6 +150,7 @@ module _ (p : Program) (pivots : ℕ) where
               member = n;
               among = among;
               same = same_spot n.spot m rule place;
+              loop = e;
               bent = fails;
               first = subst (λ (w : Bool). IsSizingBy w s (over b) members (Unsized (searches.Bent m))) (sym e) (r, is, failed);
             }
@@ -196,6 +197,7 @@ module _ (p : Program) (pivots : ℕ) where
             record {
               members = members;
               component = component;
+              loop = e;
               uses = listed.0;
               grows = listed.1;
               missing = subst (λ (j : ℕ). b j 0 ≡ None) rule (time_missing b w fails);

@@ -84,6 +84,12 @@ pub mod TrueTimeWhys
 pub mod FirstLacks
 pub mod TrueSizeWhys
 pub mod TrueWhys
+pub mod LargeNodes
+pub mod StayingRule
+pub mod FreeValue
+pub mod SoughtSets
+pub mod WorkedTimeWhys
+pub mod WorkedSizeWhys
 pub mod WorkedWhys
 -- what is found can be printed
 pub mod Printables

@@ -1,12 +1,14 @@
 -- What is told of a place without a size is so of the program.
-use Rattle.std.proofs.Common.{◌≡◌, ◌⊎◌, inl, inr, ℕ, Bool, true, List, [], Option, Some, None, refl}
+use Rattle.std.proofs.Common.{◌≡◌, ◌⊎◌, inl, inr, ℕ, Bool, true, List, [], length, Option, Some, None, refl}
 use Rattle.std.proofs.Common.{sym, subst}
 use Rattle.std.specs.List.{AllByRecursion}
 use Rattle.std.proofs.lemmas.List.Elements.{All-from_recursion, recursion_from_All}
-use Rattle.model.specs.Programs.{Program}
+use Rattle.model.specs.Programs.{Program, Rule}
 use Rattle.model.proofs.Cases.{none_some, some_same}
 use Rattle.its_model.specs.Valid.{IsValid}
 use Rattle.outcome.specs.Reports.{NoSize, SizeLoose, SizeTripped}
+use Rattle.proof_tree.specs.AnswerViews.{scaled_of}
+use Rattle.proof_tree.specs.proof_nodes.Gaps.{ScaledPoint}
 use Rattle.proof_tree.specs.proof_nodes.Known.{Table}
 use Rattle.proof_tree.specs.proof_nodes.Nodes.{Spot, Member}
 use Rattle.proof_tree.specs.proof_nodes.Setting.{Setting}
@@ -17,7 +19,7 @@ use Rattle.proof_tree.specs.declared.answer.Trip.{Trip}
 use Rattle.proof_tree.proofs.proof_nodes.CheckLists.{map-each}
 use Rattle.guard_prep.specs.Prepared.{prepared}
 use Rattle.rank_search.specs.rule_questions.EmptyAnswers.{IsEmptyAnswer}
-use Rattle.rank_search.specs.rule_questions.RuleAnswers.{trip_in}
+use Rattle.rank_search.specs.rule_questions.RuleAnswers.{point_in, trip_in}
 use Rattle.local_size.specs.Places.{value_on}
 use Rattle.local_size.specs.LocalAnswers.{Local, HasBound, IsLooseOn, HasTripped, IsOwnTrip, IsEmptyTrip}
 use Rattle.local_size.proofs.LooseAnswers.{loose-answers}
@@ -45,6 +47,14 @@ module _ (p : Program) (pivots : ℕ) (valid : IsValid p) where
   abbrev s : Setting
   s = setting_of p
 
+  -- the point of an answer has a number for each variable
+  kept_long : (rule : Rule) (t : ℕ) (a : EmptyAnswer) (kept : ScaledPoint) → IsEmptyAnswer (prepared rule) t pivots a
+      → point_in (Some a) ≡ Some kept → length kept.parts ≡ (prepared rule).unknowns
+  kept_long rule t (empties.Empty n) kept h e = absurd (none_some kept e)
+  kept_long rule t (empties.Point z) kept h e =
+      subst (λ (k : ScaledPoint). length k.parts ≡ (prepared rule).unknowns) (some_same (scaled_of z) kept e) h.0.long
+  kept_long rule t (empties.Tripped x) kept h e = absurd (none_some kept e)
+
   -- a loose answer is so of its place
   loose_so : (m : Spot) (x : Local) → IsLocalOf p pivots m.rule m.place x → (why : NoSize) → loose_reason x ≡ Some why
       → ReadsNothing p m x × ((b : Bounds) → HasNoSize p pivots b m.rule m.place why)
@@ -59,6 +69,8 @@ module _ (p : Program) (pivots : ℕ) (valid : IsValid p) where
               rule = is.rule;
               numbered = is.numbered;
               straight = is.local.asked;
+              long_ray = (loose-answers.limits p is.rule m pivots is.empty side ray kept valid here is.local).0;
+              long_kept = kept_long is.rule m.rule is.empty kept is.is_empty_answer is.local.point;
               from = shown.1;
               along = shown.0;
               passes = loose_passes (prepared is.rule).rows (prepared is.rule).left (value_on side (prepared is.rule) m.place) kept ray

@@ -36,6 +36,9 @@ pub mod SaidBounds
 pub mod TimeWhys
 pub mod SizeWhys
 pub mod Whys
+pub mod WorkedReports
+pub mod WorkedTimeWhys
+pub mod WorkedSizeWhys
 pub mod WorkedWhys
 -- what is found can be printed
 pub mod PrintableLaws

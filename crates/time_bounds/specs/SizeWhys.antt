@@ -1,6 +1,6 @@
 -- Why a place after a rule has no size, as sentences about the program.
-use Rattle.std.specs.Prelude.{◌≡◌, ◌⊎◌, ℕ, ◌-◌, ◌≤◌, ◌||◌, Bool, true, false, List, [], ◌∷◌, map, ℤ, pos, ◌+ℤ◌}
-use Rattle.std.specs.Prelude.{◌*ℤ◌, ◌<ℤ◌, Some, None}
+use Rattle.std.specs.Prelude.{◌≡◌, ◌⊎◌, ℕ, ◌-◌, ◌≤◌, ◌||◌, Bool, true, false, List, [], ◌∷◌, length, map, ℤ, pos}
+use Rattle.std.specs.Prelude.{◌+ℤ◌, ◌*ℤ◌, ◌<ℤ◌, Some, None}
 use Rattle.std.specs.List.{All, Contains}
 use Rattle.model.specs.Bounds.{Bound, Constant}
 use Rattle.model.specs.Programs.{Program, Rule, rule_at}
@@ -46,12 +46,16 @@ pub record PassesForms (rows : List Form) (left : ℕ) (value : Form) (kept : Sc
 
 -- the new value at a place, or its negation on the low side, passes every affine form in the arguments: from the point
 -- along the ray, on which no argument moves and the value rises; so no affine form in the arguments is at least the
--- value on all rational points of the rule's rows. And the update isn't a polynomial of degree 2 or more in the
--- arguments alone, which would bound it
+-- value on all rational points of the rule's rows. A new value of degree 2 or more counts as a variable of its own
+-- there, which may be any number, and comparisons of degree 2 or more have no rows. And the update isn't a polynomial
+-- of degree 2 or more in the arguments alone, which would bound it. The ray and the point have a number for each
+-- variable
 pub record PassesEveryForm (p : Program) (t i : ℕ) (side : Side) (ray : List ℤ) (kept : ScaledPoint) : Type 0 where
   pub rule : Rule
   pub numbered : rule_at p t ≡ Some rule
   pub straight : is_polynomial_at (prepared rule) i ≡ false
+  pub long_ray : length ray ≡ (prepared rule).unknowns
+  pub long_kept : length kept.parts ≡ (prepared rule).unknowns
   pub from : IsPoint (prepared rule).rows (at kept.parts) (pos kept.den)
   pub along : IsLooseRay (prepared rule).rows (prepared rule).left (value_on side (prepared rule) i) (at ray)
   pub passes : PassesForms (prepared rule).rows (prepared rule).left (value_on side (prepared rule) i) kept ray
@@ -112,6 +116,7 @@ pub record BendsAt (p : Program) (pivots : ℕ) (b : Bounds) (t i : ℕ) (m : Sp
   pub member : Member
   pub among : Contains members member
   pub same : member.spot ≡ m
+  pub loop : do_loop (setting_of p) members ≡ true
   pub bent : ¬ (IsStraight (setting_of p) members member)
   pub first : LacksFirst (setting_of p) b members (Bent m)
 
@@ -119,6 +124,7 @@ pub record BendsAt (p : Program) (pivots : ℕ) (b : Bounds) (t i : ℕ) (m : Sp
 pub record GrowsUntimed (p : Program) (pivots : ℕ) (b : Bounds) (t i u : ℕ) : Type 0 where
   pub members : List Member
   pub component : IsComponentOf p pivots t i members
+  pub loop : do_loop (setting_of p) members ≡ true
   pub uses : is_in u (rules_of (setting_of p) members) ≡ true
   pub grows : (multiplies (flows (setting_of p) members (over b).size) u
       || adds (setting_of p) (flows (setting_of p) members (over b).size) u) ≡ true

@@ -43,7 +43,9 @@ pub record IsSought (p : Program) (b : Bounds) (t : ℕ) (set : List ℕ) (shut 
   pub are_shut : AreShutOf p b set shut
 
 -- no affine function of the arguments that aren't shut ranks the rule: over the rational points of the linear parts of
--- the guards of its set; and the gap, which is of exactly this set and these shut places, shows it by its points
+-- the guards of its set, where a new value of degree 2 or more counts as a variable of its own, which may be any
+-- number, and comparisons of degree 2 or more aren't looked at; and the gap, which is of exactly this set and these
+-- shut places, shows it by its points
 pub record NoFunctionRanks (p : Program) (b : Bounds) (t : ℕ) (g : Gap) : Type 0 where
   pub rule : g.rule ≡ t
   pub sought : IsSought p b t g.set g.shut

@@ -43,10 +43,13 @@ pub fn searches_are_one()
 
 /// The law that each reason in the report of the analysis of a valid program is so of the program, over the times and
 /// sizes that the report itself says. Of a rule without a time: no affine function of the arguments with known sizes
-/// ranks it over its set; or the linear program that asks for one passes the limit that is told; or the time that is
-/// composed is large. Of a place without a size: the new value passes every affine form in the arguments, along a ray
-/// and from a point; or a linear program passes a limit; or the size rests on one that isn't known, bends in a loop,
-/// grows by a rule without a time, or is large. It has no code: its contract is the law.
+/// ranks it over its set; or the linear program that asks for one passes the limit that is told; or that one has no
+/// solution, but one that asks whether a rule of the set has a point passes the limit, the first that passes any; or
+/// the time that is composed is large. Of a place without a size: the new value passes every affine form in the
+/// arguments, along a ray and from a point; or a linear program passes a limit; or the size rests on one that isn't
+/// known, bends in a loop, grows by a rule without a time, or is large. For functions and forms alike a new value of
+/// degree 2 or more counts as a variable of its own, which may be any number, and comparisons of degree 2 or more
+/// aren't looked at. It has no code: its contract is the law.
 pub fn reasons_are_true()
     ensures { AnalysesGiveReasons }
 {}

@@ -1,0 +1,192 @@
+-- What reasons of missing times say of small programs.
+use Rattle.std.proofs.Common.{◌≡◌, inl, inr, ℕ, zero, suc, ◌<◌, ◌≤◌, true, List, [], ◌∷◌, Some, refl, subst, arith}
+use Rattle.std.specs.Prelude.{pos}
+use Rattle.std.proofs.lemmas.List.Elements.{All-head}
+use Rattle.model.specs.Entries.{is_in}
+use Rattle.model.proofs.Cases.{none_some}
+use Rattle.its_model.specs.Valid.{IsValid, IsValidRule}
+use Rattle.its_model.specs.linear_forms.declared.trip_cause.TripCause.{TripCause}
+use Rattle.its_model.specs.linear_forms.declared.trip_cause.TripCause.TheVariants as causes
+use Rattle.guard_prep.specs.Tightening.{divisor_of}
+use Rattle.outcome.specs.Holding.{numbered_entry, place_entry}
+use Rattle.outcome.specs.Reports.{NoTime, NoFunction, Untimed, NoSize, Unsized}
+use Rattle.proof_tree.specs.proof_nodes.AcceptsPlain.{IsRule}
+use Rattle.proof_tree.specs.proof_nodes.AcceptsRank.{rank_time}
+use Rattle.proof_tree.specs.proof_nodes.GapChecks.{HasGapShape, GapHolds, IsGapPoint, point_of, balance}
+use Rattle.proof_tree.specs.proof_nodes.WorkedGaps.{one, nowhere}
+use Rattle.proof_tree.proofs.proof_nodes.GapsInLine.{passed-holds}
+use Rattle.proof_tree.proofs.proof_nodes.WorkedAccepted.{of_one, of_two}
+use Rattle.proof_tree.proofs.proof_nodes.WorkedGaps.{both, one_point, no_rows, free_kept, loses_one}
+use Rattle.proof_tree.proofs.proof_nodes.WorkedGaps.{one_is_some}
+use Rattle.proof_tree.specs.proof_setting.RankedSets.{forms_at}
+use Rattle.proof_tree.specs.proof_setting.Setting.{setting_of}
+use Rattle.proof_tree.specs.proof_setting.WorkedGaps.{looping_rule, looping, gap_alone}
+use Rattle.proof_tree.proofs.proof_setting.RankedSets.{gap-excludes_all}
+use Rattle.proof_tree.proofs.proof_setting.WorkedGaps.{gaps_of_programs}
+use Rattle.bound_rounds.specs.Keys.{over}
+use Rattle.bound_rounds.proofs.Cases.{either}
+use Rattle.time_bounds.specs.SizeWhys.{HasNoSize}
+use Rattle.time_bounds.specs.TimeWhys.{FirstTripsSo, RankTripsSo, HasNoTime}
+use Rattle.time_bounds.specs.WorkedReports.{staying_gap, staying_report, staying_said}
+use Rattle.time_bounds.specs.WorkedTimeWhys.{twice, pair_gap, EachHasItsOwn, GapsSaySo, own_trip, LimitsSaySo}
+use Rattle.time_bounds.specs.WorkedTimeWhys.{MissingTimesAreWorkedOut}
+use Rattle.time_bounds.proofs.LargeNodes.{large_many}
+use Rattle.time_bounds.proofs.SoughtSets.{sets}
+use Rattle.time_bounds.proofs.StayingRule.{staying_so}
+
+own : EachHasItsOwn
+own = record { first_time = refl; second_time = refl; first_size = refl; second_size = refl; no_third = refl }
+
+-- a rule after another that is the same
+two_rules : (t : ℕ) → is_in t (1 ∷ 2 ∷ []) ≡ true → IsRule twice t
+two_rules t h = of_two (IsRule twice) 1 2 (record { rule = _; numbered = refl }) (record { rule = _; numbered = refl }) t h
+
+pair_shape : HasGapShape twice (forms_at twice) pair_gap
+unfolding divisor_of
+pair_shape = record {
+  ascending = (omega arith, tt);
+  rules = two_rules;
+  inside = refl;
+  one_move = refl;
+  one_kept = refl;
+  moves = of_two (λ u. IsGapPoint (forms_at twice u) (point_of (1 ∷ 2 ∷ []) (one ∷ nowhere ∷ []) u)) 1 2
+      (one_point (forms_at twice 1) refl (pos 1) 1 (omega arith) (omega arith))
+      (one_point (forms_at twice 2) refl (pos 0) 0 (omega arith) (omega arith));
+  kept = of_two (λ u. IsGapPoint (forms_at twice u) (point_of (1 ∷ 2 ∷ []) (one ∷ one ∷ []) u)) 1 2
+      (one_point (forms_at twice 1) refl (pos 1) 1 (omega arith) (omega arith))
+      (one_point (forms_at twice 2) refl (pos 1) 1 (omega arith) (omega arith));
+  floor = one_point (forms_at twice 1) refl (pos 0) 0 (omega arith) (omega arith);
+}
+
+pair_holds : GapHolds twice (forms_at twice) pair_gap
+unfolding divisor_of
+pair_holds =
+    passed-holds twice (forms_at twice) pair_gap
+    (both pair_shape (both (no_rows one) (both (no_rows nowhere) (both (no_rows nowhere) (both free_kept
+    (both free_kept (both refl (both refl (both (loses_one 0) tt)))))))))
+
+alone_shape : HasGapShape twice (forms_at twice) staying_gap
+unfolding divisor_of
+alone_shape = record {
+  ascending = tt;
+  rules = of_one (IsRule twice) 1 (record { rule = _; numbered = refl });
+  inside = refl;
+  one_move = refl;
+  one_kept = refl;
+  moves = of_one (λ u. IsGapPoint (forms_at twice u) (point_of (1 ∷ []) (one ∷ []) u)) 1
+      (one_point (forms_at twice 1) refl (pos 1) 1 (omega arith) (omega arith));
+  kept = of_one (λ u. IsGapPoint (forms_at twice u) (point_of (1 ∷ []) (one ∷ []) u)) 1
+      (one_point (forms_at twice 1) refl (pos 1) 1 (omega arith) (omega arith));
+  floor = one_point (forms_at twice 1) refl (pos 0) 0 (omega arith) (omega arith);
+}
+
+alone_holds : GapHolds twice (forms_at twice) staying_gap
+unfolding divisor_of
+alone_holds =
+    passed-holds twice (forms_at twice) staying_gap
+    (both alone_shape (both (no_rows one) (both (no_rows nowhere) (both free_kept (both refl (both refl
+    (both (loses_one 0) tt)))))))
+
+-- a floor with a denominator unbalances the constant
+unbalanced : GapHolds looping (forms_at looping) (gap_alone 1 one one one) → ⊥
+unfolding divisor_of
+unbalanced h =
+    one_is_some (All-head (λ c. balance (forms_at looping) (gap_alone 1 one one one) c ≡ pos 0)
+    (record { symbol = 0; place = 0 }) (record { symbol = 0; place = 1 } ∷ []) h.balances)
+
+-- the program is valid, as the one with one of its rules is
+valid : IsValid twice
+valid = record {
+  symbols = gaps_of_programs.valid.symbols;
+  distinct = gaps_of_programs.valid.distinct;
+  few_rules = omega arith;
+  rules = (first, (first, tt));
+  start = omega arith;
+  start_is_source = refl;
+  start_places = refl;
+  start_names = gaps_of_programs.valid.start_names;
+  start_distinct = gaps_of_programs.valid.start_distinct;
+}
+  where
+    first : IsValidRule twice looping_rule
+    first = record {
+      source = omega arith;
+      target = omega arith;
+      left = refl;
+      places = refl;
+      named = refl;
+      names = ((refl, refl), tt);
+      distinct = (refl, tt);
+      few_variables = omega arith;
+      few_atoms = omega arith;
+      updates = (record { variables = omega arith; expands = refl }, tt);
+      guard = tt;
+      cost = tt;
+    }
+
+gaps : GapsSaySo
+gaps = record {
+  alone = record { rule = refl; sought = sets.alone; none = gap-excludes_all twice valid staying_gap alone_holds; shown = alone_holds };
+  other_set = λ h. sets.not_both h.sought;
+  other_shut = λ h. sets.not_open h.sought;
+  both = record { rule = refl; sought = sets.both; none = gap-excludes_all twice valid pair_gap pair_holds; shown = pair_holds };
+  smaller_set = λ h. sets.not_alone h.sought;
+  other_rule = λ h. let e : ◌≡◌ {A = ℕ} 1 2 = h.rule in omega (arith, e);
+  not_balanced = λ h. unbalanced h.shown;
+}
+
+-- no rule's emptiness question is a rank question
+never_first : (cause : TripCause) (ts : List ℕ) → FirstTripsSo looping 10 ts (own_trip cause) → ⊥
+never_first cause [] h = h
+never_first cause (t ∷ ts) (inl h) = let e = h.trips.0 in (let none : ⊥ = cc in none)
+never_first cause (t ∷ ts) (inr h) = never_first cause ts h.1
+
+other_budget : RankTripsSo looping 10 staying_said 1 (own_trip (causes.Budget 9)) → ⊥
+other_budget h =
+    either h.trips (λ own. let e : ◌≡◌ {A = ℕ} 9 10 = own.trips.1 in omega (arith, e))
+    (λ points. never_first (causes.Budget 9) h.set points.first)
+
+not_wide : RankTripsSo looping 10 staying_said 1 (own_trip (causes.Wide 5)) → ⊥
+not_wide h =
+    either h.trips (λ own. wide _ own.trips.0 own.trips.1) (λ points. never_first (causes.Wide 5) h.set points.first)
+  where
+    wide : (n : ℕ) → 40000000000 < n → 5 ≡ n → ⊥
+    wide n l e = omega (arith, l, e)
+
+limits : LimitsSaySo
+limits = record {
+  other_budget = other_budget;
+  not_wide = not_wide;
+  small = λ p pivots b t n few h. few_nodes n _ few h.nodes
+      (large_many (setting_of p).rewrite (rank_time (setting_of p) h.node (over b)) h.large);
+}
+  where
+    few_nodes : (n k : ℕ) → n ≤ 200 → n ≡ k → 200 < k → ⊥
+    few_nodes n k few e l = omega (arith, few, e, l)
+
+-- the whole report of the rule that stays
+whole_times : (t : ℕ) (why : NoTime) → numbered_entry staying_report.times t ≡ Some (Untimed why)
+    → HasNoTime looping 10 staying_said t why
+whole_times zero why e = absurd (none_some (Untimed why) e)
+whole_times (suc zero) why e =
+    let same : NoFunction staying_gap ≡ why = cc in
+    subst (λ (w : NoTime). HasNoTime looping 10 staying_said 1 w) same staying_so
+whole_times (suc (suc k)) why e = absurd (none_some (Untimed why) e)
+
+whole_sizes : (t i : ℕ) (why : NoSize) → place_entry (numbered_entry staying_report.sizes t) i ≡ Some (Unsized why)
+    → HasNoSize looping 10 staying_said t i why
+whole_sizes zero i why e = absurd (none_some (Unsized why) e)
+whole_sizes (suc zero) zero why e = absurd (none_some (Unsized why) e)
+whole_sizes (suc zero) (suc zero) why e = absurd (let none : ⊥ = cc in none)
+whole_sizes (suc zero) (suc (suc j)) why e = absurd (none_some (Unsized why) e)
+whole_sizes (suc (suc k)) i why e = absurd (none_some (Unsized why) e)
+
+pub missing_times : MissingTimesAreWorkedOut
+missing_times = record {
+  own = own;
+  sets = sets;
+  gaps = gaps;
+  limits = limits;
+  whole = record { times = whole_times; sizes = whole_sizes };
+  wrong = λ h. unbalanced (h.times 1 (NoFunction (gap_alone 1 one one one)) refl).shown;
+}
