@@ -150,18 +150,20 @@ pub(crate) const PROGRAMS: &[(&str, Status, &str)] = &[
          \x20 kept 4: (1) / 1\n",
     ),
     // A new value of degree 2 counts as a variable of its own, which may be any number: so there is a gap, where that
-    // variable is 1, though A ranks rule 2; and what is never over 0 is loose up.
+    // variable is 1, though A ranks rule 2; and what is never over 0 is loose up. A variable that nothing reads, such
+    // as that of the square at the floor, and C in the second program, leaves its line empty, and its part of the dual
+    // is 1.
     (
         "l0(A) -> l1(A) l1(A) -> l1(0-A*A) :|: A >= 1",
         Status::Unknown,
         "unknown\ntime 1: 1\ntime 2: unknown\ntotal: unknown\nsize 1.1: A\nsize 2.1: unknown\n\
-         why time 2: no affine ranking function over rules 2\n  move 2: (1, 1) / 1\n  floor 2: (0, 0) / 0\n\
+         why time 2: no affine ranking function over rules 2\n  move 2: (1, 1) / 1\n  floor 2: (0, 1) / 0\n\
          \x20 kept 2: (1, 1) / 1\nwhy size 2.1: bent 2.1\n",
     ),
     (
         "l0(A) -> l1(0-C*C)",
         Status::Done,
-        "bounded\ntime 1: 1\ntotal: 1\nsize 1.1: unknown\nwhy size 1.1: loose up\n  ray: (0, 0, 1)\n\
+        "bounded\ntime 1: 1\ntotal: 1\nsize 1.1: unknown\nwhy size 1.1: loose up\n  ray: (0, 1, 1)\n\
          \x20 kept: (1, 1, 1) / 1\n",
     ),
     // The first pivot of rule 2's emptiness question makes 60000 * 60000. The rank questions of the cycle don't come to
