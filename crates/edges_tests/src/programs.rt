@@ -150,8 +150,9 @@ pub(crate) const PROGRAMS: &[(&str, Status, &str)] = &[
          \x20 kept 4: (1) / 1\n",
     ),
     // A new value of degree 2 counts as a variable of its own, which may be any number: so there is a gap, where that
-    // variable is 1, though A ranks rule 2; and what is never over 0 is loose up. A variable that nothing reads, such as
-    // that of the square at the floor, and C in the second program, leaves its line empty, and its part of the dual is 1.
+    // variable is 1, though A ranks rule 2; and what is never over 0 is loose up. A variable that nothing reads, such
+    // as that of the square at the floor, and C in the second program, leaves its line empty, and its part of the dual
+    // is 1.
     (
         "l0(A) -> l1(A) l1(A) -> l1(0-A*A) :|: A >= 1",
         Status::Unknown,

@@ -1,5 +1,5 @@
 -- A rule that stays, alone in its program, has no time, as its gap shows.
-use Rattle.std.proofs.Common.{◌≡◌, inl, inr, ℕ, zero, suc, ◌≤◌, true, false, [], ◌∷◌, Some, None, refl, sym, subst, arith}
+use Rattle.std.proofs.Common.{◌≡◌, inl, inr, ℕ, zero, suc, ◌≤◌, true, false, [], ◌∷◌, None, refl, sym, subst, arith}
 use Rattle.std.specs.List.{Contains}
 use Rattle.model.specs.Bounds.{Input}
 use Rattle.model.specs.Entries.{is_in}

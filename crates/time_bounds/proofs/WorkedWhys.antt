@@ -1,5 +1,5 @@
 -- What reasons say of small programs.
-use Rattle.std.proofs.Common.{◌≡◌, inl, inr, ℕ, zero, suc, false, List, [], ◌∷◌, refl, arith}
+use Rattle.std.proofs.Common.{◌≡◌, inl, inr, ℕ, zero, false, List, [], ◌∷◌, refl, arith}
 use Rattle.std.specs.Prelude.{pos, negsuc}
 use Rattle.std.proofs.lemmas.Int.{ints}
 use Rattle.model.specs.Bounds.{Constant, Input}
@@ -11,7 +11,6 @@ use Rattle.proof_tree.specs.rule_forms.Bounds.{IsLooseRay}
 use Rattle.proof_tree.specs.rule_forms.Worked.{plane_form, free_value}
 use Rattle.proof_tree.proofs.rule_forms.Worked.{worked}
 use Rattle.proof_tree.specs.proof_nodes.AcceptsSizes.{Up, Low}
-use Rattle.proof_tree.specs.proof_nodes.WorkedGaps.{guessed}
 use Rattle.proof_tree.specs.proof_setting.WorkedGaps.{first_place, looping}
 use Rattle.local_size.specs.Places.{value_on}
 use Rattle.bound_rounds.proofs.Cases.{either}

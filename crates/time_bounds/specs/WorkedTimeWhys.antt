@@ -1,6 +1,6 @@
 -- What reasons of missing times say of small programs, as it was worked out by hand: of two rules k(A) -> k(A), and of
 -- one alone.
-use Rattle.std.specs.Prelude.{◌≡◌, ℕ, ◌≤◌, List, [], ◌∷◌, Some, None}
+use Rattle.std.specs.Prelude.{◌≡◌, ℕ, ◌≤◌, [], ◌∷◌, Some, None}
 use Rattle.model.specs.Bounds.{Constant, Input}
 use Rattle.model.specs.Programs.{Program}
 use Rattle.outcome.specs.Reports.{NoFunction, TimeTripped, TimeLarge, Timed, Untimed, SizeMissing, Sized, Unsized}
