@@ -65,7 +65,8 @@ pub record Ends (status : Status) (call : Call) (put : Put) : Type 0 where
   pub shelf_fault : call.shelf.faults_before < call.shelf.faults_after → IsStatusOfFault status
 
 -- the file spells a program within the limits, and a text was appended, whole, that states the report of the program's
--- analysis; and every bound in it holds on every run of the program, from any integers and by any choice of rules
+-- analysis; every bound in it holds on every run of the program, from any integers and by any choice of rules, and each
+-- reason in it is so of the program
 pub record WroteReport (call : Call) (put : Put) (pivots : ℕ) (file : Word) (report : Report) : Type 0 where
   pub program : Program
   pub given : GivesProgram call.shelf file program
