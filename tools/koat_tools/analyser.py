@@ -79,7 +79,7 @@ def replay(answer, run, seconds=None):
         raise Stop(BAD_RUN, f"{run}: {said.splitlines()[0]}")
     try:
         if ran.returncode == 0:
-            return runs.read(said), runs.start_of(data)
+            return runs.read(said, [label for label, _, _ in answer.report.labelled()]), runs.start_of(data)
     except (runs.ReplayError, ValueError, IndexError) as fault:
         raise Stop(KOAT_FAILED, f"koat's replay can't be read: {fault}") from fault
     raise Stop(KOAT_FAILED, f"koat ended with status {ran.returncode}" + (f": {said.splitlines()[0]}" if said else ""))

@@ -13,6 +13,8 @@ from . import programs
 
 # A run ends where a value would become greater: koat replays in 128 bits, and files have values below 2^63.
 WIDEST = 2**62
+# koat takes no step in which some part of an expression isn't below this, or is below its negative.
+PAST = 2**127
 # How often free values are drawn for a rule, and from where.
 DRAWS, NEAR, FAR = 20, 3, 100
 
@@ -83,10 +85,40 @@ class _Rule:
     def after(self, values, free):
         """The values behind the rule, or none where its guard doesn't hold or a value would become too large."""
         given = dict(zip(self.names + self.free, values + free))
-        if not _value(self.guard, given):
+        try:
+            if not _value(self.guard, given):
+                return None
+            after = [int(_value(update, given)) for update in self.updates]
+        except OverflowError:
             return None
-        after = [_value(update, given) for update in self.updates]
         return after if all(abs(it) <= WIDEST for it in after) else None
+
+
+class _Whole(int):
+    """A whole number of which no sum, product or power passes 128 bits."""
+
+    def __neg__(self):
+        return _within(-int(self))
+
+    def __add__(self, other):
+        return _within(int(self) + int(other))
+
+    def __sub__(self, other):
+        return _within(int(self) - int(other))
+
+    def __mul__(self, other):
+        return _within(int(self) * int(other))
+
+    def __pow__(self, other):
+        if abs(self) > 1 and other > 127:
+            raise OverflowError
+        return _within(int(self) ** int(other))
+
+
+def _within(number):
+    if not -PAST <= number < PAST:
+        raise OverflowError
+    return _Whole(number)
 
 
 def _computed(written):
@@ -96,9 +128,11 @@ def _computed(written):
         if token.kind == "name" and _is_truth(found, at):
             told.append("True")
         elif token.kind == "name":
-            told.append(f"given[{token.text!r}]")
+            told.append(f"whole(given[{token.text!r}])")
+        elif token.text.isdigit():
+            told.append(f"whole({token.text.lstrip('0') or '0'})")
         else:
-            told.append(SIGNS.get(token.text, token.text.lstrip("0") or "0"))
+            told.append(SIGNS.get(token.text, token.text))
     return compile("".join(told), "rule", "eval")
 
 
@@ -111,7 +145,7 @@ def _is_truth(found, at):
 
 
 def _value(code, given):
-    return eval(code, {"__builtins__": {}}, {"given": given})  # pylint: disable=eval-used
+    return eval(code, {"__builtins__": {}}, {"given": given, "whole": _within})  # pylint: disable=eval-used
 
 
 class ReplayError(ValueError):
@@ -129,13 +163,15 @@ class Replay:
 LINE = re.compile(r"(time [0-9]+|total|size [0-9]+\.[0-9]+): ([0-9]+) of ([0-9]+|unknown|2\^127 or more)")
 
 
-def read(said):
-    """What koat wrote of a run that it replayed."""
+def read(said, labels):
+    """What koat wrote of a run that it replayed, beside bounds with these labels."""
     lines = said.splitlines()
     first = re.fullmatch(r"steps ([0-9]+)", lines[0]) if lines else None
     found = [LINE.fullmatch(line) for line in lines[1:]]
     if first is None or None in found:
         raise ReplayError("no lines of a replay")
+    if [it.group(1) for it in found] != labels:
+        raise ReplayError("no line for each bound, in order")
     return Replay(int(first.group(1)), {it.group(1): (int(it.group(2)), it.group(3)) for it in found})
 
 

@@ -29,6 +29,14 @@ class Runs(unittest.TestCase):
         self.assertEqual(told, [[4, -4], None, None, None])
         self.assertIsNone(rule.after([0, 0], [0, 2**32, 2**32, 7]))
 
+    def test_no_part_of_a_step_passes_128_bits(self):
+        for rule, last in (("f(A) -> Com_1(f(A)) :|: A^3 >= 1", 2**42), ("f(A) -> Com_1(f(A^3-A^3))", 2**42),
+                           ("f(A) -> Com_1(f(A*0)) :|: A^2*8 > 0 && -A <= A", 2**62 - 1)):
+            it = runs._Rule(programs.read(f"(STARTTERM (FUNCTIONSYMBOLS f))(RULES {rule})".encode()).rules[0])
+            self.assertEqual([it.after([value], []) is None for value in (last, 2**62)], [False, True], rule)
+        power = runs._Rule(programs.read(b"(STARTTERM (FUNCTIONSYMBOLS f))(RULES f(A) -> Com_1(f(A^999)))").rules[0])
+        self.assertEqual([power.after([it], []) for it in (-1, 0, 1, 2)], [[-1], [0], [1], None])
+
     def test_steps_follow_each_other(self):
         program, broken = programs.read(FREE), []
         for seed in range(20):
@@ -67,13 +75,15 @@ class Runs(unittest.TestCase):
 
 class Replays(unittest.TestCase):
     def test_what_koat_writes_is_read(self):
-        told = runs.read(COUNTED.replace("3 of 3\nt", "3 of unknown\nt").replace("2 of 3", "2 of 2^127 or more"))
+        labels = ["time 1", "time 2", "total", "size 1.1", "size 2.1"]
+        text = COUNTED.replace("3 of 3\nt", "3 of unknown\nt").replace("2 of 3", "2 of 2^127 or more")
+        told = runs.read(text, labels)
         self.assertEqual((told.steps, told.beside["time 2"], told.beside["size 2.1"]),
                          (4, (3, "unknown"), (2, "2^127 or more")))
-        for text in ("", "steps 4", COUNTED[6:], COUNTED + "more\n", COUNTED.replace(" of 4", "")):
-            if text != "steps 4":
-                with self.assertRaises(runs.ReplayError):
-                    runs.read(text)
+        for text in ("", "steps 4\n", COUNTED[6:], COUNTED + "more\n", COUNTED.replace(" of 4", ""),
+                     COUNTED.replace("time 2", "time 3"), COUNTED + COUNTED.splitlines()[-1]):
+            with self.assertRaises(runs.ReplayError):
+                runs.read(text, labels)
 
     def koat(self, room, said, status):
         """A koat that answers a replay with this, and else as the one that stands in."""

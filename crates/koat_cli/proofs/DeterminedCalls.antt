@@ -2,11 +2,12 @@
 use Rattle.its_reader.proofs.its_text.ReaderLaws.{one_program}
 use Rattle.its_reader.proofs.its_text.SpelledVerdicts.{verdicts_are_spelled}
 use Rattle.time_bounds.proofs.OneAnalysis.{analysis_one}
+use Rattle.time_bounds.proofs.OneOutcome.{outcome_one}
 use Rattle.time_bounds.proofs.OneProgram.{program_searches_one}
 use Rattle.run_replay.specs.ReplayLaws.{ReplaysAreDecided}
 use Rattle.koat_cli.proofs.Exclusions.{Determined}
 
--- a text spells one program, verdicts are what is spelled, and a program has one analysis; replays are decided by the
+-- a text spells one program, verdicts are what is spelled, and a program has one analysis and one outcome; replays are decided by the
 -- law of replays
 pub determined : ReplaysAreDecided → Determined
 determined replays = record {
@@ -14,6 +15,7 @@ determined replays = record {
   verdicts = verdicts_are_spelled;
   reports = record {
     each = λ p pivots r q h k. analysis_one p pivots (program_searches_one.each p pivots) r q h k;
+    outcomes = λ p pivots x y h l k m. outcome_one p pivots (program_searches_one.each p pivots) x y h l k m;
   };
   replays = replays;
 }

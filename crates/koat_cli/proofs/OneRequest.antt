@@ -24,6 +24,7 @@ use Rattle.koat_cli.specs.Ends.{Ends, WroteReport, WroteRefusal, IsFirstFile, Ma
 use Rattle.koat_cli.specs.Ends.{WroteRunRefusal, IsStatusThere, Means}
 use Rattle.koat_cli.proofs.ReplayStatuses.{Tells, replay_tells}
 use Rattle.koat_cli.proofs.Sayings.{of_other_answer, says_there}
+use Rattle.its_reader.proofs.its_text.ValidPrograms.{spelled_valid}
 use Rattle.koat_cli.proofs.WithinBounds.{tally_within}
 
 -- what a call answers is answered of the request that its words ask for
@@ -256,13 +257,15 @@ tally_wrote law call put f q x h a =
     let told : Tells call.shelf f q Done x = replay_tells call.shelf f q Done x h in
     let tally = told.1.2 in
     let run = told.1.0 in
+    let given = told.1.1.program_given in
     record {
       program = told.0;
       run = run;
       given = told.1.1;
       text = x;
       told = tally;
-      within_bounds = tally_within law told.0 tally.report run.start (last_first run) tally.found.true_on_all_runs tally.in_range;
+      within_bounds = tally_within law told.0 tally.report run.start (last_first run)
+          (spelled_valid given.bytes told.0 given.spelled) tally.on_program tally.found.true_on_all_runs tally.in_range;
       appended = a;
     }
 

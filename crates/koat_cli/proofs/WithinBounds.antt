@@ -1,31 +1,54 @@
 -- The tally along a run is within the bounds of a report that holds on all runs.
-use Rattle.std.proofs.Common.{◌≡◌, ◌⊎◌, inl, inr, ℕ, zero, suc, ◌+◌, ◌≤◌, List, [], ◌∷◌, length, map, ℤ}
-use Rattle.std.proofs.Common.{Option, Some, None, refl, ◌∙◌, ap, subst, arith}
+use Rattle.std.proofs.Common.{◌≡◌, ◌⊎◌, inl, inr, ℕ, zero, suc, ◌+◌, ◌≤◌, List, [], ◌∷◌, length, map, ℤ, get_or, drop}
+use Rattle.std.proofs.Common.{Option, Some, None, refl, sym, ◌∙◌, ap, subst, arith}
 use Rattle.std.specs.Prelude.{slice_get}
-use Rattle.std.specs.List.{range_with_len}
+use Rattle.std.proofs.lemmas.List.{length-map}
+use Rattle.std.specs.List.{AllByRecursion, range_with_len}
+use Rattle.its_model.specs.Valid.{IsValidRule, IsValid}
 use Rattle.model.specs.Bounds.{Bound, val}
 use Rattle.model.specs.Facts.{HoldsTotal}
-use Rattle.model.specs.Programs.{Program, rule_at}
+use Rattle.model.specs.Programs.{Rule, Program, arity_of, rule_at}
 use Rattle.model.specs.Runs.{Step, IsRun, count, sizes_of_start}
 use Rattle.outcome.specs.Reports.{Time, Timed, Untimed, Size, Sized, Unsized, Report}
-use Rattle.outcome.specs.Holding.{place_entry, numbered_entry, ReportHolds}
+use Rattle.outcome.specs.Holding.{place_entry, numbered_entry, IsReportOn, ReportHolds}
 use Rattle.run_replay.specs.ReplayLaws.{ReplaysAreDecided}
 use Rattle.run_replay.specs.Replays.{IsRunInRange, IsSizeAfter, greatest_size, greatest_sizes, places_reached}
 use Rattle.run_replay.specs.Replays.{tally_along}
 use Rattle.koat_cli.specs.WithinBounds.{AreBeside, IsWithinTime, IsWithinSize, IsWithinTotal, IsWithinBounds}
 
--- what stands beside each number from k on stands beside all of them
-beside_numbers : {X Y : Type 0} (Beside : X → Y → Type 0) (f : ℕ → X) (k n : ℕ) (ys : List Y)
+-- what stands beside each number from k on, as many as there are, stands beside all of them
+beside_numbers : {X Y : Type 0} (Beside : X → Y → Type 0) (f : ℕ → X) (k n : ℕ) (ys : List Y) → length ys ≡ n
     → ((j m : ℕ) (y : Y) → m ≡ k + j → slice_get ys j ≡ Some y → Beside (f m) y)
     → AreBeside Beside (map f (range_with_len k n)) ys
-beside_numbers Beside f k zero ys h = tt
-beside_numbers Beside f k (suc n) [] h = tt
-beside_numbers Beside f k (suc n) (y ∷ ys) h = (
+beside_numbers Beside f k zero [] len h = tt
+beside_numbers Beside f k zero (y ∷ ys) len h = absurd (omega (arith, len))
+beside_numbers Beside f k (suc n) [] len h = absurd (omega (arith, len))
+beside_numbers Beside f k (suc n) (y ∷ ys) len h = (
   h 0 k y (omega arith) refl,
-  beside_numbers Beside f (k + 1) n ys (λ j m z e is. h (suc j) m z (omega (arith, e)) is),
+  beside_numbers Beside f (k + 1) n ys (omega (arith, len)) (λ j m z e is. h (suc j) m z (omega (arith, e)) is),
 )
 
-module _ (law : ReplaysAreDecided) (p : Program) (r : Report) (holds : ReportHolds p r) (start : List ℤ) (steps : List Step)
+-- a report on a valid program has as many entries for places after a rule as the rule has updates
+row_places : (p : Program) (rules : List Rule) (rows : List (List Size)) (j : ℕ) (row : List Size)
+    → AllByRecursion (IsValidRule p) rules → map length rows ≡ map (λ (r : Rule). arity_of p r.target) rules
+    → slice_get rows j ≡ Some row → length row ≡ places_reached (slice_get rules j)
+row_places p rules [] j row valid same e = absurd (let no_way : ⊥ = cc in no_way)
+row_places p [] (s ∷ rows) j row valid same e = absurd (let no_way : ⊥ = cc in no_way)
+row_places p (r ∷ rules) (s ∷ rows) zero row valid same e =
+    let first : length s ≡ arity_of p r.target = ap (λ (ns : List ℕ). get_or ns 0 0) same in
+    let is : s ≡ row = cc in
+    sym (ap (λ (t : List Size). length t) is) ∙ (first ∙ sym valid.0.places)
+row_places p (r ∷ rules) (s ∷ rows) (suc j) row valid same e =
+    row_places p rules rows j row valid.1 (ap (λ (ns : List ℕ). drop 1 ns) same) e
+
+-- and as many rows as there are rules
+as_many_rows : (p : Program) (r : Report) → IsReportOn p r → length r.sizes ≡ length p.rules
+as_many_rows p r on =
+    sym (length-map r.sizes length)
+    ∙ (ap (λ (ns : List ℕ). length ns) on.sizes ∙ length-map p.rules (λ (rule : Rule). arity_of p rule.target))
+
+module _ (law : ReplaysAreDecided) (p : Program) (r : Report) (valid : IsValid p) (on : IsReportOn p r)
+    (holds : ReportHolds p r) (start : List ℤ) (steps : List Step)
     (in_range : IsRunInRange p start steps) where
   -- where the run leads
   run : IsRun p start steps in_range.0
@@ -37,10 +60,10 @@ module _ (law : ReplaysAreDecided) (p : Program) (r : Report) (holds : ReportHol
   count_within j (Timed b) e = (holds.times (suc j) b e).each start steps in_range.0 run
   count_within j (Untimed why) e = tt
 
-  counts_within : (n : ℕ)
+  counts_within : (n : ℕ) → length r.times ≡ n
       → AreBeside (IsWithinTime (sizes_of_start start)) (map (λ t. count t steps) (range_with_len 1 n)) r.times
-  counts_within n =
-      beside_numbers (IsWithinTime (sizes_of_start start)) (λ t. count t steps) 1 n r.times
+  counts_within n len =
+      beside_numbers (IsWithinTime (sizes_of_start start)) (λ t. count t steps) 1 n r.times len
       (λ j m t e is. let next : suc j ≡ m = omega (arith, e) in
       subst (λ (k : ℕ). IsWithinTime (sizes_of_start start) (count k steps) t) next (count_within j t is))
 
@@ -68,24 +91,24 @@ module _ (law : ReplaysAreDecided) (p : Program) (r : Report) (holds : ReportHol
       → AreBeside (IsWithinSize (sizes_of_start start)) (greatest_sizes p start steps (suc j)) row
   row_within j row e =
       beside_numbers (IsWithinSize (sizes_of_start start)) (λ i. greatest_size p start (suc j) i steps) 1
-      (places_reached (rule_at p (suc j))) row
+      (places_reached (rule_at p (suc j))) row (row_places p p.rules r.sizes j row valid.rules on.sizes e)
       (λ i m s at is. let next : suc i ≡ m = omega (arith, at) in
       subst (λ (k : ℕ). IsWithinSize (sizes_of_start start) (greatest_size p start (suc j) k steps) s) next
       (size_within j i s (ap (λ (o : Option (List Size)). place_entry o (suc i)) e ∙ is)))
 
-  rows_within : (n : ℕ) → AreBeside (AreBeside (IsWithinSize (sizes_of_start start)))
+  rows_within : (n : ℕ) → length r.sizes ≡ n → AreBeside (AreBeside (IsWithinSize (sizes_of_start start)))
       (map (greatest_sizes p start steps) (range_with_len 1 n)) r.sizes
-  rows_within n =
-      beside_numbers (AreBeside (IsWithinSize (sizes_of_start start))) (greatest_sizes p start steps) 1 n r.sizes
+  rows_within n len =
+      beside_numbers (AreBeside (IsWithinSize (sizes_of_start start))) (greatest_sizes p start steps) 1 n r.sizes len
       (λ j m row e is. let next : suc j ≡ m = omega (arith, e) in
       subst (λ (k : ℕ). AreBeside (IsWithinSize (sizes_of_start start)) (greatest_sizes p start steps k) row) next
       (row_within j row is))
 
 -- all numbers of the tally
-pub tally_within : ReplaysAreDecided → (p : Program) (r : Report) (start : List ℤ) (steps : List Step) → ReportHolds p r
-    → IsRunInRange p start steps → IsWithinBounds (sizes_of_start start) (tally_along p start steps) r
-tally_within law p r start steps holds h = record {
-  counts = counts_within law p r holds start steps h (length p.rules);
-  steps = total_within law p r holds start steps h r.total holds.total;
-  greatest = rows_within law p r holds start steps h (length p.rules);
+pub tally_within : ReplaysAreDecided → (p : Program) (r : Report) (start : List ℤ) (steps : List Step) → IsValid p
+    → IsReportOn p r → ReportHolds p r → IsRunInRange p start steps → IsWithinBounds (sizes_of_start start) (tally_along p start steps) r
+tally_within law p r start steps valid on holds h = record {
+  counts = counts_within law p r valid on holds start steps h (length p.rules) on.times;
+  steps = total_within law p r valid on holds start steps h r.total holds.total;
+  greatest = rows_within law p r valid on holds start steps h (length p.rules) (as_many_rows p r on);
 }

@@ -42,4 +42,8 @@ tallies_bounded = record {
     greatest = ((omega arith, tt), ((tt, tt), tt));
   };
   first = λ h. let most = h.greatest.0.0 in omega (arith, most);
+  no_times = λ h. h.counts;
+  no_places = λ h. h.greatest.0;
+  no_counts = λ h. h.counts;
+  no_greatest = λ h. h.greatest;
 }

@@ -9,7 +9,7 @@ use Rattle.its_writer.specs.Texts.{canonical_text}
 use Rattle.asks.specs.Requests.{default_pivots}
 use Rattle.outcome.specs.declared.outcome_of.Outcome.{Outcome}
 use Rattle.outcome.specs.Reports.{Report, is_timed}
-use Rattle.outcome.specs.Holding.{ReportHolds}
+use Rattle.outcome.specs.Holding.{IsReportOn, ReportHolds}
 use Rattle.outcome.specs.Views.{report_of}
 use Rattle.report_text.specs.States.{States}
 use Rattle.run_replay.specs.ReplayAnswers.{last_first}
@@ -60,11 +60,13 @@ pub record IsSummaryOf (program : Program) (status : Status) (text : List ℕ) :
   pub ends : status ≡ status_of (report_of outcome)
 
 -- `replay` of a run: the text has the tally along it beside the bounds that the program's analysis with the usual
--- number of pivots finds, each as its value, up to 2^127, at the absolute start values
+-- number of pivots finds, each as its value, up to 2^127, at the absolute start values; the report has an entry for each
+-- rule and for each place of its target, so that none of their lines is left out
 pub record IsTallyOf (program : Program) (run : Run) (status : Status) (text : List ℕ) : Type 0 where
   pub in_range : IsRunInRange program run.start (last_first run)
   pub report : Report
   pub found : IsFound program default_pivots report
+  pub on_program : IsReportOn program report
   pub told : text
       ≡ text_of_replay (sizes_of_start run.start) (tally_along program run.start (last_first run)) report
   pub ends : status ≡ Done

@@ -1,13 +1,14 @@
 -- When the tally of a run is within the bounds of a report.
-use Rattle.std.specs.Prelude.{ℕ, ◌≤◌, List, [], ◌∷◌, Option, Some, None, ⊤}
+use Rattle.std.specs.Prelude.{ℕ, ◌≤◌, List, [], ◌∷◌, Option, Some, None, ⊤, ⊥}
 use Rattle.model.specs.Bounds.{Bound, val}
 use Rattle.outcome.specs.Reports.{Time, Timed, Untimed, Size, Sized, Unsized, Report}
 use Rattle.run_replay.specs.Replays.{Sums}
 
--- each of a list stands so to the one beside it in another list, as far as both go
+-- each of a list stands so to the one beside it in another list, and there are as many of these
 abbrev pub AreBeside : {X Y : Type 0} → (X → Y → Type 0) → List X → List Y → Type 0
-AreBeside Beside [] ys = ⊤
-AreBeside Beside (x ∷ xs) [] = ⊤
+AreBeside Beside [] [] = ⊤
+AreBeside Beside [] (y ∷ ys) = ⊥
+AreBeside Beside (x ∷ xs) [] = ⊥
 AreBeside Beside (x ∷ xs) (y ∷ ys) = Beside x y × AreBeside Beside xs ys
 
 -- a number is at most the value at these inputs of a time, of a size, or of a total, where there is one

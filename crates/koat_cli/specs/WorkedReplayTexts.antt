@@ -54,12 +54,17 @@ abbrev pub tally_with : ℕ → ℕ → Sums
 tally_with count greatest = record { steps = 4; counts = 1 ∷ count ∷ []; greatest = (3 ∷ []) ∷ (greatest ∷ []) ∷ [] }
 
 -- each number is at most the value of the bound beside it: of a count, of the steps and of a greatest value one more is
--- too many, and where a bound is missing nothing is too many
+-- too many, and where a bound is missing nothing is too many; no entry is left out on either side
 pub record TalliesAreBounded : Type 0 where
   pub whole : IsWithinBounds (3 ∷ []) four_steps counting
   pub count : ¬ (IsWithinBounds (3 ∷ []) (tally_with 4 2) counting)
   pub greatest : IsWithinBounds (3 ∷ []) (tally_with 3 3) counting
   pub greater : ¬ (IsWithinBounds (3 ∷ []) (tally_with 3 4) counting)
-  pub steps : ¬ (IsWithinBounds (2 ∷ []) (record { steps = 4; counts = []; greatest = [] }) counting)
+  pub steps : ¬ (IsWithinBounds (2 ∷ []) (record { steps = 4; counts = 1 ∷ 2 ∷ []; greatest = (2 ∷ []) ∷ (2 ∷ []) ∷ [] })
+      counting)
   pub unknown : IsWithinBounds (3 ∷ []) (tally_with 9 9) silent
   pub first : ¬ (IsWithinBounds (2 ∷ []) (tally_with 9 9) silent)
+  pub no_times : ¬ (IsWithinBounds (3 ∷ []) four_steps (record counting { times = [] }))
+  pub no_places : ¬ (IsWithinBounds (3 ∷ []) four_steps (record counting { sizes = [] ∷ [] ∷ [] }))
+  pub no_counts : ¬ (IsWithinBounds (3 ∷ []) (record four_steps { counts = [] }) counting)
+  pub no_greatest : ¬ (IsWithinBounds (3 ∷ []) (record four_steps { greatest = [] }) counting)
