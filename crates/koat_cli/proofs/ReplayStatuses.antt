@@ -37,15 +37,21 @@ module _ (seen : Seen) (f q : Word) where
   -- what a run is answered with says so
   run_tells : (s : Status) (x : List ℕ) (p : Program) (r : Run) → GiveRun seen f q p r → IsReplayOf p r s x → Tells s x
   run_tells s x p r given (Tallied h) =
-      subst (λ (t : Status). Tells t x) (sym h.ends)
-      (p, (r, given, record {
-        in_range = h.in_range;
-        report = h.report;
-        found = h.found;
-        on_program = h.on_program;
-        told = h.told;
-        ends = refl;
-      }))
+      subst (λ (t : Status). Tells t x) (sym h.ends) (
+        p,
+        (
+          r,
+          given,
+          record {
+            in_range = h.in_range;
+            report = h.report;
+            found = h.found;
+            on_program = h.on_program;
+            told = h.told;
+            ends = refl;
+          },
+        ),
+      )
   run_tells s x p r given (NoRun h) =
       subst (λ (t : Status). Tells t x) (sym h.ends)
       (p, (r, given, record { bad = h.bad; first = h.first; told = h.told; ends = refl }))
