@@ -71,8 +71,8 @@ pub record TalliesAreBounded : Type 0 where
   pub count : ¬ (IsWithinBounds (3 ∷ []) (tally_with 4 2) counting)
   pub greatest : IsWithinBounds (3 ∷ []) (tally_with 3 3) counting
   pub greater : ¬ (IsWithinBounds (3 ∷ []) (tally_with 3 4) counting)
-  pub steps : ¬ (IsWithinBounds (2 ∷ []) (record { steps = 4; counts = 1 ∷ 2 ∷ []; greatest = (2 ∷ []) ∷ (2 ∷ []) ∷ [] })
-      counting)
+  pub steps : ¬ (IsWithinBounds (2 ∷ [])
+      (record { steps = 4; counts = 1 ∷ 2 ∷ []; greatest = (2 ∷ []) ∷ (2 ∷ []) ∷ [] }) counting)
   pub unknown : IsWithinBounds (3 ∷ []) (tally_with 9 9) silent
   pub first : ¬ (IsWithinBounds (2 ∷ []) (tally_with 9 9) silent)
   pub no_times : ¬ (IsWithinBounds (3 ∷ []) four_steps (record counting { times = [] }))
