@@ -257,7 +257,7 @@ tally_wrote law call put f q x h a =
     let told : Tells call.shelf f q Done x = replay_tells call.shelf f q Done x h in
     let tally = told.1.2 in
     let run = told.1.0 in
-    let given = told.1.1.program_given in
+    let gave = told.1.1.program_given in
     record {
       program = told.0;
       run = run;
@@ -265,7 +265,7 @@ tally_wrote law call put f q x h a =
       text = x;
       told = tally;
       within_bounds = tally_within law told.0 tally.report run.start (last_first run)
-          (spelled_valid given.bytes told.0 given.spelled) tally.on_program tally.found.true_on_all_runs tally.in_range;
+          (spelled_valid gave.bytes told.0 gave.spelled) tally.on_program tally.found.true_on_all_runs tally.in_range;
       appended = a;
     }
 

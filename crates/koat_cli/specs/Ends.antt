@@ -20,7 +20,7 @@ use Rattle.koat_cli.specs.declared.status.Status.TheVariants.{ProgramRefused, Pr
 use Rattle.koat_cli.specs.Calls.{Seen, Call, Put}
 use Rattle.koat_cli.specs.Report.{usage_text}
 use Rattle.koat_cli.specs.OnFiles.{GivesProgram, IsRefusedTooLong, IsRefusedAt}
-use Rattle.koat_cli.specs.OnTexts.{earlier, IsOverLimit, IsTextRefused, GivesText}
+use Rattle.koat_cli.specs.OnTexts.{GaveProgram, IsOverLimit, IsTextRefused, GivesText}
 use Rattle.koat_cli.specs.RunTexts.{runs}
 use Rattle.koat_cli.specs.Outputs.{IsFound, IsTallyOf, IsBadStepOf}
 use Rattle.koat_cli.specs.WithinBounds.{IsWithinBounds}
@@ -97,11 +97,6 @@ IsSecondFile (Check file proof) f = ⊥
 IsSecondFile (Replay file run) f = f ≡ run
 IsSecondFile (Generate n) f = ⊥
 IsSecondFile (Selfrun n) f = ⊥
-
--- the file gave this program when it was fetched, before another one was
-pub record GaveProgram (seen : Seen) (file : Word) (program : Program) : Type 0 where
-  pub taken : ℕ
-  pub given : GivesProgram (earlier seen taken) file program
 
 -- the first file of a request gave a program
 pub record FirstGave (seen : Seen) (request : Request) : Type 0 where
