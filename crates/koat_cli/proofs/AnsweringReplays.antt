@@ -143,10 +143,10 @@ module _ (laws : Determined) (bytes run_bytes : List ℕ) where
     of_files s x (NoProgram a) =
         let refused = refused_for_none laws call.shelf h.file bytes s x h.held h.no_read_fault a in
         subst (λ (t : Status). Answered bytes run_bytes t) (sym refused.0) (IsRefused refused.1)
-    of_files s x (Behind taken a) =
-        let same : a.given.bytes ≡ bytes = same_held call.shelf.held h.file bytes a.given.bytes h.held a.given.fetched.held in
+    of_files s x (Behind a) =
+        let same : a.given.bytes ≡ bytes = same_held call.shelf.held h.file bytes a.given.bytes h.held a.given.held in
         of_run a.program (λ A holds. record {
-          within = subst (λ (b : List ℕ). length b ≤ program_limit) same a.given.fetched.within;
+          within = subst (λ (b : List ℕ). length b ≤ program_limit) same a.given.within;
           program = a.program;
           spelled = subst (λ (b : List ℕ). SpellsWithin b a.program) same a.given.spelled;
           holds = holds;

@@ -114,9 +114,9 @@ module _ (Out : Program → Status → List ℕ → Type 0) (s : Status) (x : Li
       → (s ≡ ReadFault → MayFail seen.held f seen.faults_before seen.faults_after → Lacks seen.held f)
       → OnProgramFirst seen f Out s x → Tells Out s x (file_of (get files f))
   first_tells laws seen files f e lacking (NoProgram h) = file_tells laws seen files f e lacking (Without h)
-  first_tells laws seen files f e lacking (Behind taken h) =
-      of_bytes (get files f) h.given.bytes (reading.Stands h.program) (given seen.held files f h.given.bytes e h.given.fetched.held)
-      h.given.fetched.within ((laws.verdicts.stands h.given.bytes h.program).1 h.given.spelled) h.said
+  first_tells laws seen files f e lacking (Behind h) =
+      of_bytes (get files f) h.given.bytes (reading.Stands h.program) (given seen.held files f h.given.bytes e h.given.held)
+      h.given.within ((laws.verdicts.stands h.given.bytes h.program).1 h.given.spelled) h.said
 
 -- and that is one answer
 one_told : (Out : Program → Status → List ℕ → Type 0) (s t : Status) (x y : List ℕ)

@@ -1,5 +1,5 @@
 -- A call answers its one request, and what that says of its status.
-use Rattle.std.proofs.Common.{◌≡◌, ◌≢◌, ℕ, Bool, true, false, if◌then◌else◌, List, IsTrue, IsFalse, refl, sym, ◌∙◌, inl, inr}
+use Rattle.std.proofs.Common.{◌≡◌, ◌≢◌, ◌⊎◌, ℕ, Bool, true, false, if◌then◌else◌, List, IsTrue, IsFalse, refl, sym, ◌∙◌, inl, inr}
 use Rattle.std.proofs.Common.{subst}
 use Rattle.std.specs.Prelude.{⊤}
 use Rattle.std.specs.List.{list_all}
@@ -122,6 +122,21 @@ usage_told seen (Selfrun n) x h = absurd (never_usage (report_of h.outcome) h.en
 pub usage_says : (call : Call) (x : List ℕ) → Says call Usage x → x ≡ usage_text
 usage_says call x (ToNothing none h) = h.told
 usage_says call x (ToRequest r asked h) = usage_told call.shelf r x h
+
+-- a time that is unknown is one of a program that is analysed
+unknown_asks : (call : Call) (r : Request) (x : List ℕ) → Asks call.words r → Answers call.shelf r Unknown x
+    → ((pivots : ℕ) × ((file : Word) × Asks call.words (Analyse pivots file))) ⊎ ((n : ℕ) × Asks call.words (Selfrun n))
+unknown_asks call (Analyse n f) x asked h = inl (n, (f, asked))
+unknown_asks call (Prove n f) x asked h = absurd (let e : Unknown ≡ Usage = h.ends in let no_way : ⊥ = cc in no_way)
+unknown_asks call (Check f q) x asked h = absurd (let e : Unknown ≡ Usage = h.ends in let no_way : ⊥ = cc in no_way)
+unknown_asks call (Replay f q) x asked h = absurd (replay_tells call.shelf f q Unknown x h)
+unknown_asks call (Generate n) x asked h = absurd (let e : Unknown ≡ Done = h.ends in let no_way : ⊥ = cc in no_way)
+unknown_asks call (Selfrun n) x asked h = inr (n, asked)
+
+unknown_said : (call : Call) (x : List ℕ) → Says call Unknown x
+    → ((pivots : ℕ) × ((file : Word) × Asks call.words (Analyse pivots file))) ⊎ ((n : ℕ) × Asks call.words (Selfrun n))
+unknown_said call x (ToNothing none h) = absurd (let e : Unknown ≡ Usage = h.ends in let no_way : ⊥ = cc in no_way)
+unknown_said call x (ToRequest r asked h) = unknown_asks call r x asked h
 
 -- a fault of reading is that of a file that is fetched for the words
 no_other_fault : (seen : Seen) (file : Word) (x : List ℕ) → IsNoProgram seen file ReadFault x
@@ -257,7 +272,7 @@ tally_wrote law call put f q x h a =
     let told : Tells call.shelf f q Done x = replay_tells call.shelf f q Done x h in
     let tally = told.1.2 in
     let run = told.1.0 in
-    let given = told.1.1.program_given in
+    let gave = told.1.1.program_given in
     record {
       program = told.0;
       run = run;
@@ -265,7 +280,7 @@ tally_wrote law call put f q x h a =
       text = x;
       told = tally;
       within_bounds = tally_within law told.0 tally.report run.start (last_first run)
-          (spelled_valid given.bytes told.0 given.spelled) tally.on_program tally.found.true_on_all_runs tally.in_range;
+          (spelled_valid gave.bytes told.0 gave.spelled) tally.on_program tally.found.true_on_all_runs tally.in_range;
       appended = a;
     }
 
@@ -356,6 +371,10 @@ ends_mean law s call put ends = record {
       let wrote = ends.wrote whole.0 whole.1 in
       tally_wrote law call put f q wrote.text
       (answer_of call (Replay f q) Done wrote.text asked (subst (λ (t : Status). Says call t wrote.text) e wrote.says)) wrote.appended;
+  unknown_of = λ e.
+      let whole = unknown_whole s e in
+      let wrote = ends.wrote whole.0 whole.1 in
+      unknown_said call wrote.text (subst (λ (t : Status). Says call t wrote.text) e wrote.says);
   usage = λ e.
       let whole = usage_whole s e in
       let wrote = ends.wrote whole.0 whole.1 in

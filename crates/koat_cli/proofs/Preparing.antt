@@ -104,11 +104,12 @@ behind_program means before middle after file run p given held most few h answer
     each : (said : StatusText) → OnText (runs p) (seen_of means middle after) run (IsReplayOf p) said.status said.text.items
         → OnProgramFirst (seen_of means before after) file (λ q. OnText (runs q) (seen_of means before after) run (IsReplayOf q))
         said.status said.text.items
-    each said a = Behind (means.taken middle) (record {
+    each said a = Behind (record {
       program = p;
       given = record {
         bytes = h.bytes;
-        fetched = record { held = h.fetched.held; taken = h.fetched.taken; within = h.fetched.within };
+        held = h.fetched.held;
+        within = h.fetched.within;
         spelled = h.spelled;
       };
       said = subst (λ (seen : Seen). OnText (runs p) seen run (IsReplayOf p) said.status said.text.items) same a;

@@ -12,10 +12,10 @@ use Rattle.koat_cli.specs.Calls.{Seen}
 use Rattle.koat_cli.specs.OnFiles as files
 use Rattle.koat_cli.specs.OnFiles.{IsRefusedTooLong, IsRefusedAt}
 use Rattle.koat_cli.specs.OnTexts.{IsOverLimit, IsTextRefused, Unread, OverLimit, RefusedText, OnText, NoText, OfText}
-use Rattle.koat_cli.specs.OnTexts.{OnProgramFirst, NoProgram, Behind}
+use Rattle.koat_cli.specs.OnTexts.{GaveProgram, OnProgramFirst, NoProgram, Behind}
 use Rattle.koat_cli.specs.RunTexts.{runs}
 use Rattle.koat_cli.specs.Outputs.{IsTallyOf, IsBadStepOf, IsReplayOf, Tallied, NoRun}
-use Rattle.koat_cli.specs.Ends.{GaveProgram, FirstGave, GiveRun}
+use Rattle.koat_cli.specs.Ends.{FirstGave, GiveRun}
 
 module _ (seen : Seen) (f q : Word) where
   -- what each status says of the two files of a replay, and of the text
@@ -87,5 +87,4 @@ module _ (seen : Seen) (f q : Word) where
         told = h.told;
         ends = refl;
       }))
-  replay_tells s x (Behind taken h) =
-      second_tells s x h.program (record { taken = taken; given = h.given }) h.said
+  replay_tells s x (Behind h) = second_tells s x h.program h.given h.said

@@ -14,10 +14,18 @@ replays_texts = record {
   at_the_cap = refl;
   power = refl;
   large_power = refl;
+  large_time = refl;
+  large_size = refl;
   wrong_rule = refl;
   atom = refl;
+  second_atom = refl;
   range = refl;
   refusal = refl;
+  syntax = refl;
+  large_number = refl;
+  other_arity = refl;
+  limit = refl;
+  most_bytes = refl;
 }
 
 -- so do tallies that are within bounds

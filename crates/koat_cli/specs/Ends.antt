@@ -20,7 +20,7 @@ use Rattle.koat_cli.specs.declared.status.Status.TheVariants.{ProgramRefused, Pr
 use Rattle.koat_cli.specs.Calls.{Seen, Call, Put}
 use Rattle.koat_cli.specs.Report.{usage_text}
 use Rattle.koat_cli.specs.OnFiles.{GivesProgram, IsRefusedTooLong, IsRefusedAt}
-use Rattle.koat_cli.specs.OnTexts.{earlier, IsOverLimit, IsTextRefused, GivesText}
+use Rattle.koat_cli.specs.OnTexts.{GaveProgram, IsOverLimit, IsTextRefused, GivesText}
 use Rattle.koat_cli.specs.RunTexts.{runs}
 use Rattle.koat_cli.specs.Outputs.{IsFound, IsTallyOf, IsBadStepOf}
 use Rattle.koat_cli.specs.WithinBounds.{IsWithinBounds}
@@ -99,11 +99,6 @@ IsSecondFile (Replay file run) f = f ≡ run
 IsSecondFile (Generate n) f = ⊥
 IsSecondFile (Selfrun n) f = ⊥
 
--- the file gave this program when it was fetched, before another one was
-pub record GaveProgram (seen : Seen) (file : Word) (program : Program) : Type 0 where
-  pub taken : ℕ
-  pub given : GivesProgram (earlier seen taken) file program
-
 -- the first file of a request gave a program
 pub record FirstGave (seen : Seen) (request : Request) : Type 0 where
   pub file : Word
@@ -172,11 +167,12 @@ IsStatusThere NotARun = ⊤
 
 -- what statuses mean: where `analyse` ends with `Done`, such a report was written, in which every rule has a time, and
 -- where it ends with `Unknown`, one in which some rule has none; where `replay` ends with `Done`, the tally along the
--- run was written beside the bounds. With `Usage` a call ends only where its words ask for nothing that is there, and
--- the usage text was written; with `ReadFault` only where a file may fail that is fetched for its words; with
--- `ProgramRefused` only where a text was written that refuses the first file; with `RunRefused` and `NotARun` only
--- where its words ask for a replay, and a text was written that refuses the second file, or that tells the first bad
--- step of the run; and no status comes of which nothing is said
+-- run was written beside the bounds. With `Unknown` a call ends only where its words ask for `analyse` or `selfrun`.
+-- With `Usage` a call ends only where its words ask for nothing that is there, and the usage text was written; with
+-- `ReadFault` only where a file may fail that is fetched for its words; with `ProgramRefused` only where a text was
+-- written that refuses the first file; with `RunRefused` and `NotARun` only where its words ask for a replay, and a text
+-- was written that refuses the second file, or that tells the first bad step of the run; and no status comes of which
+-- nothing is said
 pub record Means (status : Status) (call : Call) (put : Put) : Type 0 where
   pub done : (pivots : ℕ) (file : Word) → Asks call.words (Analyse pivots file) → status ≡ Done
       → (report : Report) × WroteReport call put pivots file report × IsTrue (list_all is_timed report.times)
@@ -184,6 +180,8 @@ pub record Means (status : Status) (call : Call) (put : Put) : Type 0 where
       → (report : Report) × WroteReport call put pivots file report × IsFalse (list_all is_timed report.times)
   pub replayed : (file run : Word) → Asks call.words (Replay file run) → status ≡ Done
       → WroteTally call put file run
+  pub unknown_of : status ≡ Unknown → ((pivots : ℕ) × ((file : Word) × Asks call.words (Analyse pivots file)))
+      ⊎ ((n : ℕ) × Asks call.words (Selfrun n))
   pub usage : status ≡ Usage
       → AsksForNothingThere call.words × (Appends put.written_before put.written_after usage_text)
   pub read_fault : status ≡ ReadFault → (file : Word) × MayMiss call file

@@ -1,12 +1,14 @@
 -- What comes of a file with a text that belongs to a program, fetched behind the program's file, whatever kind of text
 -- it is and whatever is to be said of what it stands for.
-use Rattle.std.specs.Prelude.{◌≡◌, ℕ, List}
+use Rattle.std.specs.Prelude.{◌≡◌, ◌≤◌, ℕ, List, length}
+use Rattle.outside_io.specs.Files.{IsHeld}
 use Rattle.outside_io.specs.Fetching.{IsTooLong}
 use Rattle.model.specs.Programs.{Program}
+use Rattle.its_reader.specs.its_text.Spelling.{SpellsWithin}
 use Rattle.asks.specs.Lines.{Word}
 use Rattle.koat_cli.specs.declared.status.Status.{Status}
 use Rattle.koat_cli.specs.Calls.{Seen}
-use Rattle.koat_cli.specs.OnFiles.{Fetches, IsReadFault, IsNoProgram, IsOfProgram}
+use Rattle.koat_cli.specs.OnFiles.{program_limit, Fetches, IsReadFault, IsNoProgram}
 
 -- texts of a kind, which stand for such things: at most how many bytes they have; with which status bytes are refused,
 -- and what is told where there are too many; what bytes stand for; and what is told of bytes that stand for nothing
@@ -58,19 +60,24 @@ pub data OnText {T : Type 0} (kind : TextKind T) (seen : Seen) (file : Word) (Ou
   NoText : IsNoText kind seen file status text → OnText kind seen file Out status text
   OfText : IsOfText kind seen file Out status text → OnText kind seen file Out status text
 
--- what was seen up to an earlier fetch, which took so many bytes; it had no fault if another one came behind it
-abbrev pub earlier : Seen → ℕ → Seen
-earlier seen taken = record {
-  held = seen.held;
-  faults_before = seen.faults_before;
-  faults_after = seen.faults_before;
-  taken = taken;
-}
+-- an earlier fetch gave these bytes, which spell this program within the limits: they are the file's, where the shelf
+-- tells what it holds; where it doesn't, nothing ties them to the file, as only the last fetch's count of bytes is seen
+pub record GaveProgram (seen : Seen) (file : Word) (program : Program) : Type 0 where
+  pub bytes : List ℕ
+  pub held : IsHeld seen.held file bytes
+  pub within : length bytes ≤ program_limit
+  pub spelled : SpellsWithin bytes program
+
+-- the first of two files gave a program, of which this is said
+pub record IsBehindProgram (seen : Seen) (file : Word) (Out : Program → Status → List ℕ → Type 0) (status : Status)
+    (text : List ℕ) : Type 0 where
+  pub program : Program
+  pub given : GaveProgram seen file program
+  pub said : Out program status text
 
 -- what is answered by the program that the first of two files gives, the second one being fetched behind it; or because
 -- the first one gives none, and then the second one isn't fetched
 pub data OnProgramFirst (seen : Seen) (file : Word) (Out : Program → Status → List ℕ → Type 0) (status : Status)
     (text : List ℕ) : Type 0 where
   NoProgram : IsNoProgram seen file status text → OnProgramFirst seen file Out status text
-  Behind : (taken : ℕ) → IsOfProgram (earlier seen taken) file Out status text
-      → OnProgramFirst seen file Out status text
+  Behind : IsBehindProgram seen file Out status text → OnProgramFirst seen file Out status text

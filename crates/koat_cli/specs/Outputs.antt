@@ -60,8 +60,8 @@ pub record IsSummaryOf (program : Program) (status : Status) (text : List ℕ) :
   pub ends : status ≡ status_of (report_of outcome)
 
 -- `replay` of a run: the text has the tally along it beside the bounds that the program's analysis with the usual
--- number of pivots finds, each as its value, up to 2^127, at the absolute start values; the report has an entry for each
--- rule and for each place of its target, so that none of their lines is left out
+-- number of pivots finds, each as its value, up to 2^127, at the absolute start values; the report has an entry for
+-- each rule and for each place of its target, so that none of their lines is left out
 pub record IsTallyOf (program : Program) (run : Run) (status : Status) (text : List ℕ) : Type 0 where
   pub in_range : IsRunInRange program run.start (last_first run)
   pub report : Report

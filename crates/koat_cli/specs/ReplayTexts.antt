@@ -17,13 +17,14 @@ abbrev pub bound_value : List ℕ → Option Bound → List ℕ
 bound_value at None = codes "unknown"
 bound_value at (Some b) = value_text (capped_val b at)
 
+-- the value of a time, and of a size
 abbrev pub time_value : List ℕ → Time → List ℕ
-time_value at (Timed b) = value_text (capped_val b at)
-time_value at (Untimed why) = codes "unknown"
+time_value at (Timed b) = bound_value at (Some b)
+time_value at (Untimed why) = bound_value at None
 
 abbrev pub size_value : List ℕ → Size → List ℕ
-size_value at (Sized b) = value_text (capped_val b at)
-size_value at (Unsized why) = codes "unknown"
+size_value at (Sized b) = bound_value at (Some b)
+size_value at (Unsized why) = bound_value at None
 
 -- a number beside a value, at the end of a line
 abbrev pub beside_end : ℕ → List ℕ → List ℕ
@@ -46,7 +47,7 @@ abbrev pub greatest_line : ℕ → ℕ → ℕ → List ℕ → List ℕ
 greatest_line rule place n value =
     codes "size " ++ (place_text rule place ++ (codes ": " ++ beside_end n value))
 
--- the lines of two lists beside each other, by their numbers, counted up from the first one's
+-- the lines of two lists beside each other, by their numbers, counted up from the first one's, as far as both go
 abbrev pub lines_beside : {X Y : Type 0} → (ℕ → X → Y → List ℕ) → ℕ → List X → List Y → List ℕ
 lines_beside line n [] ys = []
 lines_beside line n (x ∷ xs) [] = []

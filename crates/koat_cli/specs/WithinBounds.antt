@@ -1,5 +1,5 @@
 -- When the tally of a run is within the bounds of a report.
-use Rattle.std.specs.Prelude.{ℕ, ◌≤◌, List, [], ◌∷◌, Option, Some, None, ⊤, ⊥}
+use Rattle.std.specs.Prelude.{ℕ, ◌≤◌, List, [], ◌∷◌, Option, Some, None, ⊤}
 use Rattle.model.specs.Bounds.{Bound, val}
 use Rattle.outcome.specs.Reports.{Time, Timed, Untimed, Size, Sized, Unsized, Report}
 use Rattle.run_replay.specs.Replays.{Sums}

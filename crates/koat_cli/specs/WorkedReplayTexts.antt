@@ -4,9 +4,10 @@ use Rattle.model.specs.Bounds.{Constant, Input, SumOf, PowerOf, Part, NoParts}
 use Rattle.its_model.specs.Steps.{OtherRule, AtomFails, PastRange}
 use Rattle.outcome.specs.Reports.{Timed, Untimed, TimeLarge, Sized, Unsized, SizeLarge, Report}
 use Rattle.run_replay.specs.Replays.{Sums}
-use Rattle.run_replay.specs.declared.kind.RunKind.TheVariants.{BadReference}
-use Rattle.koat_cli.specs.ReplayTexts.{value_text, bound_value, text_of_replay}
-use Rattle.koat_cli.specs.RunTexts.{run_refusal_text, bad_step_text}
+use Rattle.run_replay.specs.declared.kind.RunKind.TheVariants.{Syntax, NumberTooLarge, BadReference}
+use Rattle.run_replay.specs.declared.kind.RunKind.TheVariants.{ArityDiffers, Limit}
+use Rattle.koat_cli.specs.ReplayTexts.{value_text, bound_value, time_value, size_value, text_of_replay}
+use Rattle.koat_cli.specs.RunTexts.{run_limit, run_refusal_text, bad_step_text}
 use Rattle.koat_cli.specs.WithinBounds.{IsWithinBounds}
 
 -- the report of a loop that counts the only input down
@@ -30,7 +31,8 @@ abbrev pub four_steps : Sums
 four_steps = record { steps = 4; counts = 1 ∷ 3 ∷ []; greatest = (3 ∷ []) ∷ (2 ∷ []) ∷ [] }
 
 -- each number stands beside the value of its bound at the inputs, a bound that is missing is unknown, and the values
--- are told up to 2^127; the first bad step is told by its number
+-- are told up to 2^127, of a time and of a size too; the first bad step is told by its number, and each kind of refusal
+-- by its word; a run's text may have so many bytes
 pub record ReplaysAreTexts : Type 0 where
   pub whole : text_of_replay (3 ∷ []) four_steps counting
       ≡ codes "steps 4\ntime 1: 1 of 1\ntime 2: 3 of 3\ntotal: 4 of 4\nsize 1.1: 3 of 3\nsize 2.1: 2 of 3\n"
@@ -43,11 +45,20 @@ pub record ReplaysAreTexts : Type 0 where
   pub at_the_cap : value_text (2 ^ 127) ≡ codes "2^127 or more"
   pub power : bound_value (126 ∷ []) (Some (PowerOf 2 (Input 0))) ≡ codes "85070591730234615865843651857942052864"
   pub large_power : bound_value (200 ∷ []) (Some (PowerOf 2 (Input 0))) ≡ codes "2^127 or more"
+  pub large_time : time_value (200 ∷ []) (Timed (PowerOf 2 (Input 0))) ≡ codes "2^127 or more"
+  pub large_size : size_value (200 ∷ []) (Sized (PowerOf 2 (Input 0))) ≡ codes "2^127 or more"
   pub wrong_rule : bad_step_text (record { number = 1; fault = OtherRule }) ≡ codes "not a run at step 1: wrong rule\n"
   pub atom : bad_step_text (record { number = 5; fault = AtomFails 1 }) ≡ codes "not a run at step 5: atom 1\n"
+  pub second_atom : bad_step_text (record { number = 1; fault = AtomFails 2 }) ≡ codes "not a run at step 1: atom 2\n"
   pub range : bad_step_text (record { number = 2; fault = PastRange })
       ≡ codes "not a run at step 2: value passes 128 bits\n"
   pub refusal : run_refusal_text (record { kind = BadReference; at = 24 }) ≡ codes "run refused at 24: BadReference\n"
+  pub syntax : run_refusal_text (record { kind = Syntax; at = 0 }) ≡ codes "run refused at 0: Syntax\n"
+  pub large_number : run_refusal_text (record { kind = NumberTooLarge; at = 17 })
+      ≡ codes "run refused at 17: NumberTooLarge\n"
+  pub other_arity : run_refusal_text (record { kind = ArityDiffers; at = 9 }) ≡ codes "run refused at 9: ArityDiffers\n"
+  pub limit : run_refusal_text (record { kind = Limit; at = 11 }) ≡ codes "run refused at 11: Limit\n"
+  pub most_bytes : run_limit ≡ 67108864
 
 -- a tally of four steps by two rules, of which the second one occurs so often and leads to this absolute value
 abbrev pub tally_with : ℕ → ℕ → Sums
@@ -60,8 +71,8 @@ pub record TalliesAreBounded : Type 0 where
   pub count : ¬ (IsWithinBounds (3 ∷ []) (tally_with 4 2) counting)
   pub greatest : IsWithinBounds (3 ∷ []) (tally_with 3 3) counting
   pub greater : ¬ (IsWithinBounds (3 ∷ []) (tally_with 3 4) counting)
-  pub steps : ¬ (IsWithinBounds (2 ∷ []) (record { steps = 4; counts = 1 ∷ 2 ∷ []; greatest = (2 ∷ []) ∷ (2 ∷ []) ∷ [] })
-      counting)
+  pub steps : ¬ (IsWithinBounds (2 ∷ [])
+      (record { steps = 4; counts = 1 ∷ 2 ∷ []; greatest = (2 ∷ []) ∷ (2 ∷ []) ∷ [] }) counting)
   pub unknown : IsWithinBounds (3 ∷ []) (tally_with 9 9) silent
   pub first : ¬ (IsWithinBounds (2 ∷ []) (tally_with 9 9) silent)
   pub no_times : ¬ (IsWithinBounds (3 ∷ []) four_steps (record counting { times = [] }))

@@ -1,5 +1,6 @@
 use Rattle.its_model.specs.Views.{program_of}
 use Rattle.koat_cli.proofs.Preparing.{behind_program}
+use Rattle.koat_cli.specs.OnTexts.{NoProgram}
 use Rattle.koat_cli.proofs.preparation.replay_of.Goals as goal
 
 pub returns-in-Program-clause-says : goal.returns-in-Program-clause-says
@@ -8,3 +9,6 @@ returns-in-Program-clause-says g c =
     (program_of c.in-Program.program) c.replay_on.result c.in_ok-said.ensures.keeps_files c.in_ok-said.ensures.keeps_count
     (rw c.in-Program.is at c.in_ok-said.ensures.fault) (rw c.in-Program.is at c.in_ok-said.ensures.file).0
     c.replay_on.ensures.says
+
+pub returns-in-Answer-clause-says : goal.returns-in-Answer-clause-says
+returns-in-Answer-clause-says g c = NoProgram (rw c.in-Answer.is at c.in_ok-said.ensures.file)
