@@ -22,3 +22,6 @@ pub mod CombinedLists
 pub mod FaultLists
 pub mod FaultSteps
 pub mod ShownRules
+-- whether a goal follows from rows
+pub mod GoalAnswers
+pub mod GoalProblems

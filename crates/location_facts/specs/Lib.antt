@@ -11,3 +11,4 @@ pub mod Laws
 pub mod Worked
 -- the machinery of the functions inside
 pub mod CombinedRows
+pub mod Replies

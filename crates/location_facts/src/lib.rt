@@ -3,6 +3,7 @@
 //! the same runs (`strengthening_changes_no_run`). Which facts are kept within a number of pivots is said by `Kept`.
 #![tactic(auto)]
 
+mod asking;
 mod checks;
 mod copies;
 mod fact;
