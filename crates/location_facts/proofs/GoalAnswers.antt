@@ -68,82 +68,82 @@ module _ (n : ℕ) (rows : List Form) (goal : Form) (rows-fit : All (λ r. lengt
       ∙ (let e : suc n + 0 ≡ suc n = omega arith in e))
 
   module _ (pivots : ℕ) (numbers : List ℤ) (den : ℕ) (s : IsScaledSolution (goal_program n rows goal) pivots numbers den)
-      where
-    -- there is a number for each row, and one more
-    pub solution-long : length numbers ≡ suc (length rows)
-    solution-long = s.columns ∙ columns-are
+    where
+      -- there is a number for each row, and one more
+      pub solution-long : length numbers ≡ suc (length rows)
+      solution-long = s.columns ∙ columns-are
 
-    -- the multipliers show the goal as often as the denominator says
-    pub solution-follows-by : (ms : List ℕ) (times : ℕ)
-        → ms ≡ listed (length rows) (λ j. nat_abs (at numbers (0 + j))) → times ≡ den → FollowsBy rows goal ms times
-    solution-follows-by ms times e f = record {
-      within = subst (All (λ (k : ℕ). k ≤ certificate_limit)) (sym e)
-          (All-listed (λ k. k ≤ certificate_limit) (length rows) (λ j. nat_abs (at numbers (0 + j)))
-          (λ j l. s.within.each (0 + j) (omega (arith, l, solution-long))));
-      least = subst (λ (k : ℕ). 1 ≤ k) (sym f) (at-least-one den s.solution.denominator);
-      most = subst (λ (k : ℕ). k ≤ certificate_limit) (sym f) s.den_within;
-      shows = subst (λ (k : ℕ). Implies rows ms (form_times (pos k) goal)) (sym f)
-          (subst (λ (ks : List ℕ). Implies rows ks (form_times (pos den) goal)) (sym all)
-          (fixed-follows (multipliers_of (at numbers) rows) (parameters_of (at numbers)) (pos den)
-          (solution-solves (goal_question n rows goal) (at numbers) (pos den) shape s.solution).0));
-    }
-      where
-        all : ms ≡ multipliers_of (at numbers) rows
-        all =
-            e
-            ∙ (listed-agree (length rows) (λ j. nat_abs (at numbers (0 + j))) (λ j. nat_abs (at numbers j))
-            (λ j. ap (λ (k : ℕ). nat_abs (at numbers k)) (let z : 0 + j ≡ j = omega arith in z))
-            ∙ sym (multipliers-listed rows (at numbers)))
+      -- the multipliers show the goal as often as the denominator says
+      pub solution-follows-by : (ms : List ℕ) (times : ℕ)
+          → ms ≡ listed (length rows) (λ j. nat_abs (at numbers (0 + j))) → times ≡ den → FollowsBy rows goal ms times
+      solution-follows-by ms times e f = record {
+        within = subst (All (λ (k : ℕ). k ≤ certificate_limit)) (sym e)
+            (All-listed (λ k. k ≤ certificate_limit) (length rows) (λ j. nat_abs (at numbers (0 + j)))
+            (λ j l. s.within.each (0 + j) (omega (arith, l, solution-long))));
+        least = subst (λ (k : ℕ). 1 ≤ k) (sym f) (at-least-one den s.solution.denominator);
+        most = subst (λ (k : ℕ). k ≤ certificate_limit) (sym f) s.den_within;
+        shows = subst (λ (k : ℕ). Implies rows ms (form_times (pos k) goal)) (sym f)
+            (subst (λ (ks : List ℕ). Implies rows ks (form_times (pos den) goal)) (sym all)
+            (fixed-follows (multipliers_of (at numbers) rows) (parameters_of (at numbers)) (pos den)
+            (solution-solves (goal_question n rows goal) (at numbers) (pos den) shape s.solution).0));
+      }
+        where
+          all : ms ≡ multipliers_of (at numbers) rows
+          all =
+              e
+              ∙ (listed-agree (length rows) (λ j. nat_abs (at numbers (0 + j))) (λ j. nat_abs (at numbers j))
+              (λ j. ap (λ (k : ℕ). nat_abs (at numbers k)) (let z : 0 + j ≡ j = omega arith in z))
+              ∙ sym (multipliers-listed rows (at numbers)))
 
   module _ (pivots : ℕ) (numbers : List ℤ) (den : ℕ) (s : IsScaledDual (goal_program n rows goal) pivots numbers den)
-      where
-    refuted : Refutes (goal_question n rows goal) (elements_of (at numbers) (goal_question n rows goal).groups)
-    refuted = dual-refutes (goal_question n rows goal) (at numbers) shape s.certified
+    where
+      refuted : Refutes (goal_question n rows goal) (elements_of (at numbers) (goal_question n rows goal).groups)
+      refuted = dual-refutes (goal_question n rows goal) (at numbers) shape s.certified
 
-    -- there is a number for each unknown, and one more, which is at least 0
-    pub dual-long : length numbers ≡ suc n
-    dual-long = s.rows ∙ rows-are
+      -- there is a number for each unknown, and one more, which is at least 0
+      pub dual-long : length numbers ≡ suc n
+      dual-long = s.rows ∙ rows-are
 
-    nonneg : pos 0 ≤ℤ at numbers n
-    nonneg = refuted.elements.0.0
+      nonneg : pos 0 ≤ℤ at numbers n
+      nonneg = refuted.elements.0.0
 
-    -- the numbers stand against the goal
-    pub dual-against : (parts : List ℤ) (d : ℕ) → parts ≡ listed n (λ u. at numbers (0 + u))
-        → d ≡ nat_abs (at numbers (0 + n)) → IsAgainst n rows goal parts d
-    dual-against parts d e f = record {
-      long = ap (λ (xs : List ℤ). length xs) e ∙ length-listed n (λ u. at numbers (0 + u));
-      parts_limit = subst (All (λ (a : ℤ). nat_abs a ≤ point_limit)) (sym e)
-          (All-listed (λ a. nat_abs a ≤ point_limit) n (λ u. at numbers (0 + u))
-          (λ u l. s.within.each (0 + u) (omega (arith, l, dual-long))));
-      den_limit = subst (λ (k : ℕ). k ≤ point_limit) (sym f) (s.within.each (0 + n) (omega (arith, dual-long)));
-      meets = record {
-        each = λ k g l. subst (λ (v : ℤ). pos 0 ≤ℤ v) (seen _ (rows-fit k g l)) (refuted.elements.0.1.each k g l);
-      };
-      below = subst (λ (v : ℤ). v <ℤ pos 0) (seen goal goal-fits) (alone _ refuted.below);
-    }
-      where
-        alone : (v : ℤ) → (v +ℤ pos 0) <ℤ pos 0 → v <ℤ pos 0
-        alone v l = omega (arith, ints, l)
+      -- the numbers stand against the goal
+      pub dual-against : (parts : List ℤ) (d : ℕ) → parts ≡ listed n (λ u. at numbers (0 + u))
+          → d ≡ nat_abs (at numbers (0 + n)) → IsAgainst n rows goal parts d
+      dual-against parts d e f = record {
+        long = ap (λ (xs : List ℤ). length xs) e ∙ length-listed n (λ u. at numbers (0 + u));
+        parts_limit = subst (All (λ (a : ℤ). nat_abs a ≤ point_limit)) (sym e)
+            (All-listed (λ a. nat_abs a ≤ point_limit) n (λ u. at numbers (0 + u))
+            (λ u l. s.within.each (0 + u) (omega (arith, l, dual-long))));
+        den_limit = subst (λ (k : ℕ). k ≤ point_limit) (sym f) (s.within.each (0 + n) (omega (arith, dual-long)));
+        meets = record {
+          each = λ k g l. subst (λ (v : ℤ). pos 0 ≤ℤ v) (seen _ (rows-fit k g l)) (refuted.elements.0.1.each k g l);
+        };
+        below = subst (λ (v : ℤ). v <ℤ pos 0) (seen goal goal-fits) (alone _ refuted.below);
+      }
+        where
+          alone : (v : ℤ) → (v +ℤ pos 0) <ℤ pos 0 → v <ℤ pos 0
+          alone v l = omega (arith, ints, l)
 
-        whole : (x : ℤ) → pos 0 ≤ℤ x → pos (nat_abs x) ≡ x
-        whole (pos k) l = refl
-        whole (negsuc k) l = absurd (omega (arith, ints, l))
+          whole : (x : ℤ) → pos 0 ≤ℤ x → pos (nat_abs x) ≡ x
+          whole (pos k) l = refl
+          whole (negsuc k) l = absurd (omega (arith, ints, l))
 
-        den-is : pos d ≡ at numbers n
-        den-is =
-            ap pos (f ∙ ap (λ (k : ℕ). nat_abs (at numbers k)) (let z : 0 + n ≡ n = omega arith in z))
-            ∙ whole (at numbers n) nonneg
+          den-is : pos d ≡ at numbers n
+          den-is =
+              ap pos (f ∙ ap (λ (k : ℕ). nat_abs (at numbers k)) (let z : 0 + n ≡ n = omega arith in z))
+              ∙ whole (at numbers n) nonneg
 
-        part-is : (j : ℕ) → j < n → at numbers j ≡ at parts j
-        part-is j l =
-            ap (at numbers) (let z : j ≡ 0 + j = omega arith in z)
-            ∙ sym (ap (λ (xs : List ℤ). at xs j) e ∙ listed-is n (λ u. at numbers (0 + u)) j (pos 0) l)
+          part-is : (j : ℕ) → j < n → at numbers j ≡ at parts j
+          part-is j l =
+              ap (at numbers) (let z : j ≡ 0 + j = omega arith in z)
+              ∙ sym (ap (λ (xs : List ℤ). at xs j) e ∙ listed-is n (λ u. at numbers (0 + u)) j (pos 0) l)
 
-        seen : (r : Form) → length r.coefs ≤ n → form_value r (at numbers) (at numbers n)
-            ≡ form_value r (at parts) (pos d)
-        seen r l =
-            value-seen r n (at numbers) (at parts) (at numbers n) l part-is
-            ∙ ap (λ (z : ℤ). form_value r (at parts) z) (sym den-is)
+          seen : (r : Form) → length r.coefs ≤ n → form_value r (at numbers) (at numbers n)
+              ≡ form_value r (at parts) (pos d)
+          seen r l =
+              value-seen r n (at numbers) (at parts) (at numbers n) l part-is
+              ∙ ap (λ (z : ℤ). form_value r (at parts) z) (sym den-is)
 
   -- where a point or a ray of the rows has the goal below 0, its program has no solution
   pub against-excludes : (z : ℕ → ℤ) (e : ℤ) → pos 0 ≤ℤ e → Meets rows z e → form_value goal z e <ℤ pos 0

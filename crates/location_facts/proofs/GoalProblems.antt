@@ -71,7 +71,7 @@ module _ (n : ℕ) (rows : List Row) (goal : Row) (writable : All (λ r. IsWrita
       → ns ≡ s.numbers.items → k ≡ length rows → 0 + k ≤ length ns
   goal-room s ns k h e f =
       let l = solution-long n (map form_of rows) (form_of goal) (rows-fit n rows writable) fits.fits pivots
-          s.numbers.items s.den (moved (Solution s) h) in
+      s.numbers.items s.den (moved (Solution s) h) in
       omega (arith, l, ap (λ (xs : List ℤ). length xs) e, f, length-map rows form_of)
 
   -- the denominator is within the limit
@@ -98,7 +98,7 @@ module _ (n : ℕ) (rows : List Row) (goal : Row) (writable : All (λ r. IsWrita
       → ns ≡ s.numbers.items → 0 + n < length ns
   against-room s ns h e =
       let l = dual-long n (map form_of rows) (form_of goal) (rows-fit n rows writable) fits.fits pivots
-          s.numbers.items s.den (moved (Dual s) h) in
+      s.numbers.items s.den (moved (Dual s) h) in
       omega (arith, l, ap (λ (xs : List ℤ). length xs) e)
 
   -- a point or a ray stands against the goal

@@ -12,3 +12,4 @@ pub mod Worked
 -- the machinery of the functions inside
 pub mod CombinedRows
 pub mod Replies
+pub mod Implied

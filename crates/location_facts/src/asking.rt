@@ -61,12 +61,7 @@ pub(crate) fn ask(
 }
 
 // The problem that asks whether a goal follows from rows.
-fn goal_problem(
-    alloc: Global,
-    unknowns: u32,
-    rows: &[Row],
-    goal: &Row,
-) -> Result<Problem, Memory>
+fn goal_problem(alloc: Global, unknowns: u32, rows: &[Row], goal: &Row) -> Result<Problem, Memory>
     requires few_unknowns { unknowns + 1 < 2 ^ 31 }
     requires few_rows { length rows.now + 1 < 2 ^ 31 }
     requires rows { All (λ r. IsWritable unknowns (form_of r)) rows.now }

@@ -4,10 +4,12 @@
 #![tactic(auto)]
 
 mod asking;
+mod candidates;
 mod checks;
 mod copies;
 mod fact;
 mod faults;
+mod implied;
 mod laws;
 mod rows;
 mod strengthening;
