@@ -11,6 +11,7 @@ mod fact;
 mod faults;
 mod implied;
 mod laws;
+mod rounds;
 mod rows;
 mod strengthening;
 
@@ -20,4 +21,5 @@ pub use laws::{
     answers_tell_implied, candidates_are_listed, facts_are_as_worked_out, kept_facts_are_one,
     proved_facts_hold, strengthening_changes_no_run,
 };
+pub use rounds::facts;
 pub use strengthening::strengthen;
