@@ -4,11 +4,15 @@
 //! same runs (`strengthening_changes_no_run`). Which facts are kept within a number of pivots is said by `Kept`.
 #![tactic(auto)]
 
+mod asking;
+mod candidates;
 mod checks;
 mod copies;
 mod fact;
 mod faults;
+mod implied;
 mod laws;
+mod rounds;
 mod rows;
 mod strengthening;
 
@@ -19,4 +23,5 @@ pub use laws::{
     faults_are_decided, kept_facts_are_as_worked_out, kept_facts_are_one, proved_facts_hold,
     strengthening_changes_no_run,
 };
+pub use rounds::facts;
 pub use strengthening::strengthen;
