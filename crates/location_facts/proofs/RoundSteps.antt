@@ -1,5 +1,6 @@
 -- The next list of facts and its proofs, one fact and one rule after the other.
-use Rattle.std.proofs.Common.{◌≡◌, ◌⊎◌, inl, inr, ℕ, zero, suc, ◌+◌, ◌<◌, ◌≤◌, refl, sym, ap, ◌∙◌, arith, subst, List, [], ◌∷◌}
+use Rattle.std.proofs.Common.{◌≡◌, ◌⊎◌, inl, inr, ℕ, zero, suc, ◌+◌, ◌<◌, ◌≤◌, refl, sym, ap, ◌∙◌, arith, subst, List}
+use Rattle.std.proofs.Common.{[], ◌∷◌}
 use Rattle.std.proofs.Common.{◌++◌, length, length-append, get_or, Option, Some, None, true}
 use Rattle.std.specs.Prelude.{slice_get}
 use Rattle.std.specs.List.{All, Contains, range_with_len}
@@ -15,7 +16,8 @@ use Rattle.location_facts.specs.declared.fact.LocFact.{LocFact}
 use Rattle.location_facts.specs.declared.fact.FactProof.{FactProof}
 use Rattle.location_facts.specs.Candidates.{IsCandidate, order_number}
 use Rattle.location_facts.specs.Certificates.{IsWithinLimit}
-use Rattle.location_facts.specs.Faults.{number_in, least_number, StandsAt, IsRight, AreRight, rules_into, IsProofFor, ShowsFact}
+use Rattle.location_facts.specs.Faults.{number_in, least_number, StandsAt, IsRight, AreRight, rules_into, IsProofFor}
+use Rattle.location_facts.specs.Faults.{ShowsFact}
 use Rattle.location_facts.specs.Faults.{ProofsShow, AreProved}
 use Rattle.location_facts.specs.Implied.{Ascend, AreInOrder, HasProofs, AreProofsUnder, AreImplied}
 use Rattle.location_facts.specs.Kept.{IsImplied, IsImpliedByAll, HasThose, IsNext, EndsWith, Stays, GoesOn}

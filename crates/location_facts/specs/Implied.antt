@@ -1,5 +1,6 @@
 -- Rules under a list of facts, and what is told of facts and rules on the way to the next list.
-use Rattle.std.specs.Prelude.{◌≡◌, ◌⊎◌, ⊤, ℕ, suc, ◌<◌, ◌≤◌, List, [], ◌∷◌, ◌++◌, length, map, Vec, Option, Some, None, slice_get}
+use Rattle.std.specs.Prelude.{◌≡◌, ◌⊎◌, ⊤, ℕ, suc, ◌<◌, ◌≤◌, List, [], ◌∷◌, ◌++◌, length, map, Vec, Option, Some, None}
+use Rattle.std.specs.Prelude.{slice_get}
 use Rattle.std.specs.declared.alloc.Global.{Global}
 use Rattle.std.specs.List.{All}
 use Rattle.poly_terms.specs.linear_forms.Certificates.{Implies, minus_one}
@@ -31,7 +32,8 @@ TellsEmpty pivots unknowns rows (Some multipliers) =
 -- point, and that of the goal
 abbrev pub IsGoalImplied : ℕ → ℕ → List Form → Form → Type 0
 IsGoalImplied pivots unknowns rows goal =
-    IsSolvedWithin pivots (goal_program unknowns rows minus_one) ⊎ IsSolvedWithin pivots (goal_program unknowns rows goal)
+    IsSolvedWithin pivots (goal_program unknowns rows minus_one)
+        ⊎ IsSolvedWithin pivots (goal_program unknowns rows goal)
 
 -- the goal is implied, and a proof within the limit shows it; or it isn't implied
 abbrev pub TellsGoal : ℕ → ℕ → List Form → Form → Option FactProof → Type 0
@@ -52,12 +54,13 @@ pub record AreUnder (p : Program) (pivots : ℕ) (kept : List LocFact) (us : Lis
   pub each : (i : ℕ) (u : Under) (r : Rule) → slice_get us i ≡ Some u → slice_get p.rules i ≡ Some r
       → IsUnder pivots (forms_in (Some r)) kept u
 
--- every rule into its symbol implies a fact under a list, and there is a proof for each that shows it, within the limit;
--- or one of them doesn't imply it
+-- every rule into its symbol implies a fact under a list, and there is a proof for each that shows it, within the
+-- limit; or one of them doesn't imply it
 abbrev pub TellsProofs : Program → ℕ → List LocFact → LocFact → Option (Vec FactProof Global) → Type 0
 TellsProofs p pivots kept f None = ¬ IsImpliedByAll p pivots kept f
 TellsProofs p pivots kept f (Some proofs) =
-    IsImpliedByAll p pivots kept f × (length proofs.items ≡ length (rules_into p f.symbol)) × All IsWithinLimit proofs.items
+    IsImpliedByAll p pivots kept f × (length proofs.items ≡ length (rules_into p f.symbol))
+        × All IsWithinLimit proofs.items
     × ProofsShow p kept f proofs.items (length proofs.items)
 
 -- facts that are tried, in their order, each once: each has a number over that of the one before, the first at least k
@@ -89,7 +92,8 @@ pub record AreImplied (p : Program) (pivots : ℕ) (kept : List LocFact) (f : Lo
     : Type 0 where
   pub numbers : All IsWithinLimit proofs
   pub shown : ProofsShow p kept f proofs n
-  pub implied : (k t : ℕ) → k < n → slice_get (rules_into p f.symbol) k ≡ Some t → IsImplied pivots (forms_at p t) kept f
+  pub implied : (k t : ℕ) → k < n → slice_get (rules_into p f.symbol) k ≡ Some t
+      → IsImplied pivots (forms_at p t) kept f
 
 -- a fact that has proofs stands with them behind those that were there; one that has none doesn't
 abbrev pub IsPushed : LocFact → Option (Vec FactProof Global) → List LocFact → List LocFact

@@ -26,8 +26,8 @@ pub(crate) enum Reply {
     Tripped,
 }
 
-/// Whether a goal follows from rows over so many unknowns: `Follows` comes exactly where the linear program that asks it
-/// has a solution and nothing trips it within so many pivots.
+/// Whether a goal follows from rows over so many unknowns: `Follows` comes exactly where the linear program that asks
+/// it has a solution and nothing trips it within so many pivots.
 ///
 /// # Errors
 ///
