@@ -20,41 +20,40 @@ use Rattle.location_facts.proofs.RoundSteps.{between-ascend, proofs-pushed, prov
 abbrev pub lists_of : List (Vec FactProof Global) → List (List FactProof)
 lists_of lists = map (λ (v : Vec FactProof Global). v.items) lists
 
-module _ (p : Program) (pivots : ℕ) (kept : List LocFact) (n : ℕ) (f : LocFact) (l : n < length kept)
-    (at-f : f ≡ get_or kept n f) where
+module _ (p : Program) (pivots : ℕ) (kept : List LocFact) (n : ℕ) (d : LocFact) (l : n < length kept) where
   -- the facts up to this one
-  one-more : take (n + 1) kept ≡ take n kept ++ f ∷ []
-  one-more = take_more kept n f l ∙ ap (λ (g : LocFact). take n kept ++ g ∷ []) (sym at-f)
+  one-more : take (n + 1) kept ≡ take n kept ++ get_or kept n d ∷ []
+  one-more = take_more kept n d l
 
   -- those that are implied, one more
   pub next-pushed : (o : Option (Vec FactProof Global)) (found new : List LocFact)
       (lists new_lists : List (Vec FactProof Global))
-      → HasThose (IsImpliedByAll p pivots kept) (take n kept) found → TellsProofs p pivots kept f o
-      → IsPushed f o found new lists new_lists → HasThose (IsImpliedByAll p pivots kept) (take (n + 1) kept) new
+      → HasThose (IsImpliedByAll p pivots kept) (take n kept) found → TellsProofs p pivots kept (get_or kept n d) o
+      → IsPushed (get_or kept n d) o found new lists new_lists → HasThose (IsImpliedByAll p pivots kept) (take (n + 1) kept) new
   next-pushed None found new lists new_lists h not (same, same_lists) =
       subst (λ (fs : List LocFact). HasThose (IsImpliedByAll p pivots kept) fs new) (sym one-more)
-      (subst (HasThose (IsImpliedByAll p pivots kept) (take n kept ++ f ∷ [])) (sym same)
-      (those-passed (IsImpliedByAll p pivots kept) (take n kept) found f h not))
+      (subst (HasThose (IsImpliedByAll p pivots kept) (take n kept ++ get_or kept n d ∷ [])) (sym same)
+      (those-passed (IsImpliedByAll p pivots kept) (take n kept) found (get_or kept n d) h not))
   next-pushed (Some v) found new lists new_lists h told (same, same_lists) =
       subst (λ (fs : List LocFact). HasThose (IsImpliedByAll p pivots kept) fs new) (sym one-more)
-      (subst (HasThose (IsImpliedByAll p pivots kept) (take n kept ++ f ∷ [])) (sym same)
-      (those-kept (IsImpliedByAll p pivots kept) (take n kept) found f h told.0))
+      (subst (HasThose (IsImpliedByAll p pivots kept) (take n kept ++ get_or kept n d ∷ [])) (sym same)
+      (those-kept (IsImpliedByAll p pivots kept) (take n kept) found (get_or kept n d) h told.0))
 
   -- and their proofs
   pub shown-pushed : (o : Option (Vec FactProof Global)) (found new : List LocFact)
       (lists new_lists : List (Vec FactProof Global)) → AreProofsUnder p kept found (lists_of lists)
-      → TellsProofs p pivots kept f o → IsPushed f o found new lists new_lists
+      → TellsProofs p pivots kept (get_or kept n d) o → IsPushed (get_or kept n d) o found new lists new_lists
       → AreProofsUnder p kept new (lists_of new_lists)
   shown-pushed None found new lists new_lists h not (same, same_lists) =
       subst (λ (fs : List LocFact). AreProofsUnder p kept fs (lists_of new_lists)) (sym same)
       (subst (λ (vs : List (Vec FactProof Global)). AreProofsUnder p kept found (lists_of vs)) (sym same_lists) h)
   shown-pushed (Some v) found new lists new_lists h told (same, same_lists) =
       subst (λ (fs : List LocFact). AreProofsUnder p kept fs (lists_of new_lists)) (sym same)
-      (subst (λ (vs : List (Vec FactProof Global)). AreProofsUnder p kept (found ++ f ∷ []) (lists_of vs))
+      (subst (λ (vs : List (Vec FactProof Global)). AreProofsUnder p kept (found ++ get_or kept n d ∷ []) (lists_of vs))
       (sym same_lists)
-      (subst (AreProofsUnder p kept (found ++ f ∷ []))
+      (subst (AreProofsUnder p kept (found ++ get_or kept n d ∷ []))
       (sym (map-append (λ (w : Vec FactProof Global). w.items) lists (v ∷ [])))
-      (proofs-pushed p kept found (lists_of lists) f v.items h
+      (proofs-pushed p kept found (lists_of lists) (get_or kept n d) v.items h
       (record { one_each = told.1; numbers = told.2; shown = told.3 }))))
 
 -- the first list is in order

@@ -188,6 +188,7 @@ pub writable-here : (p : plain.Program) (preps : List RuleRows) (i : ℕ) (m : R
     (kept : List LocFact) → IsValid p → AreRowsOf preps p → slice_get preps i ≡ Some m → slice_get p.rules i ≡ Some r
     → AreInOrder p kept
     → All (IsWritable m.unknowns) (map form_of m.rows.items ++ map row_before (facts_at r.source kept))
+unfolding prepared-here
 writable-here p preps i m r kept valid rows e there ordered =
     combined-writable p (suc i) r m (prepared-here p preps i m r valid rows e there) kept valid there refl
     (ascend-tried p 0 kept ordered)

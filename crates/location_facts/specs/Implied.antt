@@ -33,7 +33,7 @@ TellsEmpty pivots unknowns rows (Some multipliers) =
 abbrev pub IsGoalImplied : ℕ → ℕ → List Form → Form → Type 0
 IsGoalImplied pivots unknowns rows goal =
     IsSolvedWithin pivots (goal_program unknowns rows minus_one)
-        ⊎ IsSolvedWithin pivots (goal_program unknowns rows goal)
+    ⊎ IsSolvedWithin pivots (goal_program unknowns rows goal)
 
 -- the goal is implied, and a proof within the limit shows it; or it isn't implied
 abbrev pub TellsGoal : ℕ → ℕ → List Form → Form → Option FactProof → Type 0
@@ -60,7 +60,7 @@ abbrev pub TellsProofs : Program → ℕ → List LocFact → LocFact → Option
 TellsProofs p pivots kept f None = ¬ IsImpliedByAll p pivots kept f
 TellsProofs p pivots kept f (Some proofs) =
     IsImpliedByAll p pivots kept f × (length proofs.items ≡ length (rules_into p f.symbol))
-        × All IsWithinLimit proofs.items
+    × All IsWithinLimit proofs.items
     × ProofsShow p kept f proofs.items (length proofs.items)
 
 -- facts that are tried, in their order, each once: each has a number over that of the one before, the first at least k

@@ -1,6 +1,7 @@
 use Rattle.std.proofs.Common.{◌≡◌, arith, List, length, subst, sym}
 use Rattle.its_model.specs.Views.{program_of}
 use Rattle.location_facts.specs.declared.fact.LocFact.{LocFact}
+use Rattle.location_facts.specs.Faults.{proofs_of}
 use Rattle.location_facts.specs.Implied.{AreProofsUnder}
 use Rattle.location_facts.specs.Kept.{IsImpliedByAll, IsNext, EndsWith, GoesOn}
 use Rattle.location_facts.proofs.KeptLists.{those-most}
@@ -35,20 +36,22 @@ loop-kept-smaller c =
     c.loop-kept.kept.items c.in_ok-found.found.kept.items next in
     omega (arith, most)
 
-pub returns-clause-kept : goal.returns-clause-kept
-returns-clause-kept c =
+pub returns-then-len-clause-kept : goal.returns-then-len-clause-kept
+returns-then-len-clause-kept c =
     let next : IsNext (program_of c.args.p.now) c.args.pivots c.loop-kept.kept.items c.in_ok-found.found.kept.items =
     subst (λ (fs : List LocFact). IsNext (program_of c.args.p.now) c.args.pivots fs c.in_ok-found.found.kept.items)
     c.deref.ensures.value c.in_ok-found.ensures.next in
     ends-here (program_of c.args.p.now) c.args.pivots c.loop-kept.kept.items c.in_ok-found.found.kept.items next
     (omega arith) c.loop-kept.invariant.ends
 
-pub returns-clause-proved : goal.returns-clause-proved
-returns-clause-proved c =
+pub returns-then-len-clause-proved : goal.returns-then-len-clause-proved
+returns-then-len-clause-proved c =
     let next : IsNext (program_of c.args.p.now) c.args.pivots c.loop-kept.kept.items c.in_ok-found.found.kept.items =
     subst (λ (fs : List LocFact). IsNext (program_of c.args.p.now) c.args.pivots fs c.in_ok-found.found.kept.items)
     c.deref.ensures.value c.in_ok-found.ensures.next in
-    proved-here (program_of c.args.p.now) c.args.pivots c.loop-kept.kept.items c.in_ok-found.found.kept.items _ next
+    proved-here (program_of c.args.p.now) c.args.pivots c.loop-kept.kept.items c.in_ok-found.found.kept.items
+    (proofs_of c.in_ok-found.found) next
     (omega arith) c.loop-kept.invariant.ordered
-    (subst (λ (fs : List LocFact). AreProofsUnder (program_of c.args.p.now) fs c.in_ok-found.found.kept.items _)
+    (subst (λ (fs : List LocFact). AreProofsUnder (program_of c.args.p.now) fs c.in_ok-found.found.kept.items
+    (proofs_of c.in_ok-found.found))
     c.deref.ensures.value c.in_ok-found.ensures.proofs)

@@ -22,11 +22,11 @@ loop-fact-preserved c =
     (c.in_ok-unders.ensures {u = tt})) in
     record {
       next = next-pushed (program_of c.args.p.now) c.args.pivots c.args.kept.now c.loop-fact.fact-index
-          c.fact-item.result c.loop-fact-test.true c.fact-item.is c.in_ok-shown.shown c.loop-fact.found.items
+          _ c.loop-fact-test.true c.in_ok-shown.shown c.loop-fact.found.items
           c.push_shown.new.found.items c.loop-fact.proofs.items c.push_shown.new.proofs.items
           c.loop-fact.invariant.next told (c.in_ok-push_shown.ensures {u = tt});
       shown = shown-pushed (program_of c.args.p.now) c.args.pivots c.args.kept.now c.loop-fact.fact-index
-          c.fact-item.result c.loop-fact-test.true c.fact-item.is c.in_ok-shown.shown c.loop-fact.found.items
+          _ c.loop-fact-test.true c.in_ok-shown.shown c.loop-fact.found.items
           c.push_shown.new.found.items c.loop-fact.proofs.items c.push_shown.new.proofs.items
           c.loop-fact.invariant.shown told (c.in_ok-push_shown.ensures {u = tt});
     }

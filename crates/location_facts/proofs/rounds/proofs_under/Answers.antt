@@ -1,5 +1,4 @@
 use Rattle.std.proofs.Common.{◌≡◌, ℕ, ◌+◌, ap, arith, ◌∙◌, List, length, Option, subst, sym}
-
 use Rattle.its_model.specs.Views.{program_of}
 use Rattle.rule_questions.specs.ProgramQuestions.{forms_at}
 use Rattle.location_facts.specs.declared.fact.FactProof.{FactProof}
@@ -71,7 +70,7 @@ returns-in-None c = λ kept are.
     c.index-preps-rule.result c.index-unders-rule.result c.args.fact _ c.requires.rows within c.index-preps-rule.is
     (under-read (program_of c.args.p.now) c.args.pivots kept c.args.unders.now c.index-rule.result.now
     c.index-unders-rule.result within are c.index-unders-rule.is)
-    (c.in_ok-proof_under.ensures {u = tt})))
+    (c.in_ok-proof.ensures {u = tt})))
 
 pub loop-k-preserved : goal.loop-k-preserved
 loop-k-preserved c =
@@ -79,10 +78,10 @@ loop-k-preserved c =
     c.in_ok-into.into.items (c.in_ok-into.ensures {u = tt}) (omega arith) c.index-rule.ensures) in
     record {
       many = proofs-longer c.loop-k.proofs.items c.push.new.self.items c.in-Some.proof c.loop-k.k
-          c.loop-k.invariant.many c.in_ok-push.ensures.items;
+          c.loop-k.invariant.many c.in_ok-push-in-Some.ensures.items;
       implied = λ kept are.
           subst (λ (ps : List FactProof). AreImplied (program_of c.args.p.now) c.args.pivots kept c.args.fact ps
-          (c.loop-k.k + 1)) (sym c.in_ok-push.ensures.items)
+          (c.loop-k.k + 1)) (sym c.in_ok-push-in-Some.ensures.items)
           (implied-read (program_of c.args.p.now) c.args.pivots kept c.args.fact c.loop-k.proofs.items c.loop-k.k
           c.index-rule.result.now c.in-Some.proof c.in_ok-into.into.items (c.in_ok-into.ensures {u = tt}) (omega arith)
           c.index-rule.ensures (c.loop-k.invariant.implied kept are) c.loop-k.invariant.many
@@ -95,7 +94,7 @@ loop-k-preserved c =
           c.index-preps-rule.is
           (under-read (program_of c.args.p.now) c.args.pivots kept c.args.unders.now c.index-rule.result.now
           c.index-unders-rule.result within are c.index-unders-rule.is)
-          (c.in_ok-proof_under.ensures {u = tt}))));
+          (c.in_ok-proof.ensures {u = tt}))));
     }
 
 pub returns : goal.returns
