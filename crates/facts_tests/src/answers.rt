@@ -6,7 +6,7 @@ ghost use Rattle.its_model.specs.Views.{program_of};
 use crate::listed::listed_facts;
 use crate::programs::{all_rows, program, text_of};
 use its_model::Program;
-use location_facts::{LocFacts, facts_fault, strengthen};
+use location_facts::{LocFacts, facts, facts_fault, strengthen};
 use model::Memory;
 use std::alloc::Global;
 
@@ -14,7 +14,8 @@ use std::alloc::Global;
 ///
 /// `faults` is answered by what is wrong first with the facts: `nothing`, or the number of a fact and of a rule.
 /// `strengthened` is answered by the canonical text of the program that is strengthened by them, with `/` for a line
-/// feed, where nothing is wrong with them.
+/// feed, where nothing is wrong with them. `kept` has a number of pivots in place of facts, and is answered by how many
+/// facts are kept within it, and by what is wrong first with them.
 pub(crate) fn answer(alloc: Global, line: &str) -> Result<String, Memory> {
     let Some((call, rest)) = line.split_once(' ') else {
         return String::from_str(alloc, line);
@@ -22,12 +23,12 @@ pub(crate) fn answer(alloc: Global, line: &str) -> Result<String, Memory> {
     let Some((facts, rules)) = rest.split_once(';') else {
         return String::from_str(alloc, line);
     };
-    let facts = listed_facts(alloc, facts)?;
     match program(alloc, rules)? {
         None => String::from_str(alloc, "not read"),
         Some(p) => match call {
-            "faults" => fault_text(alloc, &p, &facts),
-            "strengthened" => strengthened_text(alloc, &p, &facts),
+            "faults" => fault_text(alloc, &p, &listed_facts(alloc, facts)?),
+            "strengthened" => strengthened_text(alloc, &p, &listed_facts(alloc, facts)?),
+            "kept" => kept_text(alloc, &p, facts.trim().parse::<u32>().unwrap_or(0)),
             _ => String::from_str(alloc, "no call"),
         },
     }
@@ -51,4 +52,13 @@ fn strengthened_text(alloc: Global, p: &Program, facts: &LocFacts) -> Result<Str
         None => text_of(alloc, &strengthen(alloc, p, facts)?),
         Some(_) => String::from_str(alloc, "something is wrong"),
     }
+}
+
+// How many facts are kept within a number of pivots, and what is wrong first with them.
+fn kept_text(alloc: Global, p: &Program, pivots: u32) -> Result<String, Memory>
+    requires { IsValid (program_of p.now) }
+{
+    let found = facts(alloc, p, &all_rows(alloc, p)?, pivots)?;
+    let fault = fault_text(alloc, p, &found)?;
+    format!(in alloc; "{}, {fault} wrong", found.kept.len())
 }

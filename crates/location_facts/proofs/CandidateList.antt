@@ -1,5 +1,6 @@
 -- The list of the facts that are tried has each of them, in order, and no others.
-use Rattle.std.proofs.Common.{◌≡◌, ◌≢◌, ◌⊎◌, inl, inr, ℕ, zero, suc, ◌+◌, ◌*◌, ◌<◌, ◌≤◌, refl, arith, subst, ap, ◌∙◌, eq-eqb}
+use Rattle.std.proofs.Common.{◌≡◌, ◌≢◌, ◌⊎◌, inl, inr, ℕ, zero, suc, ◌+◌, ◌*◌, ◌<◌, ◌≤◌, refl, arith, subst, ap, ◌∙◌}
+use Rattle.std.proofs.Common.{eq-eqb}
 use Rattle.std.proofs.Common.{List, [], ◌∷◌, ◌++◌, length, Bool, true, false, if◌then◌else◌, Some}
 use Rattle.std.specs.Prelude.{ℤ, pos, negsuc, ◌≤ℤ◌, nat_eq, slice_get}
 use Rattle.std.specs.List.{Contains, range_with_len}
@@ -15,12 +16,12 @@ use Rattle.location_facts.specs.Candidates.{candidates_at, candidates_among, can
 use Rattle.location_facts.specs.Laws.{CandidatesAreListed}
 
 -- facts that are tried, each with a number over that of the one before, from k on and below n
-abbrev Between : Program → ℕ → ℕ → List LocFact → Type 0
+abbrev pub Between : Program → ℕ → ℕ → List LocFact → Type 0
 Between p k n [] = k ≤ n
 Between p k n (f ∷ facts) = IsCandidate p f × (k ≤ order_number f) × Between p (suc (order_number f)) n facts
 
 -- they are so from less on, and below more
-lower : (p : Program) (j k n : ℕ) (facts : List LocFact) → j ≤ k → Between p k n facts → Between p j n facts
+pub lower : (p : Program) (j k n : ℕ) (facts : List LocFact) → j ≤ k → Between p k n facts → Between p j n facts
 lower p j k n [] l h = omega (arith, l, h)
 lower p j k n (f ∷ facts) l (c, m, h) = (c, omega (arith, l, m), h)
 
@@ -140,7 +141,7 @@ among-between p (suc n) a m =
     (candidates_among p (range_with_len (a + 1) n)) (omega arith) (among-between p n (a + 1) (omega (arith, m))))
 
 -- such facts are tried, and in order
-each-tried : (p : Program) (k n : ℕ) (facts : List LocFact) (i : ℕ) (f : LocFact) → Between p k n facts
+pub each-tried : (p : Program) (k n : ℕ) (facts : List LocFact) (i : ℕ) (f : LocFact) → Between p k n facts
     → slice_get facts i ≡ Some f → IsCandidate p f × (k ≤ order_number f)
 each-tried p k n [] i f h e = absurd (let no : ⊥ = cc in no)
 each-tried p k n (g ∷ facts) zero f (c, l, h) e =
@@ -148,7 +149,7 @@ each-tried p k n (g ∷ facts) zero f (c, l, h) e =
 each-tried p k n (g ∷ facts) (suc i) f (c, l, h) e =
     let t = each-tried p (suc (order_number g)) n facts i f h e in (t.0, omega (arith, l, t.1))
 
-in-order : (p : Program) (k n : ℕ) (facts : List LocFact) (i : ℕ) (f g : LocFact) → Between p k n facts
+pub in-order : (p : Program) (k n : ℕ) (facts : List LocFact) (i : ℕ) (f g : LocFact) → Between p k n facts
     → slice_get facts i ≡ Some f → slice_get facts (suc i) ≡ Some g → order_number f < order_number g
 in-order p k n [] i f g h e m = absurd (let no : ⊥ = cc in no)
 in-order p k n (x ∷ facts) zero f g (c, l, h) e m =
@@ -238,7 +239,7 @@ in-among p f (suc n) a l m h =
         (subst (λ (x : ℕ). Contains (candidates_at p x) f) (let same : f.symbol ≡ a = omega (arith, l, k) in same) h)
 
 -- all facts that are tried are between 0 and the number behind the last symbol
-all-between : (p : Program) → Between p (0 * 243) ((0 + length p.symbols) * 243) (candidates p)
+pub all-between : (p : Program) → Between p (0 * 243) ((0 + length p.symbols) * 243) (candidates p)
 all-between p = among-between p (length p.symbols) 0 (omega arith)
 
 -- the list of the facts that are tried has each of them, in order, and no others

@@ -9,15 +9,11 @@ use Rattle.location_facts.specs.declared.fact.LocFact.{LocFact}
 use Rattle.location_facts.specs.declared.fact.FactProof.{FactProof}
 use Rattle.location_facts.specs.Candidates.{IsCandidate, order_number}
 use Rattle.location_facts.specs.Faults.{number_in, StandsAt, IsRight, AreRight}
+use Rattle.location_facts.specs.Implied.{Ascend}
 use Rattle.location_facts.specs.Rows.{facts_at}
 
--- facts that are tried, each with a number over that of the one before, the first with at least k
-abbrev pub Ascend : Program → ℕ → List LocFact → Type 0
-Ascend p k [] = ⊤
-Ascend p k (f ∷ kept) = IsCandidate p f × (k ≤ order_number f) × Ascend p (suc (order_number f)) kept
-
 -- the least number at a position, where the first has at least k
-abbrev least_from : ℕ → List LocFact → ℕ → ℕ
+abbrev pub least_from : ℕ → List LocFact → ℕ → ℕ
 least_from k kept zero = k
 least_from k kept (suc i) = suc (number_in (slice_get kept i))
 
@@ -65,7 +61,7 @@ number-high p f s c e =
     go a s i j n m e l h k = omega (arith, e, l, h, k)
 
 -- so there are at most 243 facts of a symbol, and fewer where the first has a greater number
-few-from : (p : Program) (s k : ℕ) (kept : List LocFact) → Ascend p k kept
+pub few-from : (p : Program) (s k : ℕ) (kept : List LocFact) → Ascend p k kept
     → (length (facts_at s kept) ≤ 243) × (length (facts_at s kept) ≤ s * 243 + 243 - k)
 few-from p s k [] h = (omega arith, omega arith)
 few-from p s k (f ∷ kept) (c, l, rest) =

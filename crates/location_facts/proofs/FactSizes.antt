@@ -1,5 +1,6 @@
 -- The combined rows of a rule are small enough for certificates, and so are the goals of facts.
-use Rattle.std.proofs.Common.{◌≡◌, ℕ, zero, suc, ◌+◌, ◌*◌, ◌^◌, ◌<◌, ◌≤◌, ◌⊎◌, inl, inr, ap, refl, sym, ◌∙◌, subst, arith}
+use Rattle.std.proofs.Common.{◌≡◌, ℕ, zero, suc, ◌+◌, ◌*◌, ◌^◌, ◌<◌, ◌≤◌, ◌⊎◌, inl, inr, ap, refl, sym, ◌∙◌, subst}
+use Rattle.std.proofs.Common.{arith}
 use Rattle.std.proofs.Common.{List, [], ◌∷◌, ◌++◌, length, map}
 use Rattle.std.specs.Prelude.{ℤ, pos, negsuc, unsigned_abs, ◌+ℤ◌, ◌-ℤ◌, ◌*ℤ◌, ◌≤ℤ◌}
 use Rattle.std.specs.List.{All}
@@ -72,7 +73,7 @@ less-few a b l m = go a b (unsigned_abs a) (unsigned_abs b) refl refl l m
     go a b m n e f g h = omega (arith, ints, e, f, g, h)
 
 -- a coefficient of a fact
-fact-coef : (f : LocFact) (u : ℕ) → unsigned_abs (at (row_before f).coefs u) ≤ 2
+pub fact-coef : (f : LocFact) (u : ℕ) → unsigned_abs (at (row_before f).coefs u) ≤ 2
 fact-coef f u =
     subst (λ (z : ℤ). unsigned_abs z ≤ 2)
     (sym (at-sum (value_before f.plus).coefs (opposite (value_before f.minus)).coefs u
@@ -85,7 +86,7 @@ place-constant : (i : ℕ) → (value_before i).constant ≡ pos 0
 place-constant zero = refl
 place-constant (suc i) = refl
 
-fact-constant : (f : LocFact) → (negsuc 0 ≤ℤ f.least) × (f.least ≤ℤ pos 1) → unsigned_abs (row_before f).constant ≤ 2
+pub fact-constant : (f : LocFact) → (negsuc 0 ≤ℤ f.least) × (f.least ≤ℤ pos 1) → unsigned_abs (row_before f).constant ≤ 2
 fact-constant f (l, h) =
     go (value_before f.plus).constant (value_before f.minus).constant f.least (place-constant f.plus)
     (place-constant f.minus) l h

@@ -21,6 +21,20 @@ pub mod CombinedLists
 pub mod FaultLists
 pub mod FaultSteps
 pub mod ShownRules
+-- whether a goal follows from rows
+pub mod GoalAnswers
+pub mod GoalProblems
+-- the facts that are tried as loops make them, and lists of facts round by round
+pub mod CandidateLoops
+pub mod KeptLists
+-- facts that rules imply under a list
+pub mod ImpliedLaws
+pub mod Writable
+-- the next list, one fact and one rule after the other
+pub mod RoundSteps
+pub mod UnderRules
+pub mod NextFacts
+pub mod ProofSteps
 pub mod FirstFaults
 -- values that were worked out by hand
 pub mod WorkedFacts

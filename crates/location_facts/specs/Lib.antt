@@ -13,3 +13,5 @@ pub mod WorkedFaults
 pub mod WorkedKept
 -- the machinery of the functions inside
 pub mod CombinedRows
+pub mod Replies
+pub mod Implied

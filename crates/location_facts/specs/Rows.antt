@@ -5,8 +5,8 @@ use Rattle.poly_terms.specs.linear_forms.Combinations.{zero_form, less}
 use Rattle.poly_terms.specs.linear_forms.RuleQuestions.{RuleForms, unknown_form}
 use Rattle.location_facts.specs.declared.fact.LocFact.{LocFact}
 
--- the value at a place before a rule: places count from 1 and have the rule's left variables, and place 0 stands for the
--- number 0
+-- the value at a place before a rule: places count from 1 and have the rule's left variables, and place 0 stands for
+-- the number 0
 abbrev pub value_before : ℕ → Form
 value_before zero = zero_form
 value_before (suc i) = unknown_form i

@@ -1,5 +1,6 @@
 -- A program whose guards say, too, which facts hold at the sources of its rules.
-use Rattle.std.specs.Prelude.{ℕ, zero, suc, ◌+◌, ◌-◌, ◌&&◌, nat_eq, if◌then◌else◌, List, [], ◌∷◌, ◌++◌, map, take, length}
+use Rattle.std.specs.Prelude.{ℕ, zero, suc, ◌+◌, ◌-◌, ◌&&◌, nat_eq, if◌then◌else◌, List, [], ◌∷◌, ◌++◌, map, take}
+use Rattle.std.specs.Prelude.{length}
 use Rattle.std.specs.Prelude.{Option, Some, None, ℤ, pos, int_lt}
 use Rattle.std.specs.List.{range_with_len}
 use Rattle.poly_terms.specs.model.Limits.{atom_limit}

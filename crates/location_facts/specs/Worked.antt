@@ -77,10 +77,10 @@ branching = record counting {
 abbrev pub three : ℕ → ℕ → ℕ → List LocFact
 three s i j = fact s i j (negsuc 0) ∷ fact s i j (pos 0) ∷ fact s i j (pos 1) ∷ []
 
--- the facts that are tried are those of l1: first -A >= -1, 0 and 1, and then A >= -1, 0 and 1; the first has the number
--- 246 and the last one 272. None is of l0, of a second place, of twice the same place, or has the least 2 or -2. Of two
--- places come first those with plus 0, then those with plus 1, by minus, and then those with plus 2; those of l2 come
--- behind those of l1. Of nine places the eighth is the last
+-- the facts that are tried are those of l1: first -A >= -1, 0 and 1, and then A >= -1, 0 and 1; the first has the
+-- number 246 and the last one 272. None is of l0, of a second place, of twice the same place, or has the least 2 or -2.
+-- Of two places come first those with plus 0, then those with plus 1, by minus, and then those with plus 2; those of l2
+-- come behind those of l1. Of nine places the eighth is the last
 pub record CandidatesAreTold : Type 0 where
   pub all : candidates counting
       ≡ fact 1 0 1 (negsuc 0) ∷ fact 1 0 1 (pos 0) ∷ fact 1 0 1 (pos 1)
@@ -141,8 +141,8 @@ two_rows =
 
 -- A >= 0 is shown after both rules: it follows from their own row, with 1 or nothing to spare. A >= 1 isn't after the
 -- second one, also under A >= 1 itself: at A = 1 it leads to 0. 2*A >= B and B >= 1 give 2*A >= 0 by the multipliers 1
--- and 1, and neither A >= 0 nor, with the second one 0, 2*A >= 0. That the rule can't be used is shown where its own row
--- A - 1 and -A at its source, 1 and 1 times, make -1, and not by the first alone
+-- and 1, and neither A >= 0 nor, with the second one 0, 2*A >= 0. That the rule can't be used is shown where its own
+-- row A - 1 and -A at its source, 1 and 1 times, make -1, and not by the first alone
 pub record CertificatesAreTold : Type 0 where
   pub by_first : Implies (combined (forms_at counting 1) (natural ∷ [])) (1 ∷ [])
       (row_after (forms_at counting 1).news natural)
@@ -178,8 +178,8 @@ abbrev pub long : ℕ → Rule
 long n = record falling { guard = replicate n Always }
 
 -- of A >= -1, A >= 1 and A >= 0 the atom is A >= 1; with a fact of each kind the atoms go by plus and then by minus; a
--- rule gets those of its source, behind its own, and so does each rule of a program. Of two atoms one with 63 atoms gets
--- the first; with 64 it gets none, and with 63 and a cost none either
+-- rule gets those of its source, behind its own, and so does each rule of a program. Of two atoms one with 63 atoms
+-- gets the first; with 64 it gets none, and with 63 and a cost none either
 pub record StrengtheningIsTold : Type 0 where
   pub greatest : strongest_atoms (fact 1 1 0 (negsuc 0) ∷ positive ∷ natural ∷ [])
       ≡ Compare (Variable 0) AtLeast (Literal (pos 1)) ∷ []
@@ -201,8 +201,8 @@ pub record StrengtheningIsTold : Type 0 where
             ∷ record falling { guard = Compare (Variable 0) AtLeast (Literal (pos 1)) ∷ natural_atom ∷ [] } ∷ [];
       }
 
--- of three facts those with the least 0 are two, in their order, and not the other way round; of two facts they are one,
--- and neither none nor both
+-- of three facts those with the least 0 are two, in their order, and not the other way round; of two facts they are
+-- one, and neither none nor both
 pub record ThoseAreTold : Type 0 where
   pub those : HasThose (λ f. f.least ≡ pos 0) (natural ∷ positive ∷ fact 1 0 1 (pos 0) ∷ [])
       (natural ∷ fact 1 0 1 (pos 0) ∷ [])

@@ -22,9 +22,9 @@ pub record ProvedIsTold : Type 0 where
   pub natural_is : (one first : Vec ℕ Global) → one.items ≡ 1 ∷ [] → first.items ≡ 1 ∷ 0 ∷ []
       → AreProved counting (natural ∷ []) (two_proofs one first ∷ [])
 
--- a list of proofs that is missing or one too many is fault (0, 0); one proof in place of two, three, the denominator 0,
--- and a multiplier or a denominator over 2^55 are (1, 0), also where nothing is shown; the same fact again is (2, 0), and
--- so is a lesser one; both come before a proof that doesn't show the first fact
+-- a list of proofs that is missing or one too many is fault (0, 0); one proof in place of two, three, the denominator
+-- 0, and a multiplier or a denominator over 2^55 are (1, 0), also where nothing is shown; the same fact again is
+-- (2, 0), and so is a lesser one; both come before a proof that doesn't show the first fact
 pub record ShapesAreTold : Type 0 where
   pub missing : IsFirstFault counting (natural ∷ []) [] (fault 0 0)
   pub too_many : (proofs : List FactProof) → IsFirstFault counting [] (proofs ∷ []) (fault 0 0)
@@ -42,8 +42,8 @@ pub record ShapesAreTold : Type 0 where
   pub lesser : (none first : Vec ℕ Global) → none.items ≡ 0 ∷ [] → first.items ≡ 1 ∷ 0 ∷ []
       → IsFirstFault counting (positive ∷ natural ∷ []) (two_proofs none first ∷ two_proofs none first ∷ []) (fault 2 0)
 
--- the multiplier 0 shows nothing of the first rule, fault (1, 1), whatever shows the second; with 1 for the first rule, 0
--- and 0, or one multiplier in place of two, show nothing of the second, (1, 2)
+-- the multiplier 0 shows nothing of the first rule, fault (1, 1), whatever shows the second; with 1 for the first rule,
+-- 0 and 0, or one multiplier in place of two, show nothing of the second, (1, 2)
 pub record UnshownIsTold : Type 0 where
   pub first_rule : (none any : Vec ℕ Global) → none.items ≡ 0 ∷ [] → any.items ≡ 0 ∷ 0 ∷ []
       → IsFirstFault counting (natural ∷ []) (two_proofs none any ∷ []) (fault 1 1)

@@ -35,8 +35,8 @@ passing = record counting { rules = handing 1 ∷ [] }
 abbrev pub staying : Program
 staying = record counting { rules = handing 0 ∷ [] }
 
--- whatever the pivots, no fact of l1 is kept where a rule hands on any value: its rows are none, and a point refutes each
--- goal. Where no rule leads to l1 all its facts are kept, contradictory ones too
+-- whatever the pivots, no fact of l1 is kept where a rule hands on any value: its rows are none, and a point refutes
+-- each goal. Where no rule leads to l1 all its facts are kept, contradictory ones too
 pub record KeptAreTold : Type 0 where
   pub none : (pivots : ℕ) → AreKept passing pivots []
   pub all : (pivots : ℕ) → AreKept staying pivots (candidates staying)
@@ -57,8 +57,8 @@ abbrev pub fact_program : List LocFact → LocFact → LinearProgram
 fact_program facts f =
     goal_program falling_forms.unknowns (combined falling_forms facts) (row_after falling_forms.news f)
 
--- under A >= 0 the rows are A - 1 and A, and the goal of A >= 0 is A - 1: -m - n = -1 and m - s = 1, in the columns m, n
--- and s. m = 1 and n = s = 0 solve it, and n = 1 and m = s = 0 don't
+-- under A >= 0 the rows are A - 1 and A, and the goal of A >= 0 is A - 1: -m - n = -1 and m - s = 1, in the columns m,
+-- n and s. m = 1 and n = s = 0 solve it, and n = 1 and m = s = 0 don't
 pub record FollowingIsTold : Type 0 where
   pub equations_are : equations 0 (goal_question falling_forms.unknowns (combined falling_forms (natural ∷ []))
       (row_after falling_forms.news natural)).groups
@@ -68,8 +68,8 @@ pub record FollowingIsTold : Type 0 where
   pub unsolved : ¬ (IsSolution (fact_program (natural ∷ []) natural) (at (pos 0 ∷ pos 1 ∷ pos 0 ∷ [])) (pos 1))
 
 -- under A >= 1 the rows are A - 1 twice, and the goal of A >= 1 is A - 2: -m - n = -1 and m + n - s = 2. The dual 1, 1
--- refutes it, with the point A = 1. That the rule has no point is refuted by it, too: -m - n = 0 and m + n - s = 1. So the
--- rule doesn't imply A >= 1 under itself, whatever the pivots
+-- refutes it, with the point A = 1. That the rule has no point is refuted by it, too: -m - n = 0 and m + n - s = 1. So
+-- the rule doesn't imply A >= 1 under itself, whatever the pivots
 pub record NotFollowingIsTold : Type 0 where
   pub equations_are : equations 0 (goal_question falling_forms.unknowns (combined falling_forms (positive ∷ []))
       (row_after falling_forms.news positive)).groups

@@ -16,10 +16,11 @@ use poly_terms::Memory;
 use proof_tree::target_of;
 use std::alloc::Global;
 
-// The last place that facts of a symbol speak of.
+/// The last place that facts of a symbol speak of.
 #[tactic(auto, using(crate::proofs::FaultLists::last_found, crate::proofs::FaultLists::last_missing))]
-fn last_place(p: &Program, symbol: u32) -> u32
-    ensures { result ≡ place_limit (program_of p.now) symbol }
+pub(crate) fn last_place(p: &Program, symbol: u32) -> u32
+    ensures same { result ≡ place_limit (program_of p.now) symbol }
+    ensures few { result ≤ 8 }
 {
     match p.symbols.get(symbol as usize) {
         Some(s) => s.arity.min(8),

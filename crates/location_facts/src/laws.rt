@@ -39,8 +39,8 @@ pub fn answers_tell_implied()
     ensures { AnswersTellImplied }
 {}
 
-/// Which facts are tried, met and held, their rows, what shows them and the atoms that they give are what was worked out
-/// by hand, on both sides.
+/// Which facts are tried, met and held, their rows, what shows them and the atoms that they give are what was worked
+/// out by hand, on both sides.
 pub fn facts_are_as_worked_out()
     ensures { FactsAreWorkedOut }
 {}
@@ -50,8 +50,8 @@ pub fn faults_are_as_worked_out()
     ensures { FaultsAreWorkedOut }
 {}
 
-/// Which facts of small programs are kept, and which linear programs ask for them, with solutions and duals, is what was
-/// worked out by hand.
+/// Which facts of small programs are kept, and which linear programs ask for them, with solutions and duals, is what
+/// was worked out by hand.
 pub fn kept_facts_are_as_worked_out()
     ensures { KeptFactsAreWorkedOut }
 {}

@@ -1,14 +1,19 @@
-//! Facts that hold at the symbols of a program. Contract to the layer above: `facts_fault` answers that nothing is wrong
-//! exactly with facts and proofs of which nothing is (`AreProved`), and else what is first (`faults_are_decided`); such
-//! facts hold on every run (`proved_facts_hold`); and the program that `strengthen` makes with facts that hold has the
-//! same runs (`strengthening_changes_no_run`). Which facts are kept within a number of pivots is said by `Kept`.
+//! Facts that hold at the symbols of a program. Contract to the layer above: `facts_fault` answers that nothing is
+//! wrong exactly with facts and proofs of which nothing is (`AreProved`), and else what is first
+//! (`faults_are_decided`); such facts hold on every run (`proved_facts_hold`); and the program that `strengthen` makes
+//! with facts that hold has the same runs (`strengthening_changes_no_run`). Which facts are kept within a number of
+//! pivots is said by `Kept`.
 #![tactic(auto)]
 
+mod asking;
+mod candidates;
 mod checks;
 mod copies;
 mod fact;
 mod faults;
+mod implied;
 mod laws;
+mod rounds;
 mod rows;
 mod strengthening;
 
@@ -19,4 +24,5 @@ pub use laws::{
     faults_are_decided, kept_facts_are_as_worked_out, kept_facts_are_one, proved_facts_hold,
     strengthening_changes_no_run,
 };
+pub use rounds::facts;
 pub use strengthening::strengthen;

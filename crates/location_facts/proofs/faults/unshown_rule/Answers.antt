@@ -3,7 +3,8 @@ use Rattle.poly_terms.specs.Views.{form_of}
 use Rattle.its_model.specs.Views.{program_of}
 use Rattle.location_facts.proofs.CombinedLists.{prepared-many}
 use Rattle.location_facts.proofs.FaultSteps.{proofs-more}
-use Rattle.location_facts.proofs.ShownRules.{into-rule, news-read, shown-there, shown-here, proof-read, small-read, rule-count}
+use Rattle.location_facts.proofs.ShownRules.{into-rule, news-read, shown-there, shown-here, proof-read, small-read}
+use Rattle.location_facts.proofs.ShownRules.{rule-count}
 use Rattle.location_facts.proofs.faults.unshown_rule.Goals as goal
 
 pub overflow_sub-prep : goal.overflow_sub-prep

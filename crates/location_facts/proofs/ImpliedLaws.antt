@@ -1,0 +1,73 @@
+-- What is told of goals by what is asked.
+use Rattle.std.proofs.Common.{◌≡◌, inl, inr, ℕ, ◌<◌, ◌≤◌, ◌^◌, arith, sym, subst, List}
+use Rattle.std.specs.Prelude.{ℤ, pos, negsuc, ◌*ℤ◌, ◌≤ℤ◌, unsigned_abs, Vec, None, Some}
+use Rattle.std.specs.declared.alloc.Global.{Global}
+use Rattle.std.proofs.lemmas.Int.{ints}
+use Rattle.std.proofs.lemmas.List.Elements.{All-nil}
+use Rattle.poly_terms.specs.linear_forms.Certificates.{Implies, minus_one, combined_constant}
+use Rattle.poly_terms.specs.linear_forms.Combinations.{form_times}
+use Rattle.poly_terms.specs.linear_forms.Forms.{Form}
+use Rattle.farkas_cert.specs.Sizes.{AreWithinLimit}
+use Rattle.lp_builder.specs.Descriptions.{IsWritable}
+use Rattle.location_facts.specs.declared.asking.Reply.TheVariants as replies
+use Rattle.location_facts.specs.declared.fact.FactProof.TheVariants as proofs
+use Rattle.location_facts.specs.Implied.{TellsEmpty, TellsGoal}
+use Rattle.location_facts.specs.Kept.{goal_program, IsSolvedWithin}
+use Rattle.location_facts.specs.Replies.{FollowsBy, IsReply}
+
+-- the form -1 can be written
+pub minus-one-writable : (n : ℕ) (f : Form) → f ≡ minus_one → IsWritable n f
+minus-one-writable n f e = subst (IsWritable n) (sym e) (record {
+  fits = let l : 0 ≤ n = omega arith in l;
+  coefs = All-nil (λ (a : ℤ). unsigned_abs a < 2 ^ 127);
+  constant = let l : 1 < 2 ^ 127 = omega arith in l;
+})
+
+-- where -1 follows a number of times, it follows
+minus-one-follows : (rows : List Form) (ms : List ℕ) (times : ℕ) → 1 ≤ times
+    → Implies rows ms (form_times (pos times) minus_one) → Implies rows ms minus_one
+minus-one-follows rows ms times l h = record {
+  long = h.long;
+  coefs = h.coefs;
+  constant = below (combined_constant ms rows) times l h.constant;
+}
+  where
+    below : (a : ℤ) (n : ℕ) → 1 ≤ n → a ≤ℤ (pos n *ℤ negsuc 0) → a ≤ℤ negsuc 0
+    below a n l h = omega (arith, ints, l, h)
+
+module _ (pivots n : ℕ) (rows : List Form) (goal : Form) where
+  -- rows have no point where -1 follows
+  pub empty-told : (v : Vec ℕ Global) (times : ℕ) → goal ≡ minus_one
+      → IsReply pivots n rows goal (replies.Follows v times) → TellsEmpty pivots n rows (Some v)
+  empty-told v times e (solved, follows) = (
+    subst (λ (g : Form). IsSolvedWithin pivots (goal_program n rows g)) e solved,
+    follows.within,
+    minus-one-follows rows v.items times follows.least
+        (subst (λ (g : Form). Implies rows v.items (form_times (pos times) g)) e follows.shows),
+  )
+
+  -- where it doesn't, nothing says so
+  pub nothing-told : goal ≡ minus_one → ¬ IsSolvedWithin pivots (goal_program n rows goal)
+      → TellsEmpty pivots n rows None
+  nothing-told e h = subst (λ (g : Form). ¬ IsSolvedWithin pivots (goal_program n rows g)) e h
+
+  -- a goal that follows is implied
+  pub goal-told : (v : Vec ℕ Global) (times : ℕ) → IsReply pivots n rows goal (replies.Follows v times)
+      → TellsGoal pivots n rows goal (Some (proofs.Implied v times))
+  goal-told v times (solved, follows) =
+      (inr solved, (follows.within, follows.least, follows.most), follows.shows)
+
+  -- one that doesn't follow from rows of which nothing says that they have no point isn't
+  pub goal-missed : TellsEmpty pivots n rows None → ¬ IsSolvedWithin pivots (goal_program n rows goal)
+      → TellsGoal pivots n rows goal None
+  goal-missed a b (inl s) = a s
+  goal-missed a b (inr s) = b s
+
+  -- every goal is implied by rows without a point
+  pub any-goal : (v w : Vec ℕ Global) → w.items ≡ v.items → TellsEmpty pivots n rows (Some v)
+      → TellsGoal pivots n rows goal (Some (proofs.Empty w))
+  any-goal v w e (solved, within, shows) = (
+    inl solved,
+    subst AreWithinLimit (sym e) within,
+    subst (λ (ms : List ℕ). Implies rows ms minus_one) (sym e) shows,
+  )

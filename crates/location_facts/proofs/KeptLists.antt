@@ -1,0 +1,49 @@
+-- Lists of facts, round by round: those that meet a condition, one fact after the other.
+use Rattle.std.proofs.Common.{◌≡◌, inl, inr, ℕ, zero, suc, ◌+◌, ◌<◌, ◌≤◌, refl, sym, ap, ◌∙◌, arith, subst, List, []}
+use Rattle.std.proofs.Common.{◌∷◌, ◌++◌}
+use Rattle.std.proofs.Common.{length}
+use Rattle.poly_terms.specs.model.Programs.{Program}
+use Rattle.location_facts.specs.declared.fact.LocFact.{LocFact}
+use Rattle.location_facts.specs.Candidates.{IsCandidate, order_number}
+use Rattle.location_facts.specs.Kept.{HasThose}
+use Rattle.location_facts.proofs.CandidateList.{Between, lower}
+
+module _ (Keeps : LocFact → Type 0) where
+  -- one fact more that meets the condition
+  pub those-kept : (facts those : List LocFact) (f : LocFact) → HasThose Keeps facts those → Keeps f
+      → HasThose Keeps (facts ++ f ∷ []) (those ++ f ∷ [])
+  those-kept [] those f h k = inl (k, ([], ap (λ (xs : List LocFact). xs ++ f ∷ []) h, refl))
+  those-kept (g ∷ facts) those f (inl (kg, (rest, e, h))) k =
+      inl (kg, (rest ++ f ∷ [], ap (λ (xs : List LocFact). xs ++ f ∷ []) e, those-kept facts rest f h k))
+  those-kept (g ∷ facts) those f (inr (drops, h)) k = inr (drops, those-kept facts those f h k)
+
+  -- one that doesn't
+  pub those-passed : (facts those : List LocFact) (f : LocFact) → HasThose Keeps facts those → (Keeps f → ⊥)
+      → HasThose Keeps (facts ++ f ∷ []) those
+  those-passed [] those f h n = inr (n, h)
+  those-passed (g ∷ facts) those f (inl (kg, (rest, e, h))) n = inl (kg, (rest, e, those-passed facts rest f h n))
+  those-passed (g ∷ facts) those f (inr (drops, h)) n = inr (drops, those-passed facts those f h n)
+
+  -- they are at most as many as all facts
+  pub those-most : (facts those : List LocFact) → HasThose Keeps facts those → length those ≤ length facts
+  those-most [] those h = let e = ap (λ (xs : List LocFact). length xs) h in omega (arith, e)
+  those-most (g ∷ facts) those (inl (kg, (rest, e, h))) =
+      let l = ap (λ (xs : List LocFact). length xs) e in omega (arith, l, those-most facts rest h)
+  those-most (g ∷ facts) those (inr (drops, h)) = omega (arith, those-most facts those h)
+
+  -- where they are as many they are all
+  pub those-all : (facts those : List LocFact) → HasThose Keeps facts those → length those ≡ length facts → those ≡ facts
+  those-all [] those h l = h
+  those-all (g ∷ facts) those (inl (kg, (rest, e, h))) l =
+      let m = ap (λ (xs : List LocFact). length xs) e in
+      e ∙ ap (λ (xs : List LocFact). g ∷ xs) (those-all facts rest h (omega (arith, l, m)))
+  those-all (g ∷ facts) those (inr (drops, h)) l = absurd (let m = those-most facts those h in omega (arith, l, m))
+
+  -- those of facts in order are in order
+  pub those-between : (p : Program) (k n : ℕ) (facts those : List LocFact) → HasThose Keeps facts those
+      → Between p k n facts → Between p k n those
+  those-between p k n [] those h b = subst (Between p k n) (sym h) b
+  those-between p k n (g ∷ facts) those (inl (kg, (rest, e, h))) (c, l, b) =
+      subst (Between p k n) (sym e) (c, l, those-between p (suc (order_number g)) n facts rest h b)
+  those-between p k n (g ∷ facts) those (inr (drops, h)) (c, l, b) =
+      lower p k (suc (order_number g)) n those (omega (arith, l)) (those-between p (suc (order_number g)) n facts those h b)

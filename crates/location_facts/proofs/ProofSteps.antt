@@ -1,0 +1,70 @@
+-- The proofs of a fact by the rules into its symbol, one rule after the other.
+use Rattle.std.proofs.Common.{◌≡◌, ℕ, ◌+◌, ◌-◌, ◌<◌, ◌≤◌, ap, arith, refl, sym, ◌∙◌, subst, List, [], ◌∷◌, ◌++◌, length}
+use Rattle.std.proofs.Common.{length-append, map, get_or, Some, None}
+use Rattle.std.specs.Prelude.{Vec}
+use Rattle.std.specs.declared.alloc.Global.{Global}
+use Rattle.std.specs.List.{All}
+use Rattle.poly_terms.specs.model.Programs as plain
+use Rattle.poly_terms.specs.declared.poly.Row.{Row}
+use Rattle.poly_terms.specs.Views.{form_of}
+use Rattle.lp_builder.specs.Descriptions.{IsWritable}
+use Rattle.proof_tree.specs.Composing.{AreRowsOf}
+use Rattle.proof_tree.specs.guard_prep.declared.rule_rows.RuleRows.{RuleRows}
+use Rattle.rule_questions.specs.ProgramQuestions.{forms_at}
+use Rattle.location_facts.specs.declared.fact.LocFact.{LocFact}
+use Rattle.location_facts.specs.declared.fact.FactProof.{FactProof}
+use Rattle.location_facts.specs.declared.implied.Under.{Under}
+use Rattle.location_facts.specs.Certificates.{IsWithinLimit}
+use Rattle.location_facts.specs.Faults.{rules_into, ProofsShow}
+use Rattle.location_facts.specs.Implied.{TellsGoal, TellsProofs, IsUnder, AreImplied}
+use Rattle.location_facts.specs.Kept.{IsImpliedByAll}
+use Rattle.location_facts.specs.Rows.{row_after, combined}
+use Rattle.location_facts.proofs.RoundSteps.{implied-more, implied-all, missed}
+use Rattle.location_facts.proofs.ShownRules.{read}
+use Rattle.location_facts.proofs.UnderRules.{forms-read}
+
+-- the rows of a rule under a list can be written
+pub writable-read : (p : plain.Program) (preps : List RuleRows) (pivots : ℕ) (kept : List LocFact) (t : ℕ) (m : RuleRows)
+    (u : Under) → AreRowsOf preps p → (1 ≤ t) × (t ≤ length p.rules) → m ≡ get_or preps (t - 1) m
+    → IsUnder pivots (forms_at p t) kept u → All (λ r. IsWritable m.unknowns (form_of r)) u.rows.items
+writable-read p preps pivots kept t m u are within at-m is =
+    subst (λ (n : ℕ). All (λ (r : Row). IsWritable n (form_of r)) u.rows.items)
+    (sym (forms-read p preps t m are within at-m).0) is.writable
+
+-- one proof more
+pub proofs-longer : (old new : List FactProof) (proof : FactProof) (n : ℕ) → length old ≡ n → new ≡ old ++ proof ∷ []
+    → length new ≡ n + 1
+proofs-longer old new proof n many made =
+    let a = ap (λ (ps : List FactProof). length ps) made in let b = length-append old (proof ∷ []) in
+    omega (arith, many, a, b)
+
+module _ (p : plain.Program) (pivots : ℕ) (kept : List LocFact) (f : LocFact) where
+  -- a rule that is read doesn't imply the fact, so not every rule does
+  pub missed-read : (k t : ℕ) (into : List ℕ) → into ≡ rules_into p f.symbol → k < length into → t ≡ get_or into k t
+      → TellsGoal pivots (forms_at p t).unknowns (combined (forms_at p t) kept) (row_after (forms_at p t).news f) None
+      → ¬ IsImpliedByAll p pivots kept f
+  missed-read k t into e l g not =
+      missed p pivots kept f k t (subst (λ (ts : List ℕ). k < length ts) e l)
+      (subst (λ (ts : List ℕ). t ≡ get_or ts k t) e g) not
+
+  -- one that is read implies it, as a proof shows
+  pub implied-read : (proofs : List FactProof) (k t : ℕ) (proof : FactProof) (into : List ℕ)
+      → into ≡ rules_into p f.symbol → k < length into → t ≡ get_or into k t → AreImplied p pivots kept f proofs k
+      → length proofs ≡ k
+      → TellsGoal pivots (forms_at p t).unknowns (combined (forms_at p t) kept) (row_after (forms_at p t).news f)
+      (Some proof) → AreImplied p pivots kept f (proofs ++ proof ∷ []) (k + 1)
+  implied-read proofs k t proof into e l g h many told =
+      implied-more p pivots kept f proofs k t proof h many
+      (read (rules_into p f.symbol) k t (subst (λ (ts : List ℕ). k < length ts) e l)
+      (subst (λ (ts : List ℕ). t ≡ get_or ts k t) e g)) told.1 told.2 told.0
+
+  -- all rules imply it
+  pub proofs-all : (proofs : Vec FactProof Global) (k : ℕ) → k ≡ length (rules_into p f.symbol)
+      → length proofs.items ≡ k → AreImplied p pivots kept f proofs.items k
+      → TellsProofs p pivots kept f (Some proofs)
+  proofs-all proofs k all many h = (
+    implied-all p pivots kept f proofs.items (subst (AreImplied p pivots kept f proofs.items) all h),
+    many ∙ all,
+    h.numbers,
+    subst (ProofsShow p kept f proofs.items) (sym many) h.shown,
+  )

@@ -1,0 +1,105 @@
+use Rattle.std.proofs.Common.{◌≡◌, ℕ, ◌+◌, ap, arith, ◌∙◌, List, length, Option, subst, sym}
+use Rattle.its_model.specs.Views.{program_of}
+use Rattle.rule_questions.specs.ProgramQuestions.{forms_at}
+use Rattle.location_facts.specs.declared.fact.FactProof.{FactProof}
+use Rattle.location_facts.specs.Implied.{TellsGoal, AreImplied}
+use Rattle.location_facts.specs.Rows.{row_after, combined}
+use Rattle.location_facts.proofs.CombinedLists.{prepared-many}
+use Rattle.location_facts.proofs.ProofSteps.{writable-read, missed-read, proofs-longer, implied-read, proofs-all}
+use Rattle.location_facts.proofs.ShownRules.{into-rule}
+use Rattle.location_facts.proofs.UnderRules.{under-read, prep-read, told-of-rule}
+use Rattle.location_facts.proofs.rounds.proofs_under.Goals as goal
+
+pub overflow_sub-prep : goal.overflow_sub-prep
+overflow_sub-prep c =
+    (into-rule (program_of c.args.p.now) c.args.fact.symbol c.loop-k.k c.index-rule.result.now
+    c.in_ok-into.into.items (c.in_ok-into.ensures {u = tt}) (omega arith) c.index-rule.ensures).0
+
+pub bounds-preps-rule : goal.bounds-preps-rule
+bounds-preps-rule c =
+    let w = (into-rule (program_of c.args.p.now) c.args.fact.symbol c.loop-k.k c.index-rule.result.now
+    c.in_ok-into.into.items (c.in_ok-into.ensures {u = tt}) (omega arith) c.index-rule.ensures) in
+    omega (arith, w.0, w.1, prepared-many (program_of c.args.p.now) c.args.preps.now c.requires.rows)
+
+pub overflow_sub-under : goal.overflow_sub-under
+overflow_sub-under c =
+    (into-rule (program_of c.args.p.now) c.args.fact.symbol c.loop-k.k c.index-rule.result.now
+    c.in_ok-into.into.items (c.in_ok-into.ensures {u = tt}) (omega arith) c.index-rule.ensures).0
+
+pub bounds-unders-rule : goal.bounds-unders-rule
+bounds-unders-rule c =
+    let w = (into-rule (program_of c.args.p.now) c.args.fact.symbol c.loop-k.k c.index-rule.result.now
+    c.in_ok-into.into.items (c.in_ok-into.ensures {u = tt}) (omega arith) c.index-rule.ensures) in
+    omega (arith, w.0, w.1, c.requires.under.are.many)
+
+pub proof_under-requires-clause-prepared : goal.proof_under-requires-clause-prepared
+proof_under-requires-clause-prepared c =
+    prep-read (program_of c.args.p.now) c.args.preps.now c.index-rule.result.now c.index-preps-rule.result
+    c.requires.valid c.requires.rows
+    (into-rule (program_of c.args.p.now) c.args.fact.symbol c.loop-k.k c.index-rule.result.now
+    c.in_ok-into.into.items (c.in_ok-into.ensures {u = tt}) (omega arith) c.index-rule.ensures) c.index-preps-rule.is
+
+pub proof_under-requires-clause-few : goal.proof_under-requires-clause-few
+proof_under-requires-clause-few c =
+    (under-read (program_of c.args.p.now) c.args.pivots c.requires.under.kept c.args.unders.now c.index-rule.result.now
+    c.index-unders-rule.result
+    (into-rule (program_of c.args.p.now) c.args.fact.symbol c.loop-k.k c.index-rule.result.now
+    c.in_ok-into.into.items (c.in_ok-into.ensures {u = tt}) (omega arith) c.index-rule.ensures)
+    c.requires.under.are c.index-unders-rule.is).few
+
+pub proof_under-requires-clause-rows : goal.proof_under-requires-clause-rows
+proof_under-requires-clause-rows c =
+    let within = (into-rule (program_of c.args.p.now) c.args.fact.symbol c.loop-k.k c.index-rule.result.now
+    c.in_ok-into.into.items (c.in_ok-into.ensures {u = tt}) (omega arith) c.index-rule.ensures) in
+    writable-read (program_of c.args.p.now) c.args.preps.now c.args.pivots c.requires.under.kept
+    c.index-rule.result.now c.index-preps-rule.result c.index-unders-rule.result c.requires.rows within
+    c.index-preps-rule.is
+    (under-read (program_of c.args.p.now) c.args.pivots c.requires.under.kept c.args.unders.now
+    c.index-rule.result.now c.index-unders-rule.result within c.requires.under.are c.index-unders-rule.is)
+
+pub returns-in-None : goal.returns-in-None
+returns-in-None c = λ kept are.
+    let within = (into-rule (program_of c.args.p.now) c.args.fact.symbol c.loop-k.k c.index-rule.result.now
+    c.in_ok-into.into.items (c.in_ok-into.ensures {u = tt}) (omega arith) c.index-rule.ensures) in
+    missed-read (program_of c.args.p.now) c.args.pivots kept c.args.fact c.loop-k.k c.index-rule.result.now
+    c.in_ok-into.into.items (c.in_ok-into.ensures {u = tt}) (omega arith) c.index-rule.ensures
+    (subst (λ (o : Option FactProof). TellsGoal c.args.pivots (forms_at (program_of c.args.p.now)
+    c.index-rule.result.now).unknowns (combined (forms_at (program_of c.args.p.now) c.index-rule.result.now) kept)
+    (row_after (forms_at (program_of c.args.p.now) c.index-rule.result.now).news c.args.fact) o) c.in-None.is
+    (told-of-rule (program_of c.args.p.now) c.args.preps.now c.args.pivots kept c.index-rule.result.now
+    c.index-preps-rule.result c.index-unders-rule.result c.args.fact _ c.requires.rows within c.index-preps-rule.is
+    (under-read (program_of c.args.p.now) c.args.pivots kept c.args.unders.now c.index-rule.result.now
+    c.index-unders-rule.result within are c.index-unders-rule.is)
+    (c.in_ok-proof.ensures {u = tt})))
+
+pub loop-k-preserved : goal.loop-k-preserved
+loop-k-preserved c =
+    let within = (into-rule (program_of c.args.p.now) c.args.fact.symbol c.loop-k.k c.index-rule.result.now
+    c.in_ok-into.into.items (c.in_ok-into.ensures {u = tt}) (omega arith) c.index-rule.ensures) in
+    record {
+      many = proofs-longer c.loop-k.proofs.items c.push.new.self.items c.in-Some.proof c.loop-k.k
+          c.loop-k.invariant.many c.in_ok-push-in-Some.ensures.items;
+      implied = λ kept are.
+          subst (λ (ps : List FactProof). AreImplied (program_of c.args.p.now) c.args.pivots kept c.args.fact ps
+          (c.loop-k.k + 1)) (sym c.in_ok-push-in-Some.ensures.items)
+          (implied-read (program_of c.args.p.now) c.args.pivots kept c.args.fact c.loop-k.proofs.items c.loop-k.k
+          c.index-rule.result.now c.in-Some.proof c.in_ok-into.into.items (c.in_ok-into.ensures {u = tt}) (omega arith)
+          c.index-rule.ensures (c.loop-k.invariant.implied kept are) c.loop-k.invariant.many
+          (subst (λ (o : Option FactProof). TellsGoal c.args.pivots (forms_at (program_of c.args.p.now)
+          c.index-rule.result.now).unknowns
+          (combined (forms_at (program_of c.args.p.now) c.index-rule.result.now) kept)
+          (row_after (forms_at (program_of c.args.p.now) c.index-rule.result.now).news c.args.fact) o) c.in-Some.is
+          (told-of-rule (program_of c.args.p.now) c.args.preps.now c.args.pivots kept c.index-rule.result.now
+          c.index-preps-rule.result c.index-unders-rule.result c.args.fact _ c.requires.rows within
+          c.index-preps-rule.is
+          (under-read (program_of c.args.p.now) c.args.pivots kept c.args.unders.now c.index-rule.result.now
+          c.index-unders-rule.result within are c.index-unders-rule.is)
+          (c.in_ok-proof.ensures {u = tt}))));
+    }
+
+pub returns : goal.returns
+returns c = λ kept are.
+    let into-is = c.in_ok-into.ensures {u = tt} in
+    let all : c.loop-k.k ≡ length c.in_ok-into.into.items = omega arith in
+    proofs-all (program_of c.args.p.now) c.args.pivots kept c.args.fact c.loop-k.proofs c.loop-k.k
+    (all ∙ ap (λ (ts : List ℕ). length ts) into-is) c.loop-k.invariant.many (c.loop-k.invariant.implied kept are)

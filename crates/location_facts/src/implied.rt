@@ -1,0 +1,116 @@
+//! Which facts rules imply under a list of facts.
+
+ghost use Rattle.std.specs.Prelude.{◌≡◌, ◌++◌, ◌≤◌, ◌<◌, ◌+◌, ◌^◌, List, map, length, IfOk};
+ghost use Rattle.std.specs.List.{All};
+ghost use Rattle.lp_builder.specs.Descriptions.{IsWritable};
+ghost use Rattle.poly_terms.specs.Views.{form_of};
+ghost use Rattle.rule_questions.specs.EmptyAnswers.{IsPrepared};
+ghost use Rattle.location_facts.specs.Implied.{TellsEmpty, TellsGoal};
+ghost use Rattle.location_facts.specs.Rows.{row_before as row_of, row_after as goal_of, facts_at as facts_of_symbol};
+
+use crate::asking::{Reply, ask};
+use crate::fact::{FactProof, LocFact};
+use crate::rows::{combined_rows, row_after};
+use guard_prep::RuleRows;
+use poly_terms::{Memory, Row};
+use rule_questions::constant_row;
+use std::alloc::Global;
+
+/// A rule under a list of facts: its combined rows, and multipliers that show that they have no point, where the linear
+/// program that asks for them is solved.
+#[derive(Debug, Drop)]
+pub(crate) struct Under {
+    pub rows: Vec<Row>,
+    pub empty: Option<Vec<u64>>,
+}
+
+/// Multipliers that show that rows have no point, where the linear program that asks for them is solved.
+fn emptiness(
+    alloc: Global,
+    unknowns: u32,
+    rows: &[Row],
+    pivots: u32,
+) -> Result<Option<Vec<u64>>, Memory>
+    requires few_unknowns { unknowns + 1 < 2 ^ 31 }
+    requires few_rows { length rows.now + 1 < 2 ^ 31 }
+    requires rows { All (λ r. IsWritable unknowns (form_of r)) rows.now }
+    ensures { IfOk result (TellsEmpty pivots unknowns (map form_of rows.now)) }
+{
+    let goal = constant_row(alloc, -1);
+    match ask(alloc, unknowns, rows, &goal, pivots)? {
+        Reply::Follows(multipliers, _) => Ok(Some(multipliers)),
+        Reply::Fails(_) => Ok(None),
+        Reply::Tripped => Ok(None),
+    }
+}
+
+/// A proof that a goal follows from rows, where it is implied and emptiness says no.
+fn goal_proof(
+    alloc: Global,
+    unknowns: u32,
+    rows: &[Row],
+    goal: &Row,
+    pivots: u32,
+) -> Result<Option<FactProof>, Memory>
+    requires few_unknowns { unknowns + 1 < 2 ^ 31 }
+    requires few_rows { length rows.now + 1 < 2 ^ 31 }
+    requires rows { All (λ r. IsWritable unknowns (form_of r)) rows.now }
+    requires goal { IsWritable unknowns (form_of goal.now) }
+    ensures { IfOk result (λ proof. TellsEmpty pivots unknowns (map form_of rows.now) None
+        → TellsGoal pivots unknowns (map form_of rows.now) (form_of goal.now) proof) }
+{
+    match ask(alloc, unknowns, rows, goal, pivots)? {
+        Reply::Follows(multipliers, times) => Ok(Some(FactProof::Implied(multipliers, times))),
+        Reply::Fails(_) => Ok(None),
+        Reply::Tripped => Ok(None),
+    }
+}
+
+/// A proof that a rule keeps a fact, where it implies it.
+pub(crate) fn proof_under(
+    alloc: Global,
+    prep: &RuleRows,
+    under: &Under,
+    fact: LocFact,
+    pivots: u32,
+) -> Result<Option<FactProof>, Memory>
+    requires prepared { IsPrepared prep.now }
+    requires few { length under.now.rows.items ≤ 371 }
+    requires rows { All (λ r. IsWritable prep.now.unknowns (form_of r)) under.now.rows.items }
+    ensures { IfOk result (λ proof. TellsEmpty pivots prep.now.unknowns (map form_of under.now.rows.items)
+        under.now.empty → TellsGoal pivots prep.now.unknowns (map form_of under.now.rows.items)
+        (goal_of (map form_of prep.now.news.items) fact) proof) }
+{
+    match &under.empty {
+        Some(multipliers) => {
+            let copies = multipliers.as_slice().to_vec(alloc)?;
+            Ok(Some(FactProof::Empty(copies)))
+        }
+        None => {
+            let goal = row_after(alloc, &prep.news, fact)?;
+            goal_proof(alloc, prep.unknowns, &under.rows, &goal, pivots)
+        }
+    }
+}
+
+/// A rule under a list of facts.
+pub(crate) fn rule_under(
+    alloc: Global,
+    prep: &RuleRows,
+    source: u32,
+    kept: &[LocFact],
+    pivots: u32,
+) -> Result<Under, Memory>
+    requires prepared { IsPrepared prep.now }
+    requires few { length (map form_of prep.now.rows.items ++ map row_of (facts_of_symbol source kept.now)) ≤ 371 }
+    requires writable { All (IsWritable prep.now.unknowns)
+        (map form_of prep.now.rows.items ++ map row_of (facts_of_symbol source kept.now)) }
+    ensures rows { IfOk result (λ u. map form_of u.rows.items
+        ≡ map form_of prep.now.rows.items ++ map row_of (facts_of_symbol source kept.now)) }
+    ensures writable { IfOk result (λ u. All (λ r. IsWritable prep.now.unknowns (form_of r)) u.rows.items) }
+    ensures empty { IfOk result (λ u. TellsEmpty pivots prep.now.unknowns (map form_of u.rows.items) u.empty) }
+{
+    let rows = combined_rows(alloc, &prep.rows, source, kept)?;
+    let empty = emptiness(alloc, prep.unknowns, &rows, pivots)?;
+    Ok(Under { rows, empty })
+}
