@@ -133,11 +133,7 @@ fn empty_lists(alloc: Global, rows: u32) -> Result<Vec<RowColumns>, AllocError>
 }
 
 /// Puts a column into the list of each cell's row.
-fn put_cells(
-    lists: &mut Vec<RowColumns>,
-    cells: &[Cell],
-    position: u32,
-) -> Result<(), AllocError>
+fn put_cells(lists: &mut Vec<RowColumns>, cells: &[Cell], position: u32) -> Result<(), AllocError>
     requires { AreRowsBelow cells.now (length lists.old.items) }
     ensures size { length lists.new.items ≡ length lists.old.items }
     ensures puts { IfOk result (λ _. PutsCells lists.old.items lists.new.items cells.now position (length cells.now)) }

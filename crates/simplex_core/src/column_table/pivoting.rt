@@ -10,7 +10,7 @@ ghost use Rattle.simplex_core.specs.ColumnTables.{IsPivotedBy, ClearsColumns, Cl
 ghost use Rattle.simplex_core.specs.ColumnTables.{ListsTouched, IsKept, IsFirst, AreNotNegative};
 
 use crate::column_table::ColumnTable;
-use crate::column_table::lists::{RowColumns};
+use crate::column_table::lists::RowColumns;
 use crate::simplex_table::Unmade;
 use sparse_columns::{Cell, Cells, Column};
 use std::alloc::{AllocError, Global};

@@ -1,12 +1,11 @@
-use Rattle.std.proofs.Common.{◌≡◌, ap, sym, ◌∙◌, subst, Some, Option, refl, arith, length, to_z, of_z, ℕ, List}
+use Rattle.std.proofs.Common.{◌≡◌, sym, ◌∙◌, subst, Some, Option, refl, length, to_z, of_z, List}
 use Rattle.std.specs.Prelude.{ℤ, slice_get, IfSome}
 use Rattle.std.specs.Int.{w64}
 use Rattle.std.proofs.lemmas.Int.{to_z-of_z}
-use Rattle.std.proofs.lemmas.Option.{slice_get_read, slice_get_within, same_Some}
+use Rattle.std.proofs.lemmas.Option.{slice_get_read, same_Some}
 use Rattle.sparse_columns.specs.declared.cell.Cell.{Cell}
 use Rattle.sparse_columns.specs.declared.column.Column.{Column}
-use Rattle.sparse_columns.specs.Columns.{numerator, IsCleared}
-use Rattle.simplex_core.specs.ColumnListing.{Names}
+use Rattle.sparse_columns.specs.Columns.{IsCleared}
 use Rattle.simplex_core.proofs.Positions.{slice_get-set_same, slice_get-set_other}
 use Rattle.simplex_core.proofs.ColumnTableLaws.{not_negative-set}
 use Rattle.simplex_core.proofs.column_table.ColumnTable.clear_column.Goals as goal

@@ -1,4 +1,4 @@
-use Rattle.std.proofs.Common.{◌≡◌, ◌<◌, ◌∙◌, subst, ℕ, length, refl, arith}
+use Rattle.std.proofs.Common.{◌≡◌, ◌<◌, subst, ℕ, length, refl, arith}
 use Rattle.std.proofs.lemmas.Option.{slice_get_read}
 use Rattle.simplex_core.specs.ColumnListing.{PutsCells}
 use Rattle.simplex_core.proofs.ColumnListings.{cells-none, cells-more}
