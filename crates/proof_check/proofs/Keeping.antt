@@ -1,0 +1,100 @@
+-- What is kept of accepted lemmas, and one more.
+use Rattle.std.proofs.Common.{◌≡◌, ℕ, zero, suc, ◌+◌, ◌<◌, ◌≤◌, List, [], ◌∷◌, ◌++◌, length, map, refl, sym, ap, ◌∙◌, subst}
+use Rattle.std.proofs.Common.{arith, Vec}
+use Rattle.std.specs.declared.alloc.Global.{Global}
+use Rattle.std.specs.List.{AllByRecursion}
+use Rattle.std.proofs.lemmas.List.{map-append, length-append}
+use Rattle.model.specs.Facts as plain
+use Rattle.model.specs.Programs.{Program}
+use Rattle.proof_tree.specs.AnswerViews.{reason_of}
+use Rattle.proof_tree.specs.Views.{facts_of as facts_in_order}
+use Rattle.proof_tree.specs.declared.answer.Reason as told
+use Rattle.proof_tree.specs.declared.fact.Fact.{Fact}
+use Rattle.proof_tree.specs.proof_nodes.Nodes.{Proof}
+use Rattle.proof_tree.specs.proof_nodes.Numbering.{nodes_of}
+use Rattle.proof_tree.specs.proof_nodes.Acceptance.{facts_of, Accepts, AcceptsNode, facts_of_lemmas}
+use Rattle.proof_tree.specs.proof_nodes.Refusals.{FailsFirst, IsRefusedAt}
+use Rattle.proof_tree.specs.proof_nodes.Checks.{IsFirstReason}
+use Rattle.proof_tree.specs.proof_nodes.Setting.{Setting}
+use Rattle.proof_tree.proofs.proof_nodes.CheckLists.{each-append}
+use Rattle.proof_tree.proofs.proof_nodes.Numbering.{nodes-accepted}
+use Rattle.proof_check.specs.declared.judging.Judged.{Judged}
+use Rattle.proof_check.specs.declared.kept.Kept.{Kept}
+use Rattle.proof_check.specs.declared.refusal.TreeFault.TheVariants as tree
+use Rattle.proof_check.specs.Judging.{IsKeptOf, IsKeptMore, IsWhole}
+use Rattle.proof_check.specs.Refusing.{RefusesAmong}
+use Rattle.proof_check.specs.Statements.{facts_from, stated_at, past_of, facts_by}
+use Rattle.proof_check.proofs.AcceptedLemmas.{accepts-push, told-push}
+
+-- what stands before the end stays, whatever is pushed behind it
+pub kept-before : (xs ys : List (Vec Fact Global)) (n : ℕ) → n < length xs → facts_from (xs ++ ys) n ≡ facts_from xs n
+kept-before [] ys n l = absurd (omega (arith, l))
+kept-before (x ∷ xs) ys zero l = refl
+kept-before (x ∷ xs) ys (suc n) l = kept-before xs ys n (omega (arith, l))
+
+-- and what is pushed stands there
+pub kept-last : (xs : List (Vec Fact Global)) (x : Vec Fact Global)
+    → facts_from (xs ++ x ∷ []) (length xs) ≡ facts_in_order x.items
+kept-last [] x = refl
+kept-last (y ∷ xs) x = kept-last xs x
+
+-- positions within a list are within a longer one
+within-more : (m n : ℕ) → m ≤ n → (is : List ℕ) → AllByRecursion (λ i. i < m) is → AllByRecursion (λ i. i < n) is
+within-more m n l [] h = tt
+within-more m n l (i ∷ is) h = (omega (arith, h.0, l), within-more m n l is h.1)
+
+-- what stands at positions that stay
+same-stated : (old new : Kept) → ((n : ℕ) → n < length old.stated.items → stated_at new n ≡ stated_at old n)
+    → (is : List ℕ) → AllByRecursion (λ i. i < length old.stated.items) is
+    → map (stated_at new) is ≡ map (stated_at old) is
+same-stated old new same [] h = refl
+same-stated old new same (i ∷ is) h =
+    ap (λ (fs : List plain.Fact). fs ∷ map (stated_at new) is) (same i h.0)
+    ∙ ap (λ (fss : List (List plain.Fact)). stated_at old i ∷ fss) (same-stated old new same is h.1)
+
+module _ (p : Program) (s : Setting) (lemmas : List Proof) (old : Kept) (h : IsKeptOf p s lemmas old) (q : Proof) where
+  -- what is kept of the lemmas, and then of one more that is accepted
+  pub kept-more : (new : Kept) (judged : Judged) → IsWhole s old q 0 judged → IsKeptMore old judged.stated new
+      → IsKeptOf p s (lemmas ++ q ∷ []) new
+  kept-more new judged k m = record {
+    some = omega (arith, h.some, m.grows);
+    start = m.stated 0 h.some ∙ h.start;
+    placed = subst (AllByRecursion (λ n. n < length new.stated.items)) (sym m.lemmas)
+        (each-append (λ n. n < length new.stated.items) old.lemmas.items (m.position ∷ [])
+        (within-more (length old.stated.items) (length new.stated.items) m.grows old.lemmas.items h.placed)
+        (m.within, tt));
+    few = omega (arith, h.few, m.few, ap length m.lemmas, length-append old.lemmas.items (m.position ∷ []));
+    count = omega (
+      arith,
+      h.count,
+      ap length m.lemmas,
+      length-append old.lemmas.items (m.position ∷ []),
+      length-append lemmas (q ∷ []),
+    );
+    accepted = accepts-push s lemmas q h.accepted
+        (subst (λ (fs : List (List plain.Fact)). Accepts s fs q) h.facts (nodes-accepted s (past_of old) q k.passed));
+    facts = ap (map (stated_at new)) m.lemmas
+        ∙ (map-append (stated_at new) old.lemmas.items (m.position ∷ [])
+        ∙ (ap (λ (fss : List (List plain.Fact)). fss ++ stated_at new m.position ∷ [])
+        (same-stated old new m.stated old.lemmas.items h.placed)
+        ∙ (ap (λ (fs : List plain.Fact). past_of old ++ fs ∷ []) (m.facts ∙ k.facts)
+        ∙ (ap (λ (fss : List (List plain.Fact)). fss ++ facts_of s fss q ∷ []) h.facts ∙ sym (told-push s lemmas q)))));
+  }
+
+  -- where the next lemma is refused, the list is
+  pub refused-lemma : (rest all : List Proof) (lemma node : ℕ) (r : told.Reason) → all ≡ lemmas ++ q ∷ rest
+      → lemma ≡ suc (length lemmas) → RefusesAmong s (past_of old) (nodes_of q) 0 (tree.Refused node r)
+      → IsRefusedAt s all lemma node (reason_of r)
+  refused-lemma rest all lemma node r e f k = record {
+    before = lemmas;
+    proof = q;
+    behind = rest;
+    whole = e;
+    number = f;
+    accepted = h.accepted;
+    first = subst (λ (n : ℕ).
+        FailsFirst (AcceptsNode s (facts_of_lemmas s lemmas)) (IsFirstReason s (facts_of_lemmas s lemmas)) (nodes_of q) n
+        (reason_of r)) (let m : k.0 ≡ node = omega (arith, k.1) in m)
+        (subst (λ (fs : List (List plain.Fact)).
+        FailsFirst (AcceptsNode s fs) (IsFirstReason s fs) (nodes_of q) k.0 (reason_of r)) h.facts k.2);
+  }

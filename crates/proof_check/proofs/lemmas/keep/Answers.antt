@@ -1,0 +1,30 @@
+use Rattle.std.proofs.Common.{◌∙◌, ℕ, ◌<◌, ◌∷◌, [], length, List, refl, ap, subst, sym, arith}
+use Rattle.std.proofs.lemmas.List.{length-append}
+use Rattle.proof_check.specs.Statements.{facts_from}
+use Rattle.proof_check.proofs.Keeping.{kept-before, kept-last}
+use Rattle.proof_check.proofs.lemmas.keep.Goals as goal
+
+pub returns-in-Kept : goal.returns-in-Kept
+returns-in-Kept c = record {
+  stated = λ n l. refl;
+  position = c.in-Kept.position;
+  lemmas = c.in_ok-push.ensures.items;
+  within = c.requires.placed;
+  facts = refl;
+  grows = omega arith;
+  few = omega arith;
+}
+
+pub returns-in-Own : goal.returns-in-Own
+returns-in-Own c =
+    let old = c.args.kept.now.stated.items in
+    let new = c.in_ok-push-in-Own-2.ensures.items in
+    record {
+      stated = λ n l. ap (λ xs. facts_from xs n) new ∙ kept-before old (c.in-Own.facts ∷ []) n l;
+      position = length old;
+      lemmas = c.in_ok-push-in-Own.ensures.items;
+      within = omega (arith, ap length new, length-append old (c.in-Own.facts ∷ []));
+      facts = ap (λ xs. facts_from xs (length old)) new ∙ kept-last old c.in-Own.facts;
+      grows = omega (arith, ap length new, length-append old (c.in-Own.facts ∷ []));
+      few = omega (arith, ap length new, length-append old (c.in-Own.facts ∷ []));
+    }

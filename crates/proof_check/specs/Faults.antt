@@ -1,0 +1,11 @@
+-- Faults of nodes, with the numbers of these.
+use Rattle.std.specs.Prelude.{ℕ}
+use Rattle.proof_check.specs.declared.refusal.NodeFault.{NodeFault}
+use Rattle.proof_check.specs.declared.refusal.NodeFault.TheVariants as node
+use Rattle.proof_check.specs.declared.refusal.TreeFault.{TreeFault}
+use Rattle.proof_check.specs.declared.refusal.TreeFault.TheVariants as tree
+
+-- the fault of the node with a number
+abbrev pub at_number : NodeFault → ℕ → TreeFault
+at_number (node.Refused reason) n = tree.Refused n reason
+at_number node.Memory n = tree.Memory
