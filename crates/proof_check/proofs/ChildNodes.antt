@@ -8,6 +8,7 @@ use Rattle.proof_tree.specs.proof_nodes.Nodes.{Charge, Proofs, NoProof, AndProof
 use Rattle.proof_tree.specs.proof_nodes.Numbering.{nodes_of, nodes_of_all}
 use Rattle.proof_tree.specs.proof_nodes.Acceptance.{facts_of, joined_facts}
 use Rattle.proof_tree.specs.proof_nodes.Setting.{Setting}
+use Rattle.proof_tree.specs.Views.{uses_of}
 use Rattle.proof_check.specs.Children.{list_of, children_of, nodes_in, all_facts}
 
 -- the nodes of uses are those of their list
@@ -56,3 +57,8 @@ nodes-append (p ∷ ps) qs =
 -- and of one lemma more
 pub nodes-push : (ps : List Proof) (p : Proof) → nodes_in (ps ++ p ∷ []) ≡ nodes_in ps ++ nodes_of p
 nodes-push ps p = nodes-append ps (p ∷ []) ∙ ap (λ (ns : List Proof). nodes_in ps ++ ns) (append-nil (nodes_of p))
+
+-- proofs as uses, and as a list again
+pub list-uses : (ps : List Proof) → list_of (uses_of ps) ≡ ps
+list-uses [] = refl
+list-uses (p ∷ ps) = ap (λ (qs : List Proof). p ∷ qs) (list-uses ps)

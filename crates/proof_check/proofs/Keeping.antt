@@ -1,6 +1,6 @@
 -- What is kept of accepted lemmas, and one more.
 use Rattle.std.proofs.Common.{◌≡◌, ℕ, zero, suc, ◌+◌, ◌<◌, ◌≤◌, List, [], ◌∷◌, ◌++◌, length, map, refl, sym, ap, ◌∙◌, subst}
-use Rattle.std.proofs.Common.{arith, Vec}
+use Rattle.std.proofs.Common.{arith, Vec, get_or}
 use Rattle.std.specs.declared.alloc.Global.{Global}
 use Rattle.std.specs.List.{AllByRecursion}
 use Rattle.std.proofs.lemmas.List.{map-append, length-append}
@@ -98,3 +98,22 @@ module _ (p : Program) (s : Setting) (lemmas : List Proof) (old : Kept) (h : IsK
         (subst (λ (fs : List (List plain.Fact)).
         FailsFirst (AcceptsNode s fs) (IsFirstReason s fs) (nodes_of q) k.0 (reason_of r)) h.facts k.2);
   }
+
+-- what is found at a position
+pub facts-found : (xs ys : List (Vec Fact Global)) (n : ℕ) (x : Vec Fact Global) → xs ≡ ys → n < length xs
+    → x ≡ get_or xs n x → facts_in_order x.items ≡ facts_from ys n
+facts-found xs ys n x e l h = go xs n l h ∙ ap (λ (zs : List (Vec Fact Global)). facts_from zs n) e
+  where
+    go : (zs : List (Vec Fact Global)) (m : ℕ) → m < length zs → x ≡ get_or zs m x → facts_in_order x.items ≡ facts_from zs m
+    go [] m l h = absurd (omega (arith, l))
+    go (z ∷ zs) zero l h = ap (λ (v : Vec Fact Global). facts_in_order v.items) h
+    go (z ∷ zs) (suc m) l h = go zs m (omega (arith, l)) h
+
+-- past the end there is nothing
+pub facts-past : (xs ys : List (Vec Fact Global)) (n : ℕ) → xs ≡ ys → length xs ≤ n → [] ≡ facts_from ys n
+facts-past xs ys n e l = go xs n l ∙ ap (λ (zs : List (Vec Fact Global)). facts_from zs n) e
+  where
+    go : (zs : List (Vec Fact Global)) (m : ℕ) → length zs ≤ m → [] ≡ facts_from zs m
+    go [] m l = refl
+    go (z ∷ zs) zero l = absurd (omega (arith, l))
+    go (z ∷ zs) (suc m) l = go zs m (omega (arith, l))

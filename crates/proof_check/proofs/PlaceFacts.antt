@@ -7,6 +7,9 @@ use Rattle.model.specs.Facts.{Fact, Time, Size}
 use Rattle.model.specs.Programs.{Program}
 use Rattle.proof_tree.specs.proof_nodes.AcceptsPlain.{zero_sizes, start_sizes}
 use Rattle.proof_tree.proofs.Numbers.{numbers-more}
+use Rattle.proof_tree.specs.Views.{fact_of, facts_of}
+use Rattle.proof_tree.specs.declared.fact.Fact as code
+use Rattle.std.proofs.lemmas.List.{map-append}
 
 -- one place more of a rule that never runs
 zero-push : (t : ℕ) (is : List ℕ) (i : ℕ) → zero_sizes t (is ++ i ∷ []) ≡ zero_sizes t is ++ Size t i (Constant 0) ∷ []
@@ -34,3 +37,9 @@ start-more n =
     (let e : 1 + n ≡ n + 1 = omega arith in e)
     ∙ ap (λ (i : ℕ). start_sizes (range_with_len 1 n) ++ Size 0 (n + 1) (Input i) ∷ [])
     (let e : (n + 1) - 1 ≡ n = omega arith in e)))
+
+-- one fact more at the end of a list
+pub facts-pushed : (old new : List code.Fact) (x : code.Fact) (f : Fact) → new ≡ old ++ x ∷ [] → fact_of x ≡ f
+    → facts_of new ≡ facts_of old ++ f ∷ []
+facts-pushed old new x f e h =
+    ap facts_of e ∙ (map-append fact_of old (x ∷ []) ∙ ap (λ (g : Fact). facts_of old ++ g ∷ []) h)

@@ -8,7 +8,16 @@ use Rattle.guard_prep.specs.declared.rule_rows.RuleRows.{RuleRows}
 use Rattle.guard_prep.specs.Laws.{IsPreparable}
 use Rattle.guard_prep.specs.Prepared.{Prepared, prepared, rows_of}
 use Rattle.guard_prep.specs.Views.{prepared_of}
-use Rattle.guard_prep.proofs.CertificateSizes.{rows-suit-certificates}
+use Rattle.guard_prep.proofs.SizeLaws.{rows-are-small}
+use Rattle.farkas_cert.proofs.Sums.{rows_of_a_rule}
+use Rattle.farkas_cert.specs.Sizes.{AreRowNumbers, HasRowNumbers, row_limit}
+use Rattle.guard_prep.specs.Laws.{IsSmallForm}
+use Rattle.guard_prep.specs.Prepared.{unknowns_of}
+use Rattle.model.specs.Limits.{coefficient_limit}
+use Rattle.std.proofs.Common.{[], ◌∷◌, All}
+use Rattle.std.specs.List.{AllByRecursion}
+use Rattle.std.specs.Prelude.{ℤ, nat_abs}
+use Rattle.std.proofs.lemmas.List.Elements.{All-nil, All-cons}
 use Rattle.guard_prep.proofs.StepLaws.{preparable}
 use Rattle.its_model.specs.Valid.{IsValid}
 use Rattle.its_model.specs.Views.{rule_of, program_of}
@@ -22,6 +31,19 @@ use Rattle.proof_tree.specs.Composing.{AreRowsOf}
 use Rattle.proof_tree.specs.proof_nodes.AcceptsPlain.{IsRule}
 use Rattle.proof_tree.specs.proof_setting.Setting.{rows_in, news_in, setting_of}
 use Rattle.proof_tree.proofs.Rules.{rule_here}
+
+-- a small form has numbers below 2^63
+small-numbers : (n : ℕ) (f : Form) → IsSmallForm n f → HasRowNumbers f
+small-numbers n f h = record { coefs = each f.coefs h.coefs; constant = omega (arith, h.constant) }
+  where
+    each : (xs : List ℤ) → AllByRecursion (λ a. nat_abs a ≤ coefficient_limit) xs → AreRowNumbers xs
+    each [] k = All-nil (λ (x : ℤ). nat_abs x < row_limit)
+    each (x ∷ xs) k = All-cons (λ (a : ℤ). nat_abs a < row_limit) x xs (omega (arith, k.0)) (each xs k.1)
+
+-- so have all small forms of a list
+pub all-numbers : (n : ℕ) (rows : List Form) → AllByRecursion (IsSmallForm n) rows → All HasRowNumbers rows
+all-numbers n [] h = All-nil HasRowNumbers
+all-numbers n (f ∷ rows) h = All-cons HasRowNumbers f rows (small-numbers n f h.0) (all-numbers n rows h.1)
 
 -- a rule that is read of a valid program is preparable
 pub rule-preparable : (p : code.Program) (i : ℕ) (r : code_rule.Rule) → IsValid (program_of p)
@@ -76,4 +98,6 @@ module _ (p : Program) (preps : List RuleRows) (rows : AreRowsOf preps p) where
     pub prep-small : IsValid p → AreSmall (map form_of prep.rows.items)
     prep-small v =
         subst AreSmall (sym (ap (λ (m : Prepared). m.rows) (row-is t is.rule prep is.numbered e)))
-        (rows-suit-certificates.sums is.rule (preparable p t is.rule v is.numbered))
+        (let q = preparable p t is.rule v is.numbered in
+        rows_of_a_rule (rows_of is.rule) (rows-are-small.few_rows is.rule q)
+        (all-numbers (unknowns_of is.rule) (rows_of is.rule) (rows-are-small.rows is.rule q)))

@@ -1,5 +1,5 @@
 -- Bounds as they may be written, part by part.
-use Rattle.std.proofs.Common.{◌≡◌, ℕ, zero, suc, ◌+◌, ◌<◌, List, [], ◌∷◌, length, get_or, take, subst, sym, arith}
+use Rattle.std.proofs.Common.{◌≡◌, ◌↔◌, ℕ, zero, suc, ◌+◌, ◌<◌, List, [], ◌∷◌, length, get_or, take, subst, sym, arith}
 use Rattle.model.specs.Bounds as plain
 use Rattle.model.specs.Bounds.{Parts, NoParts, Part}
 use Rattle.bound_expr.specs.Views.{bound_of, bounds_of, parts_of, with_part}
@@ -29,3 +29,22 @@ part-writable n (y ∷ xs) zero x l e h =
     subst (λ (z : Bound). IsWritable n (bound_of z)) (sym e) (record { inputs = h.inputs.0; numbers = h.numbers.0 })
 part-writable n (y ∷ xs) (suc i) x l e h =
     part-writable n xs i x (omega (arith, l)) e (record { inputs = h.inputs.1; numbers = h.numbers.1 })
+
+-- a sum, a product or a maximum may be written exactly where its parts may
+pub sum-writable : (n : ℕ) (b : plain.Bound) (bs : Parts) → b ≡ plain.SumOf bs → AreWritable n bs ↔ IsWritable n b
+sum-writable n b bs e = (
+  (λ h. subst (IsWritable n) (sym e) (record { inputs = (tt, h.inputs); numbers = (tt, h.numbers) })),
+  (λ h. let k = subst (IsWritable n) e h in record { inputs = k.inputs.1; numbers = k.numbers.1 }),
+)
+
+pub product-writable : (n : ℕ) (b : plain.Bound) (bs : Parts) → b ≡ plain.ProductOf bs → AreWritable n bs ↔ IsWritable n b
+product-writable n b bs e = (
+  (λ h. subst (IsWritable n) (sym e) (record { inputs = (tt, h.inputs); numbers = (tt, h.numbers) })),
+  (λ h. let k = subst (IsWritable n) e h in record { inputs = k.inputs.1; numbers = k.numbers.1 }),
+)
+
+pub maximum-writable : (n : ℕ) (b : plain.Bound) (bs : Parts) → b ≡ plain.MaximumOf bs → AreWritable n bs ↔ IsWritable n b
+maximum-writable n b bs e = (
+  (λ h. subst (IsWritable n) (sym e) (record { inputs = (tt, h.inputs); numbers = (tt, h.numbers) })),
+  (λ h. let k = subst (IsWritable n) e h in record { inputs = k.inputs.1; numbers = k.numbers.1 }),
+)

@@ -1,15 +1,14 @@
-use Rattle.std.proofs.Common.{◌∙◌, ◌++◌, ◌∷◌, ◌+◌, [], List, ap, sym}
+use Rattle.std.proofs.Common.{◌∙◌, ◌++◌, ◌∷◌, ◌+◌, [], List, ap, sym, refl}
 use Rattle.std.proofs.lemmas.List.{map-append}
 use Rattle.model.specs.Bounds.{Constant, Input}
 use Rattle.model.specs.Facts as plain
 use Rattle.proof_tree.specs.Views.{fact_of, facts_of}
-use Rattle.proof_check.proofs.PlaceFacts.{start-more}
+use Rattle.proof_check.proofs.PlaceFacts.{start-more, facts-pushed}
 use Rattle.proof_check.proofs.stating.start_facts.Goals as goal
 
 pub loop-position-preserved : goal.loop-position-preserved
 loop-position-preserved c =
-    ap facts_of c.in_ok-push-2.ensures.items
-    ∙ (map-append fact_of c.loop-position.facts.items _
+    facts-pushed _ _ _ _ c.in_ok-push-2.ensures.items refl
     ∙ (ap (λ (fs : List plain.Fact). fs ++ plain.Size 0 (c.loop-position.position + 1) (Input c.loop-position.position) ∷ [])
     c.loop-position.invariant
-    ∙ ap (λ (fs : List plain.Fact). plain.Time 0 (Constant 1) ∷ fs) (sym (start-more c.loop-position.position))))
+    ∙ ap (λ (fs : List plain.Fact). plain.Time 0 (Constant 1) ∷ fs) (sym (start-more c.loop-position.position)))

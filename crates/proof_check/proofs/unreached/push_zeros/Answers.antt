@@ -6,9 +6,6 @@ use Rattle.proof_check.proofs.Cuts.{done-more, done-all}
 use Rattle.proof_check.proofs.ZeroRules.{adds-both, adds-nothing}
 use Rattle.proof_check.proofs.unreached.push_zeros.Goals as goal
 
-pub loop-fact-begins : goal.loop-fact-begins
-loop-fact-begins c = adds-nothing c.args.cut.now.items
-
 pub loop-fact-preserved : goal.loop-fact-preserved
 loop-fact-preserved c =
     subst (λ (fs : List plain.Fact). AddsZeros c.args.cut.now.items fs c.push_zero.new.cut.items)

@@ -8,9 +8,6 @@ use Rattle.proof_check.proofs.JoinedFacts.{joined-more}
 use Rattle.proof_check.proofs.ZeroRules.{adds-both, adds-nothing, zeros-from}
 use Rattle.proof_check.proofs.unreached.zero_rules.Goals as goal
 
-pub loop-used-begins : goal.loop-used-begins
-loop-used-begins c = adds-nothing []
-
 pub loop-used-preserved : goal.loop-used-preserved
 loop-used-preserved c =
     subst (λ (fs : List plain.Fact). AddsZeros [] fs c.push_zeros.new.cut.items)

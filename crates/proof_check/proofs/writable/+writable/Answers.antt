@@ -1,9 +1,9 @@
-use Rattle.std.proofs.Common.{List, refl, subst, arith}
+use Rattle.std.proofs.Common.{ap, sym, List, refl, subst, arith}
 use Rattle.std.proofs.lemmas.List.{take_all}
-use Rattle.bound_expr.specs.Views.{bounds_of, parts_of}
+use Rattle.bound_expr.specs.Views.{bound_of, bounds_of, parts_of}
 use Rattle.bound_expr.specs.declared.bound.Bound.{Bound}
 use Rattle.proof_check.specs.Writables.{AreWritable}
-use Rattle.proof_check.proofs.WritableBounds.{writable-more, part-writable}
+use Rattle.proof_check.proofs.WritableBounds.{writable-more, part-writable, sum-writable, product-writable, maximum-writable}
 use Rattle.proof_check.proofs.writable.+writable.Goals as goal
 
 pub are_writable-returns-then-not-fits : goal.are_writable-returns-then-not-fits
@@ -24,3 +24,30 @@ are_writable-returns t c = (
       (take_all c.loop-part.part-index c.args.parts.now (omega (arith, c.loop-part-test.false))) c.loop-part.invariant,
   λ h. refl,
 )
+
+pub is_writable-returns-in-Sum : goal.is_writable-returns-in-Sum
+is_writable-returns-in-Sum t c =
+    let same = ap (λ (ps : List Bound). parts_of (bounds_of ps)) c.deref.ensures.value in
+    let h = sum-writable c.args.inputs (bound_of c.args.bound.now) _ (ap bound_of c.in-Sum.is) in
+    (
+      λ e. h.0 (subst (AreWritable c.args.inputs) same (c.are_writable.ensures.0 e)),
+      λ w. c.are_writable.ensures.1 (subst (AreWritable c.args.inputs) (sym same) (h.1 w)),
+    )
+
+pub is_writable-returns-in-Prod : goal.is_writable-returns-in-Prod
+is_writable-returns-in-Prod t c =
+    let same = ap (λ (ps : List Bound). parts_of (bounds_of ps)) c.deref-in-Prod.ensures.value in
+    let h = product-writable c.args.inputs (bound_of c.args.bound.now) _ (ap bound_of c.in-Prod.is) in
+    (
+      λ e. h.0 (subst (AreWritable c.args.inputs) same (c.are_writable-in-Prod.ensures.0 e)),
+      λ w. c.are_writable-in-Prod.ensures.1 (subst (AreWritable c.args.inputs) (sym same) (h.1 w)),
+    )
+
+pub is_writable-returns-in-Max : goal.is_writable-returns-in-Max
+is_writable-returns-in-Max t c =
+    let same = ap (λ (ps : List Bound). parts_of (bounds_of ps)) c.deref-in-Max.ensures.value in
+    let h = maximum-writable c.args.inputs (bound_of c.args.bound.now) _ (ap bound_of c.in-Max.is) in
+    (
+      λ e. h.0 (subst (AreWritable c.args.inputs) same (c.are_writable-in-Max.ensures.0 e)),
+      λ w. c.are_writable-in-Max.ensures.1 (subst (AreWritable c.args.inputs) (sym same) (h.1 w)),
+    )
