@@ -4,19 +4,8 @@ use Rattle.proof_check.specs.Statements.{facts_from}
 use Rattle.proof_check.proofs.Keeping.{kept-before, kept-last}
 use Rattle.proof_check.proofs.lemmas.keep.Goals as goal
 
-pub returns-in-Kept : goal.returns-in-Kept
-returns-in-Kept c = record {
-  stated = λ n l. refl;
-  position = c.in-Kept.position;
-  lemmas = c.in_ok-push.ensures.items;
-  within = c.requires.placed;
-  facts = refl;
-  grows = omega arith;
-  few = omega arith;
-}
-
-pub returns-in-Own : goal.returns-in-Own
-returns-in-Own c =
+pub returns-in_ok-push-in-Own-2 : goal.returns-in_ok-push-in-Own-2
+returns-in_ok-push-in-Own-2 c =
     let old = c.args.kept.now.stated.items in
     let new = c.in_ok-push-in-Own-2.ensures.items in
     record {

@@ -8,7 +8,7 @@ use Rattle.proof_check.proofs.stating.start_facts.Goals as goal
 
 pub loop-position-preserved : goal.loop-position-preserved
 loop-position-preserved c =
-    facts-pushed _ _ _ _ c.in_ok-push-2.ensures.items refl
+    facts-pushed _ _ _ (plain.Size 0 (c.loop-position.position + 1) (Input c.loop-position.position)) c.in_ok-push-2.ensures.items refl
     ∙ (ap (λ (fs : List plain.Fact). fs ++ plain.Size 0 (c.loop-position.position + 1) (Input c.loop-position.position) ∷ [])
     c.loop-position.invariant
     ∙ ap (λ (fs : List plain.Fact). plain.Time 0 (Constant 1) ∷ fs) (sym (start-more c.loop-position.position)))
