@@ -31,7 +31,7 @@ judge_all-loop-proof-preserved t c =
     (sym (done-more proof_of c.args.proofs.now c.loop-proof.proof-index c.proof-item.result c.loop-proof-test.true c.proof-item.is))
     (one-more s kept (map proof_of (take c.loop-proof.proof-index c.args.proofs.now)) (proof_of c.proof-item.result)
     c.args.before c.loop-proof.count c.loop-proof.uses c.push.new.self c.in-Ok.judged c.loop-proof.invariant c.in-Ok.ensures
-    c.in_ok-push.ensures.items)
+    c.in_ok-push-in-Ok.ensures.items)
 
 pub judge_all-returns-in-Err : goal.judge_all-returns-in-Err
 judge_all-returns-in-Err t c =

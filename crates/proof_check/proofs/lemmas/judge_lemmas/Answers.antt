@@ -25,7 +25,7 @@ loop-i-preserved c =
     subst (λ (ps : List Proof). IsKeptOf (program g) (setting g) ps c.keep.new.kept)
     (sym (done-more proof_of c.args.lemmas.now c.loop-i.i c.index-lemmas-i.result (omega arith) c.index-lemmas-i.is))
     (kept-more (program g) (setting g) (map proof_of (take c.loop-i.i c.args.lemmas.now)) c.loop-i.kept c.loop-i.invariant
-    (proof_of c.index-lemmas-i.result) c.keep.new.kept c.in-Ok.judged c.in-Ok.ensures (c.in_ok-keep.ensures {u = tt}))
+    (proof_of c.index-lemmas-i.result) c.keep.new.kept c.in-Ok.judged c.in-Ok.ensures (c.in_ok-keep-in-Ok.ensures {u = tt}))
 
 pub returns-in-Err-in-Refused : goal.returns-in-Err-in-Refused
 returns-in-Err-in-Refused c =
