@@ -1,15 +1,14 @@
 -- Accepted lemmas, one more behind them, and that the bounds of what an accepted lemma states have bases of at least 1.
 use Rattle.std.proofs.Common.{◌≡◌, List, [], ◌∷◌, ◌++◌, All, map, refl, sym, ap, ◌∙◌, subst}
 use Rattle.std.specs.List.{AllByRecursion}
-use Rattle.std.proofs.lemmas.List.Elements.{All-from_recursion, recursion_from_All}
+use Rattle.std.proofs.lemmas.List.Elements.{recursion_from_All}
 use Rattle.model.specs.Facts.{Fact}
 use Rattle.model.specs.Programs.{Program}
 use Rattle.its_model.specs.Valid.{IsValid}
 use Rattle.proof_tree.specs.proof_nodes.Nodes.{Proof}
 use Rattle.proof_tree.specs.proof_nodes.Numbering.{nodes_of}
-use Rattle.proof_tree.specs.proof_nodes.Setting.{Setting, IsFaithful}
+use Rattle.proof_tree.specs.proof_nodes.Setting.{Setting}
 use Rattle.proof_tree.specs.proof_nodes.Acceptance.{facts_of, Accepts, AcceptsFrom, facts_from, AcceptsLemmas, facts_of_lemmas}
-use Rattle.proof_tree.specs.proof_nodes.Laws.{HasBasedBound}
 use Rattle.proof_tree.specs.proof_setting.Setting.{setting_of}
 use Rattle.proof_tree.proofs.proof_nodes.CheckLists.{append-each}
 use Rattle.proof_tree.proofs.proof_nodes.Numbering.{nodes-accepted}

@@ -6,8 +6,8 @@ use Rattle.model.specs.Programs.{Program}
 use Rattle.proof_tree.specs.AnswerViews.{fault_of, gap_of, file_of}
 use Rattle.proof_tree.specs.Views.{proof_of}
 use Rattle.proof_tree.specs.declared.file.ProofFile as code
-use Rattle.proof_tree.specs.proof_nodes.Gaps.{Gap}
-use Rattle.proof_tree.specs.proof_nodes.GapChecks.{GapHolds}
+use Rattle.proof_tree.specs.declared.gap.Gap as gaps
+use Rattle.proof_tree.specs.declared.proof.Proof as codes
 use Rattle.proof_tree.specs.proof_nodes.Refusals.{IsRefusedAtGap}
 use Rattle.proof_tree.specs.proof_setting.RankedSets.{forms_at}
 use Rattle.proof_tree.specs.proof_setting.Setting.{setting_of}
@@ -50,3 +50,17 @@ module _ (p : Program) (f : code.ProofFile) (kept : Kept)
     -- and the gaps exclude functions
     pub gaps-exclude : IsValid p → ExcludeFunctions p (map gap_of f.gaps.items)
     gaps-exclude v = (files-hold.each p v (file_of f) accepted-with.accepted).gaps
+
+module _ (p q : Program) (f : code.ProofFile) (same : q ≡ p) where
+  -- what is kept of the lemmas that were judged is so of the file
+  pub kept-same : (ps : List codes.Proof) (kept : Kept) → ps ≡ f.lemmas.items
+      → IsKeptOf q (setting_of q) (map proof_of ps) kept → IsKeptOf p (setting_of p) (map proof_of f.lemmas.items) kept
+  kept-same ps kept e h =
+      subst (λ (r : Program). IsKeptOf r (setting_of r) (map proof_of f.lemmas.items) kept) same
+      (subst (λ (xs : List codes.Proof). IsKeptOf q (setting_of q) (map proof_of xs) kept) e h)
+
+  -- and that the gaps hold that were looked at
+  pub hold-same : (gs : List gaps.Gap) → gs ≡ f.gaps.items → HoldAll q (map gap_of gs) → HoldAll p (map gap_of f.gaps.items)
+  hold-same gs e h =
+      subst (λ (r : Program). HoldAll r (map gap_of f.gaps.items)) same
+      (subst (λ (xs : List gaps.Gap). HoldAll q (map gap_of xs)) e h)

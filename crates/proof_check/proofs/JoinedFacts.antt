@@ -2,10 +2,10 @@
 use Rattle.std.proofs.Common.{◌≡◌, ℕ, ◌+◌, ◌<◌, List, [], ◌∷◌, ◌++◌, length, map, take, get_or, refl, sym, ap, ◌∙◌}
 use Rattle.std.specs.List.{AllByRecursion}
 use Rattle.std.proofs.Common.{All}
-use Rattle.std.proofs.lemmas.List.{append-nil, append_assoc, map-append}
+use Rattle.std.proofs.lemmas.List.{append-nil, append_assoc}
 use Rattle.std.proofs.lemmas.List.Elements.{All-nil, All-head, All-tail, All-append}
 use Rattle.model.specs.Facts.{Fact}
-use Rattle.proof_tree.specs.proof_nodes.Nodes.{Proof, Proofs}
+use Rattle.proof_tree.specs.proof_nodes.Nodes.{Proofs}
 use Rattle.proof_tree.specs.proof_nodes.Acceptance.{facts_of, joined_facts}
 use Rattle.proof_tree.specs.proof_nodes.Setting.{Setting}
 use Rattle.proof_check.specs.declared.kept.Kept.{Kept}

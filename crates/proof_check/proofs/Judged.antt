@@ -1,9 +1,8 @@
 -- What judging a node gives of the lemma that it ends, and what judging several lemmas gives of one more.
-use Rattle.std.proofs.Common.{◌≡◌, ℕ, ◌+◌, ◌<◌, ◌≤◌, List, [], ◌∷◌, ◌++◌, length, map, take, drop, get_or, refl, sym, ap}
+use Rattle.std.proofs.Common.{◌≡◌, ℕ, ◌+◌, ◌<◌, List, [], ◌∷◌, ◌++◌, length, map, take, drop, get_or, sym, ap}
 use Rattle.std.proofs.Common.{◌∙◌, subst, arith, Vec}
 use Rattle.std.specs.Prelude.{Result, Ok, Err, MatchResult}
 use Rattle.std.specs.declared.alloc.Global.{Global}
-use Rattle.std.specs.List.{AllByRecursion}
 use Rattle.std.proofs.lemmas.List.{map-append, length-append}
 use Rattle.model.specs.Facts as plain
 use Rattle.proof_tree.specs.AnswerViews.{reason_of}
@@ -14,7 +13,7 @@ use Rattle.proof_tree.specs.proof_nodes.Nodes.{Proof}
 use Rattle.proof_tree.specs.proof_nodes.Numbering.{nodes_of}
 use Rattle.proof_tree.specs.proof_nodes.Acceptance.{facts_of, AcceptsNode}
 use Rattle.proof_tree.specs.proof_nodes.Setting.{Setting}
-use Rattle.proof_tree.specs.proof_nodes.Reasons.{Reason, AllPass, IsFirstAmong}
+use Rattle.proof_tree.specs.proof_nodes.Reasons.{AllPass}
 use Rattle.proof_tree.specs.proof_nodes.Checks.{checks_of, IsFirstReason}
 use Rattle.proof_tree.specs.proof_nodes.Refusals.{FailsFirst}
 use Rattle.proof_tree.proofs.proof_nodes.CheckLists.{passed_has_none, each-append}
@@ -24,7 +23,6 @@ use Rattle.proof_check.specs.declared.judging.Judged.{Judged}
 use Rattle.proof_check.specs.declared.judging.Joined.{Joined}
 use Rattle.proof_check.specs.declared.kept.Kept.{Kept}
 use Rattle.proof_check.specs.declared.kept.Use.{Use}
-use Rattle.proof_check.specs.declared.kept.Use.TheVariants as by
 use Rattle.proof_check.specs.declared.refusal.NodeFault.{NodeFault}
 use Rattle.proof_check.specs.declared.refusal.NodeFault.TheVariants as node
 use Rattle.proof_check.specs.declared.refusal.TreeFault.{TreeFault}

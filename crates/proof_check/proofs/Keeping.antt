@@ -1,9 +1,9 @@
 -- What is kept of accepted lemmas, and one more.
 use Rattle.std.proofs.Common.{◌≡◌, ℕ, zero, suc, ◌+◌, ◌<◌, ◌≤◌, List, [], ◌∷◌, ◌++◌, length, map, refl, sym, ap, ◌∙◌, subst}
-use Rattle.std.proofs.Common.{arith, Vec, get_or}
+use Rattle.std.proofs.Common.{arith, Vec, get_or, take}
 use Rattle.std.specs.declared.alloc.Global.{Global}
 use Rattle.std.specs.List.{AllByRecursion}
-use Rattle.std.proofs.lemmas.List.{map-append, length-append}
+use Rattle.std.proofs.lemmas.List.{map-append, length-append, get_or_default}
 use Rattle.model.specs.Facts as plain
 use Rattle.model.specs.Programs.{Program}
 use Rattle.proof_tree.specs.AnswerViews.{reason_of}
@@ -12,7 +12,9 @@ use Rattle.proof_tree.specs.declared.answer.Reason as told
 use Rattle.proof_tree.specs.declared.fact.Fact.{Fact}
 use Rattle.proof_tree.specs.proof_nodes.Nodes.{Proof}
 use Rattle.proof_tree.specs.proof_nodes.Numbering.{nodes_of}
-use Rattle.proof_tree.specs.proof_nodes.Acceptance.{facts_of, Accepts, AcceptsNode, facts_of_lemmas}
+use Rattle.proof_tree.specs.proof_nodes.Acceptance.{facts_of, Accepts, AcceptsNode, AcceptsLemmas, facts_of_lemmas}
+use Rattle.proof_tree.specs.proof_nodes.AcceptsPlain.{start_facts}
+use Rattle.proof_tree.specs.proof_setting.Setting.{setting_of}
 use Rattle.proof_tree.specs.proof_nodes.Refusals.{FailsFirst, IsRefusedAt}
 use Rattle.proof_tree.specs.proof_nodes.Checks.{IsFirstReason}
 use Rattle.proof_tree.specs.proof_nodes.Setting.{Setting}
@@ -20,11 +22,17 @@ use Rattle.proof_tree.proofs.proof_nodes.CheckLists.{each-append}
 use Rattle.proof_tree.proofs.proof_nodes.Numbering.{nodes-accepted}
 use Rattle.proof_check.specs.declared.judging.Judged.{Judged}
 use Rattle.proof_check.specs.declared.kept.Kept.{Kept}
+use Rattle.proof_check.specs.declared.refusal.TreeFault.{TreeFault}
 use Rattle.proof_check.specs.declared.refusal.TreeFault.TheVariants as tree
+use Rattle.proof_check.specs.Faults.{in_lemma}
+use Rattle.proof_check.specs.Files.{RefusesLemmas}
 use Rattle.proof_check.specs.Judging.{IsKeptOf, IsKeptMore, IsWhole}
 use Rattle.proof_check.specs.Refusing.{RefusesAmong}
-use Rattle.proof_check.specs.Statements.{facts_from, stated_at, past_of, facts_by}
+use Rattle.proof_check.specs.Statements.{facts_from, stated_at, past_of}
+use Rattle.proof_check.specs.Children.{all_facts}
 use Rattle.proof_check.proofs.AcceptedLemmas.{accepts-push, told-push}
+use Rattle.proof_check.proofs.Cuts.{done-more}
+use Rattle.proof_check.proofs.JoinedFacts.{facts-push}
 
 -- what stands before the end stays, whatever is pushed behind it
 pub kept-before : (xs ys : List (Vec Fact Global)) (n : ℕ) → n < length xs → facts_from (xs ++ ys) n ≡ facts_from xs n
@@ -82,7 +90,7 @@ module _ (p : Program) (s : Setting) (lemmas : List Proof) (old : Kept) (h : IsK
   }
 
   -- where the next lemma is refused, the list is
-  pub refused-lemma : (rest all : List Proof) (lemma node : ℕ) (r : told.Reason) → all ≡ lemmas ++ q ∷ rest
+  refused-lemma : (rest all : List Proof) (lemma node : ℕ) (r : told.Reason) → all ≡ lemmas ++ q ∷ rest
       → lemma ≡ suc (length lemmas) → RefusesAmong s (past_of old) (nodes_of q) 0 (tree.Refused node r)
       → IsRefusedAt s all lemma node (reason_of r)
   refused-lemma rest all lemma node r e f k = record {
@@ -98,6 +106,13 @@ module _ (p : Program) (s : Setting) (lemmas : List Proof) (old : Kept) (h : IsK
         (subst (λ (fs : List (List plain.Fact)).
         FailsFirst (AcceptsNode s fs) (IsFirstReason s fs) (nodes_of q) k.0 (reason_of r)) h.facts k.2);
   }
+
+  -- whatever the fault is
+  pub refused-fault : (rest all : List Proof) (lemma : ℕ) (fault : TreeFault) → all ≡ lemmas ++ q ∷ rest
+      → lemma ≡ suc (length lemmas) → RefusesAmong s (past_of old) (nodes_of q) 0 fault
+      → RefusesLemmas s all (in_lemma fault lemma)
+  refused-fault rest all lemma (tree.Refused node r) e f k = refused-lemma rest all lemma node r e f k
+  refused-fault rest all lemma tree.Memory e f k = tt
 
 -- what is found at a position
 pub facts-found : (xs ys : List (Vec Fact Global)) (n : ℕ) (x : Vec Fact Global) → xs ≡ ys → n < length xs
@@ -117,3 +132,42 @@ facts-past xs ys n e l = go xs n l ∙ ap (λ (zs : List (Vec Fact Global)). fac
     go [] m l = refl
     go (z ∷ zs) zero l = absurd (omega (arith, l))
     go (z ∷ zs) (suc m) l = go zs m (omega (arith, l))
+
+-- no lemmas are accepted, and state nothing
+no-lemmas : (s : Setting) → AcceptsLemmas s []
+unfolding AcceptsLemmas
+no-lemmas s = tt
+
+no-facts : (s : Setting) → [] ≡ facts_of_lemmas s []
+unfolding facts_of_lemmas
+no-facts s = refl
+
+-- before the first lemma the facts of the virtual entry are kept
+pub kept-none : (p : Program) (none stated : Vec (Vec Fact Global) Global) (lemmas : Vec ℕ Global) (first : Vec Fact Global)
+    → none.items ≡ [] → stated.items ≡ none.items ++ first ∷ [] → lemmas.items ≡ []
+    → facts_in_order first.items ≡ start_facts p
+    → IsKeptOf p (setting_of p) [] (record { stated = stated; lemmas = lemmas })
+kept-none p none stated lemmas first e f g h = record {
+  some = omega (arith, ap length whole);
+  start = ap (λ (xs : List (Vec Fact Global)). facts_from xs 0) whole ∙ h;
+  placed = subst (AllByRecursion (λ n. n < length stated.items)) (sym g) tt;
+  few = omega (arith, ap length whole);
+  count = ap length g;
+  accepted = no-lemmas (setting_of p);
+  facts = ap (map (stated_at (record { stated = stated; lemmas = lemmas }))) g ∙ no-facts (setting_of p);
+}
+  where
+    whole : stated.items ≡ first ∷ []
+    whole = f ∙ ap (λ (xs : List (Vec Fact Global)). xs ++ first ∷ []) e
+
+-- the facts of one lemma more were copied
+pub copied-more : (kept : Kept) (xs : List ℕ) (i d : ℕ) (old new facts : List plain.Fact) → xs ≡ kept.lemmas.items
+    → i < length xs → old ≡ all_facts (map (stated_at kept) (take i kept.lemmas.items)) → new ≡ old ++ facts
+    → facts ≡ stated_at kept (get_or xs i d) → new ≡ all_facts (map (stated_at kept) (take (i + 1) kept.lemmas.items))
+copied-more kept xs i d old new facts e l before n f =
+    n ∙ (ap (λ (fs : List plain.Fact). fs ++ facts) before
+    ∙ (ap (λ (fs : List plain.Fact). all_facts (map (stated_at kept) (take i kept.lemmas.items)) ++ fs) f
+    ∙ (sym (facts-push (map (stated_at kept) (take i kept.lemmas.items)) (stated_at kept (get_or xs i d)))
+    ∙ ap all_facts (sym (subst (λ (ys : List ℕ).
+    map (stated_at kept) (take (i + 1) ys) ≡ map (stated_at kept) (take i ys) ++ stated_at kept (get_or xs i d) ∷ []) e
+    (done-more (stated_at kept) xs i (get_or xs i d) l (get_or_default xs i d (get_or xs i d) l)))))))

@@ -26,3 +26,7 @@ mod PlainNodes
 mod SingleFacts
 -- bounds as they may be written
 mod WritableBounds
+-- nodes that have uses
+mod ProofViews
+-- lemmas that are cited
+mod CitedLemmas

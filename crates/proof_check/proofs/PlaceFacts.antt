@@ -1,10 +1,9 @@
 -- Facts of places, one after the other.
-use Rattle.std.proofs.Common.{◌≡◌, ℕ, zero, suc, ◌+◌, ◌-◌, List, [], ◌∷◌, ◌++◌, length, map, Option, Some, None, sym, ap}
+use Rattle.std.proofs.Common.{◌≡◌, ℕ, ◌+◌, ◌-◌, List, [], ◌∷◌, ◌++◌, ap}
 use Rattle.std.proofs.Common.{◌∙◌, refl, arith}
 use Rattle.std.specs.List.{range_with_len}
-use Rattle.model.specs.Bounds.{Bound, Constant, Input}
-use Rattle.model.specs.Facts.{Fact, Time, Size}
-use Rattle.model.specs.Programs.{Program}
+use Rattle.model.specs.Bounds.{Constant, Input}
+use Rattle.model.specs.Facts.{Fact, Size}
 use Rattle.proof_tree.specs.proof_nodes.AcceptsPlain.{zero_sizes, start_sizes}
 use Rattle.proof_tree.proofs.Numbers.{numbers-more}
 use Rattle.proof_tree.specs.Views.{fact_of, facts_of}

@@ -1,24 +1,23 @@
 -- What judging a plain node gives, by what is told of its children.
 use Rattle.std.proofs.Common.{◌≡◌, ℕ, zero, suc, ◌<◌, List, [], ◌∷◌, length, map, get_or, refl, sym, ap}
 use Rattle.std.proofs.Common.{◌∙◌, subst, arith, Vec}
-use Rattle.std.specs.Prelude.{Result, Ok, Err, MatchResult}
+use Rattle.std.specs.Prelude.{Result, MatchResult}
 use Rattle.std.specs.declared.alloc.Global.{Global}
-use Rattle.std.specs.List.{AllByRecursion}
 use Rattle.model.specs.Bounds.{Bound, Constant}
 use Rattle.model.specs.Facts as plain
 use Rattle.model.specs.Facts.{Time}
 use Rattle.proof_tree.specs.declared.fact.Fact.{Fact}
 use Rattle.proof_tree.specs.proof_nodes.AcceptsPlain.{may_run, never_facts, weakened}
-use Rattle.proof_tree.specs.proof_nodes.Acceptance.{facts_of, joined_facts, facts_of_lemma}
+use Rattle.proof_tree.specs.proof_nodes.Acceptance.{facts_of, facts_of_lemma}
 use Rattle.proof_tree.specs.proof_nodes.Checks.{checks_of, unreached_checks}
-use Rattle.proof_tree.specs.proof_nodes.Nodes.{Proof, Cite, Start, Empty, Unreached, Never, Weaken, Proofs}
+use Rattle.proof_tree.specs.proof_nodes.Nodes.{Proof, Unreached, Never, Weaken, Proofs}
 use Rattle.proof_tree.specs.proof_nodes.Setting.{Setting}
 use Rattle.proof_check.specs.declared.kept.Kept.{Kept}
 use Rattle.proof_check.specs.declared.kept.Use.{Use}
 use Rattle.proof_check.specs.declared.refusal.NodeFault.{NodeFault}
-use Rattle.proof_check.specs.Children.{list_of, children_of}
+use Rattle.proof_check.specs.Children.{children_of}
 use Rattle.proof_check.specs.Judging.{IsNodeOf}
-use Rattle.proof_check.specs.PlainChecks.{States, empty_checks, never_checks, weaken_checks}
+use Rattle.proof_check.specs.PlainChecks.{States, never_checks, weaken_checks}
 use Rattle.proof_check.specs.Refusing.{Refuses}
 use Rattle.proof_check.specs.Statements.{facts_by, first_by, joined_by, owned_by, past_of}
 use Rattle.proof_check.proofs.JoinedFacts.{joined-uses, first-child}

@@ -1,5 +1,5 @@
 -- The rules of a program, and what was prepared of them.
-use Rattle.std.proofs.Common.{◌≡◌, ℕ, zero, suc, ◌-◌, ◌<◌, ◌≤◌, List, length, map, get_or, slice_get, Option, Some, None}
+use Rattle.std.proofs.Common.{◌≡◌, ℕ, zero, suc, ◌-◌, ◌<◌, ◌≤◌, List, length, map, get_or, slice_get, Some}
 use Rattle.std.proofs.Common.{option_map, sym, ap, ◌∙◌, subst, arith, refl}
 use Rattle.std.proofs.lemmas.Option.{slice_get_read, slice_get_within, slice_get-map}
 use Rattle.std.proofs.lemmas.List.{length-map}
@@ -101,3 +101,11 @@ module _ (p : Program) (preps : List RuleRows) (rows : AreRowsOf preps p) where
         (let q = preparable p t is.rule v is.numbered in
         rows_of_a_rule (rows_of is.rule) (rows-are-small.few_rows is.rule q)
         (all-numbers (unknowns_of is.rule) (rows_of is.rule) (rows-are-small.rows is.rule q)))
+
+-- the rule that is read at the number of a rule
+pub rule-numbered : (p : code.Program) (t : ℕ) (r : code_rule.Rule) → IsRule (program_of p) t
+    → r ≡ get_or p.rules.items (t - 1) r → rule_at (program_of p) t ≡ Some (rule_of r)
+rule-numbered p zero r is e = absurd (let n = is.numbered in let no : ⊥ = cc in no)
+rule-numbered p (suc t) r is e =
+    let l = slice_get_within (map rule_of p.rules.items) t is.rule is.numbered in
+    rule_here p (suc t) r (omega arith) (omega (arith, l, length-map p.rules.items rule_of)) e

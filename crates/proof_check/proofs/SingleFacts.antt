@@ -1,5 +1,5 @@
 -- Facts that stand alone: what checks of a rule that never runs, and of a weaker bound, say of them.
-use Rattle.std.proofs.Common.{◌≡◌, ℕ, zero, suc, ◌≤◌, true, List, [], ◌∷◌, refl, sym, subst, arith}
+use Rattle.std.proofs.Common.{◌≡◌, ℕ, zero, suc, ◌≤◌, Bool, true, false, List, [], ◌∷◌, refl, sym, ap, ◌∙◌, subst, arith}
 use Rattle.model.specs.Bounds.{Bound}
 use Rattle.model.specs.Facts.{Fact, Time, Size, Cost}
 use Rattle.proof_tree.specs.proof_nodes.AcceptsPlain.{IsOneTime, IsZeroTime, IsWeaker}
@@ -7,6 +7,10 @@ use Rattle.proof_tree.specs.proof_nodes.Known.{is_zero_bound}
 use Rattle.proof_tree.specs.proof_nodes.Laws.{bound_in}
 use Rattle.proof_tree.specs.proof_nodes.Setting.{Setting}
 use Rattle.proof_check.specs.Singles.{IsNoSingle}
+use Rattle.proof_check.specs.Writables.{IsWritable}
+use Rattle.model.specs.Programs.{Program, arity_of}
+use Rattle.model.proofs.Membership.{no_is_not_yes}
+use Rattle.proof_tree.specs.proof_nodes.AcceptsPlain.{HasWeakenShape}
 
 -- what isn't one fact alone isn't one time
 pub no-time : (fs : List Fact) → IsNoSingle fs → ¬ (IsOneTime fs)
@@ -50,3 +54,16 @@ zero-time fs t b e h = subst IsZeroTime (sym e) h
 
 pub time-zero : (fs : List Fact) (t : ℕ) (b : Bound) → fs ≡ Time t b ∷ [] → IsZeroTime fs → is_zero_bound b ≡ true
 time-zero fs t b e h = subst IsZeroTime e h
+
+-- one fact alone whose own bound isn't below another isn't weaker
+pub not-weaker : (s : Setting) (fs : List Fact) (f : Fact) (a b : Bound) (v : Bool) → fs ≡ f ∷ [] → a ≡ bound_in f
+    → v ≡ s.below a b → v ≡ false → ¬ (IsWeaker s fs b)
+not-weaker s fs f a b v e k h n w =
+    no_is_not_yes (s.below a b) (sym h ∙ n)
+    (ap (λ (d : Bound). s.below d b) k ∙ told-weaker s f b (subst (λ (gs : List Fact). IsWeaker s gs b) e w))
+
+-- a bound may be written over the start arguments where it may be over as many inputs
+pub shape-written : (p : Program) (n : ℕ) (b : Bound) → n ≡ arity_of p p.start → IsWritable n b → HasWeakenShape p b
+shape-written p n b e h =
+    let k = subst (λ (m : ℕ). IsWritable m b) e h in
+    record { inputs = k.inputs; numbers = k.numbers }

@@ -1,6 +1,7 @@
 -- Lists of the rules of which a time is 0, and what is reached by the others.
 use Rattle.std.proofs.Common.{◌≡◌, ◌↔◌, ℕ, ◌==◌, ◌&&◌, ◌||◌, not, eqb, Bool, true, false, cond, List, [], ◌∷◌, ◌++◌, refl}
-use Rattle.std.proofs.Common.{sym, ap, ◌∙◌, subst}
+use Rattle.std.proofs.Common.{sym, ap, ◌∙◌, subst, Some}
+use Rattle.std.specs.Prelude.{slice_index_or}
 use Rattle.std.specs.List.{list_any}
 use Rattle.std.proofs.Math.Bool.{or_assoc}
 use Rattle.std.proofs.lemmas.Bool.{ne_eqb}
@@ -10,9 +11,10 @@ use Rattle.its_graph.proofs.Reaching.{same-paths}
 use Rattle.model.specs.Bounds.{Bound}
 use Rattle.model.specs.Facts.{Fact, Time, Size, Cost}
 use Rattle.model.specs.Paths.{HasEdge, IsReached}
-use Rattle.model.specs.Programs.{Program}
+use Rattle.model.specs.Programs.{Program, Rule, rule_at}
+use Rattle.model.proofs.Cases.{some_same as some-same}
 use Rattle.model.proofs.Membership.{same_number, told_same, no_is_not_yes}
-use Rattle.proof_tree.specs.proof_nodes.AcceptsPlain.{may_run}
+use Rattle.proof_tree.specs.proof_nodes.AcceptsPlain.{may_run, IsUnreached}
 use Rattle.proof_tree.specs.proof_nodes.Known.{is_zero_bound, has_zero_time}
 use Rattle.proof_check.specs.Zeros.{AddsZeros, AreZeros}
 
@@ -100,3 +102,17 @@ pub reached-same : (p : Program) (facts : List Fact) (cut : List ℕ) → AreZer
 reached-same p facts cut h b =
     same-paths (HasEdge p (none_of cut)) (HasEdge p (may_run facts))
     (same-edges p (none_of cut) (may_run facts) (λ t r e. ap not (h.each t))) p.start b
+
+module _ (p : Program) (facts : List Fact) (cut : List ℕ) (zeros : AreZeros facts cut) (seen : List Bool)
+    (reached : (b : ℕ) → (slice_index_or seen b false ≡ true) ↔ IsReached p (none_of cut) b) (t : ℕ) (r : Rule)
+    (numbered : rule_at p t ≡ Some r) where
+  -- a rule whose source is seen is reached
+  pub seen-reached : slice_index_or seen r.source false ≡ true → ¬ (IsUnreached p (may_run facts) t)
+  seen-reached h k = k r numbered ((reached-same p facts cut zeros r.source).0 ((reached r.source).0 h))
+
+  -- one whose source isn't seen isn't reached
+  pub unseen-unreached : slice_index_or seen r.source false ≡ false → IsUnreached p (may_run facts) t
+  unseen-unreached h q e k =
+      no_is_not_yes (slice_index_or seen r.source false) h
+      ((reached r.source).1 ((reached-same p facts cut zeros r.source).1
+      (subst (λ (x : Rule). IsReached p (may_run facts) x.source) (some-same q r (sym e ∙ numbered)) k)))

@@ -1,5 +1,7 @@
--- Faults of nodes, with the numbers of these.
+-- Faults of nodes and of lemmas, with the numbers of these.
 use Rattle.std.specs.Prelude.{ℕ}
+use Rattle.proof_check.specs.declared.error.CheckError.{CheckError}
+use Rattle.proof_check.specs.declared.error.CheckError.TheVariants as error
 use Rattle.proof_check.specs.declared.refusal.NodeFault.{NodeFault}
 use Rattle.proof_check.specs.declared.refusal.NodeFault.TheVariants as node
 use Rattle.proof_check.specs.declared.refusal.TreeFault.{TreeFault}
@@ -9,3 +11,8 @@ use Rattle.proof_check.specs.declared.refusal.TreeFault.TheVariants as tree
 abbrev pub at_number : NodeFault → ℕ → TreeFault
 at_number (node.Refused reason) n = tree.Refused n reason
 at_number node.Memory n = tree.Memory
+
+-- the fault of the lemma with a number
+abbrev pub in_lemma : TreeFault → ℕ → CheckError
+in_lemma (tree.Refused node reason) n = error.No n node reason
+in_lemma tree.Memory n = error.Memory

@@ -1,5 +1,5 @@
 -- What is answered to a proof file.
-use Rattle.std.specs.Prelude.{◌≡◌, ℕ, ◌<◌, ◌^◌, List, length, ⊤}
+use Rattle.std.specs.Prelude.{◌≡◌, ◌<◌, ◌^◌, List, length, ⊤}
 use Rattle.std.specs.List.{All}
 use Rattle.model.specs.Facts.{Fact}
 use Rattle.model.specs.Programs.{Program}

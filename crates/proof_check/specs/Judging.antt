@@ -1,7 +1,6 @@
 -- What judging a node, a part of a lemma, and lemmas gives.
 use Rattle.std.specs.Prelude.{◌≡◌, ℕ, ◌+◌, ◌<◌, ◌≤◌, List, [], ◌∷◌, ◌++◌, length, map, ⊤}
 use Rattle.std.specs.List.{AllByRecursion}
-use Rattle.model.specs.Facts.{Fact}
 use Rattle.model.specs.Programs.{Program}
 use Rattle.proof_tree.specs.proof_nodes.Nodes.{Proof}
 use Rattle.proof_tree.specs.proof_nodes.Numbering.{nodes_of}

@@ -21,7 +21,11 @@ use std::alloc::Global;
 /// # Errors
 ///
 /// `Refused` with the first reason why the node isn't accepted; `Memory` where an allocation fails.
-pub(crate) fn empty_facts(alloc: Global, ground: &Ground, node: &EmptyNode) -> Result<Vec<Fact>, NodeFault>
+pub(crate) fn empty_facts(
+    alloc: Global,
+    ground: &Ground,
+    node: &EmptyNode,
+) -> Result<Vec<Fact>, NodeFault>
     requires { IsGround ground.now }
     ensures { MatchResult result
         (λ facts. States (empty_checks (setting ground.now) node.now.rule node.now.multipliers.items)

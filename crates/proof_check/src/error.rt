@@ -11,9 +11,16 @@ use std::alloc::{AllocError, AllocFailed};
 pub enum CheckError {
     /// The first node that isn't accepted, by its number in its lemma, and the first reason. Lemmas and nodes count from
     /// 1, each node after its children.
-    No { lemma: u32, node: u32, reason: Reason },
+    No {
+        lemma: u32,
+        node: u32,
+        reason: Reason,
+    },
     /// All lemmas are accepted: the first gap that doesn't hold, and its first fault. Gaps count from 1.
-    NoGap { gap: u32, fault: GapFault },
+    NoGap {
+        gap: u32,
+        fault: GapFault,
+    },
     /// Memory ran out.
     Memory,
 }

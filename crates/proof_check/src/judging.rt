@@ -132,8 +132,15 @@ fn judge_node(
         Proof::Empty(node) => owned(empty_facts(alloc, ground, node)),
         Proof::Unreached(node) => owned(unreached_facts(alloc, ground, kept, node.rule, uses)),
         Proof::Never(_) => owned(never_facts(alloc, ground.program, first(kept, uses))),
-        Proof::Weaken(_, bound) => owned(weaker_facts(alloc, ground.program, first(kept, uses), bound)),
-        Proof::Rank(_) | Proof::Spread(_) | Proof::Cycle(_) | Proof::Cost(_) => Err(NodeFault::Memory),
+        Proof::Weaken(_, bound) => owned(weaker_facts(
+            alloc,
+            ground.program,
+            first(kept, uses),
+            bound,
+        )),
+        Proof::Rank(_) | Proof::Spread(_) | Proof::Cycle(_) | Proof::Cost(_) => Err(
+            NodeFault::Memory,
+        ),
     }
 }
 

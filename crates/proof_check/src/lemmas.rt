@@ -15,7 +15,7 @@ use crate::error::CheckError;
 use crate::ground::Ground;
 use crate::judging::judge;
 use crate::kept::{Kept, Use, facts_at};
-use crate::refusal::TreeFault;
+use crate::refusal::at_lemma;
 use crate::stating::start_facts;
 use its_model::Program;
 use model::Memory;
@@ -75,14 +75,7 @@ pub(crate) fn judge_lemmas(
     for i in 0..lemmas.len() {
         match judge(alloc, ground, &kept, &lemmas[i], 0) {
             Ok(judged) => keep(&mut kept, judged.stated)?,
-            Err(TreeFault::Refused { node, reason }) => {
-                return Err(CheckError::No {
-                    lemma: i as u32 + 1,
-                    node,
-                    reason,
-                });
-            }
-            Err(TreeFault::Memory) => return Err(CheckError::Memory),
+            Err(fault) => return Err(at_lemma(fault, i as u32 + 1)),
         }
     }
     Ok(kept)

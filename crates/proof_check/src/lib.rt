@@ -20,5 +20,5 @@ mod unused;
 mod weakening;
 mod writable;
 
-pub use files::{accepted_files_hold, check};
 pub use error::CheckError;
+pub use files::{accepted_files_hold, check};

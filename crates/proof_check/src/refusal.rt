@@ -1,10 +1,11 @@
 //! Why a node isn't judged to be accepted.
 
 ghost use Rattle.std.specs.Prelude.{◌≡◌};
-ghost use Rattle.proof_check.specs.Faults.{at_number};
+ghost use Rattle.proof_check.specs.Faults.{at_number, in_lemma};
 ghost use Rattle.proof_check.specs.declared.refusal.NodeFault.TheVariants.{Memory};
 ghost use Rattle.proof_check.specs.declared.refusal.TreeFault.TheVariants as tree;
 
+use crate::error::CheckError;
 use proof_tree::Reason;
 use std::alloc::{AllocError, AllocFailed};
 
@@ -65,5 +66,19 @@ pub(crate) fn at_node(fault: NodeFault, node: u32) -> TreeFault
     match fault {
         NodeFault::Refused(reason) => TreeFault::Refused { node, reason },
         NodeFault::Memory => TreeFault::Memory,
+    }
+}
+
+/// A lemma that isn't judged to be accepted, as the lemma with this number.
+pub(crate) fn at_lemma(fault: TreeFault, lemma: u32) -> CheckError
+    ensures { result ≡ in_lemma fault lemma }
+{
+    match fault {
+        TreeFault::Refused { node, reason } => CheckError::No {
+            lemma,
+            node,
+            reason,
+        },
+        TreeFault::Memory => CheckError::Memory,
     }
 }

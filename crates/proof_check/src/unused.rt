@@ -39,7 +39,11 @@ fn only_time(facts: &[Fact]) -> Option<(u32, &Bound)>
         return None;
     };
     match fact {
-        Fact::Time { rule, bound } => if *rule == 0 { None } else { Some((*rule, bound)) },
+        Fact::Time { rule, bound } => if *rule == 0 {
+            None
+        } else {
+            Some((*rule, bound))
+        },
         Fact::Size { .. } => None,
         Fact::Cost { .. } => None,
     }
@@ -51,7 +55,8 @@ pub(crate) fn is_zero(bound: &Bound) -> bool
 {
     match bound {
         Bound::Const(c) => *c == 0,
-        Bound::Var(_) | Bound::Sum(_) | Bound::Prod(_) | Bound::Max(_) | Bound::Power(_, _) => false,
+        Bound::Var(_) | Bound::Sum(_) | Bound::Prod(_) | Bound::Max(_) | Bound::Power(_, _) =>
+            false,
     }
 }
 
@@ -70,7 +75,11 @@ fn target_places(p: &Program, rule: u32) -> u32
 /// # Errors
 ///
 /// `Refused` with the first reason why the node isn't accepted; `Memory` where an allocation fails.
-pub(crate) fn never_facts(alloc: Global, p: &Program, facts: &[Fact]) -> Result<Vec<Fact>, NodeFault>
+pub(crate) fn never_facts(
+    alloc: Global,
+    p: &Program,
+    facts: &[Fact],
+) -> Result<Vec<Fact>, NodeFault>
     ensures { MatchResult result
         (λ stated. States (never_checks (facts_of facts.now)) (never_facts_of (program_of p.now) (facts_of facts.now)) stated)
         (λ fault. Refuses (never_checks (facts_of facts.now)) fault) }

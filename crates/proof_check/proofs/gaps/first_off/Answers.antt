@@ -1,8 +1,7 @@
-use Rattle.std.proofs.Common.{List, sym, subst, arith}
+use Rattle.std.proofs.Common.{sym, subst, arith}
 use Rattle.std.proofs.lemmas.List.Elements.{All-push}
 use Rattle.proof_tree.specs.AnswerViews.{gap_of, fault_of}
 use Rattle.proof_tree.specs.proof_nodes.GapChecks.{GapHolds}
-use Rattle.proof_tree.specs.proof_nodes.Gaps.{Gap}
 use Rattle.proof_tree.specs.proof_setting.RankedSets.{forms_at}
 use Rattle.proof_check.specs.Files.{HoldAll}
 use Rattle.proof_check.specs.Grounds.{program}

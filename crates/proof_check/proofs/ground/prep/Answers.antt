@@ -12,14 +12,14 @@ index-requires c =
 pub returns-clause-rows : goal.returns-clause-rows
 returns-clause-rows c =
     let g = c.args.ground.now in
-    prep-rows (program g) g.preps.items c.requires.ground.rows c.args.rule c.requires.rule c.index.result.now c.index.is
+    prep-rows (program g) g.preps.items c.requires.ground.rows c.args.rule c.requires.rule c.index.result.now c.index.ensures
 
 pub returns-clause-news : goal.returns-clause-news
 returns-clause-news c =
     let g = c.args.ground.now in
-    prep-news (program g) g.preps.items c.requires.ground.rows c.args.rule c.requires.rule c.index.result.now c.index.is
+    prep-news (program g) g.preps.items c.requires.ground.rows c.args.rule c.requires.rule c.index.result.now c.index.ensures
 
 pub returns-clause-small : goal.returns-clause-small
 returns-clause-small c =
     let g = c.args.ground.now in
-    prep-small (program g) g.preps.items c.requires.ground.rows c.args.rule c.requires.rule c.index.result.now c.index.is c.requires.ground.valid
+    prep-small (program g) g.preps.items c.requires.ground.rows c.args.rule c.requires.rule c.index.result.now c.index.ensures c.requires.ground.valid

@@ -1,11 +1,13 @@
-use Rattle.std.proofs.Common.{◌∙◌, ◌+◌, ℕ, List, map, take, drop, length, subst, sym, ap, arith}
+use Rattle.std.proofs.Common.{◌∙◌, ◌+◌, List, map, take, drop, length, refl, subst, sym, ap, arith}
+use Rattle.proof_tree.specs.proof_nodes.Numbering.{nodes_of}
 use Rattle.proof_tree.specs.Views.{proof_of}
 use Rattle.proof_check.specs.Children.{nodes_in}
 use Rattle.proof_check.specs.Grounds.{program, setting}
 use Rattle.proof_check.specs.Judging.{AreWhole}
 use Rattle.proof_check.specs.Refusing.{RefusesAmong}
-use Rattle.proof_check.specs.Statements.{past_of}
-use Rattle.proof_check.specs.declared.judging.Joined.{Joined}
+use Rattle.std.specs.List.{AllByRecursion}
+use Rattle.proof_check.specs.Statements.{past_of, facts_by, AreBased}
+use Rattle.proof_check.proofs.AcceptedLemmas.{based-all}
 use Rattle.proof_tree.specs.proof_nodes.Nodes.{Proof}
 use Rattle.proof_check.proofs.ChildNodes.{count-children}
 use Rattle.proof_check.proofs.Cuts.{cut-at, done-more, done-all}
@@ -49,3 +51,47 @@ judge_all-returns t c =
     (record { uses = c.loop-proof.uses; count = c.loop-proof.count }))
     (done-all proof_of c.args.proofs.now c.loop-proof.proof-index (omega (arith, c.loop-proof-test.false)))
     c.loop-proof.invariant
+
+pub judge-judge_node-requires-clause-based : goal.judge-judge_node-requires-clause-based
+judge-judge_node-requires-clause-based t c =
+    let g = c.args.ground.now in
+    let k = c.requires.kept.1 in
+    subst (AllByRecursion AreBased) (sym (ap (map (facts_by c.args.kept.now)) c.deref.ensures.value ∙ c.in-Ok.ensures.facts))
+    (based-all (program g) c.requires.ground.valid c.requires.kept.0 (past_of c.args.kept.now) k.accepted k.facts
+    (map proof_of c.children.result.now) c.in-Ok.ensures.passed)
+
+pub judge-overflow_add-result : goal.judge-overflow_add-result
+judge-overflow_add-result t c =
+    let n = count-children (proof_of c.args.proof.now) in
+    let same = ap (λ (ps : List Proof). length (nodes_in ps)) c.children.ensures in
+    omega (arith, c.requires.few, c.in-Ok.ensures.count, n, same)
+
+pub judge-returns-in-Ok-judge_node : goal.judge-returns-in-Ok-judge_node
+judge-returns-in-Ok-judge_node t c =
+    let s = setting c.args.ground.now in
+    let kept = c.args.kept.now in
+    whole s kept (proof_of c.args.proof.now) c.args.before c.in-Ok.joined
+    (subst (λ (ps : List Proof). AreWhole s kept ps c.args.before c.in-Ok.joined) c.children.ensures c.in-Ok.ensures)
+    c.in-Ok-judge_node.stated (c.in-Ok.joined.count + 1) c.in-Ok-judge_node.ensures refl
+
+pub judge-overflow_add-joined : goal.judge-overflow_add-joined
+judge-overflow_add-joined t c =
+    let n = count-children (proof_of c.args.proof.now) in
+    let same = ap (λ (ps : List Proof). length (nodes_in ps)) c.children.ensures in
+    omega (arith, c.requires.few, c.in-Ok.ensures.count, n, same)
+
+pub judge-returns-in-Ok : goal.judge-returns-in-Ok
+judge-returns-in-Ok t c =
+    let s = setting c.args.ground.now in
+    let kept = c.args.kept.now in
+    subst (RefusesAmong s (past_of kept) (nodes_of (proof_of c.args.proof.now)) c.args.before) (sym c.at_node.ensures)
+    (refused-here s kept (proof_of c.args.proof.now) c.args.before c.in-Ok.joined
+    (subst (λ (ps : List Proof). AreWhole s kept ps c.args.before c.in-Ok.joined) c.children.ensures c.in-Ok.ensures)
+    c.in-Err-judge_node.fault c.in-Err-judge_node.ensures)
+
+pub judge-returns : goal.judge-returns
+judge-returns t c =
+    let s = setting c.args.ground.now in
+    let kept = c.args.kept.now in
+    refused-child s kept (proof_of c.args.proof.now) c.args.before c.in-Err.fault
+    (subst (λ (ps : List Proof). RefusesAmong s (past_of kept) (nodes_in ps) c.args.before c.in-Err.fault) c.children.ensures c.in-Err.ensures)

@@ -1,5 +1,6 @@
-use Rattle.std.proofs.Common.{◌≤◌, ◌∙◌, length, ap, arith}
+use Rattle.std.proofs.Common.{◌≤◌, ◌∙◌, length, ap, sym, arith}
 use Rattle.std.proofs.lemmas.Bool.Decides.{nat_tests}
+use Rattle.std.proofs.lemmas.Bool.{ltb-true}
 use Rattle.proof_tree.specs.Views.{facts_of}
 use Rattle.proof_check.proofs.Keeping.{facts-found, facts-past}
 use Rattle.proof_check.proofs.kept.facts_at.Goals as goal
@@ -9,7 +10,7 @@ returns-in-Some c =
     let found = c.in-Some.ensures.lookup in
     ap facts_of c.deref-in-Some.ensures.value
     ∙ facts-found c.deref.result.now c.args.kept.now.stated.items c.args.position c.in-Some.facts.now c.deref.ensures.value
-    found.0 (found.1 c.in-Some.facts.now)
+    (ltb-true c.args.position (length c.deref.result.now) (sym found.0)) found.1
 
 pub returns-in-None : goal.returns-in-None
 returns-in-None c =

@@ -1,9 +1,9 @@
-use Rattle.std.proofs.Common.{List, take, sym, subst, arith}
+use Rattle.std.proofs.Common.{List, sym, subst, arith}
 use Rattle.model.specs.Facts as plain
-use Rattle.proof_tree.specs.Views.{fact_of, facts_of}
+use Rattle.proof_tree.specs.Views.{fact_of}
 use Rattle.proof_check.specs.Zeros.{AddsZeros}
 use Rattle.proof_check.proofs.Cuts.{done-more, done-all}
-use Rattle.proof_check.proofs.ZeroRules.{adds-both, adds-nothing}
+use Rattle.proof_check.proofs.ZeroRules.{adds-both}
 use Rattle.proof_check.proofs.unreached.push_zeros.Goals as goal
 
 pub loop-fact-preserved : goal.loop-fact-preserved

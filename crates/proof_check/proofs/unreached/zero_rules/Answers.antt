@@ -1,11 +1,11 @@
-use Rattle.std.proofs.Common.{List, [], take, sym, subst, arith}
+use Rattle.std.proofs.Common.{List, [], sym, subst, arith}
 use Rattle.std.proofs.lemmas.List.{take_all}
 use Rattle.model.specs.Facts as plain
 use Rattle.proof_check.specs.Statements.{joined_by}
 use Rattle.proof_check.specs.Zeros.{AddsZeros}
 use Rattle.proof_check.specs.declared.kept.Use.{Use}
 use Rattle.proof_check.proofs.JoinedFacts.{joined-more}
-use Rattle.proof_check.proofs.ZeroRules.{adds-both, adds-nothing, zeros-from}
+use Rattle.proof_check.proofs.ZeroRules.{adds-both, zeros-from}
 use Rattle.proof_check.proofs.unreached.zero_rules.Goals as goal
 
 pub loop-used-preserved : goal.loop-used-preserved

@@ -1,5 +1,6 @@
-use Rattle.std.proofs.Common.{ap, sym, List, refl, subst, arith}
+use Rattle.std.proofs.Common.{ap, sym, ◌∙◌, List, refl, subst, arith}
 use Rattle.std.proofs.lemmas.List.{take_all}
+use Rattle.bound_expr.proofs.Views.{bound_of-Sum, bound_of-Prod, bound_of-Max}
 use Rattle.bound_expr.specs.Views.{bound_of, bounds_of, parts_of}
 use Rattle.bound_expr.specs.declared.bound.Bound.{Bound}
 use Rattle.proof_check.specs.Writables.{AreWritable}
@@ -28,8 +29,7 @@ are_writable-returns t c = (
 pub is_writable-returns-in-Sum : goal.is_writable-returns-in-Sum
 is_writable-returns-in-Sum t c =
     let same = ap (λ (ps : List Bound). parts_of (bounds_of ps)) c.deref.ensures.value in
-    let h = sum-writable c.args.inputs (bound_of c.args.bound.now) _ (ap bound_of c.in-Sum.is) in
-    (
+    let h = sum-writable c.args.inputs (bound_of c.args.bound.now) _ (ap bound_of c.in-Sum.is ∙ bound_of-Sum c.in-Sum.parts) in (
       λ e. h.0 (subst (AreWritable c.args.inputs) same (c.are_writable.ensures.0 e)),
       λ w. c.are_writable.ensures.1 (subst (AreWritable c.args.inputs) (sym same) (h.1 w)),
     )
@@ -37,8 +37,7 @@ is_writable-returns-in-Sum t c =
 pub is_writable-returns-in-Prod : goal.is_writable-returns-in-Prod
 is_writable-returns-in-Prod t c =
     let same = ap (λ (ps : List Bound). parts_of (bounds_of ps)) c.deref-in-Prod.ensures.value in
-    let h = product-writable c.args.inputs (bound_of c.args.bound.now) _ (ap bound_of c.in-Prod.is) in
-    (
+    let h = product-writable c.args.inputs (bound_of c.args.bound.now) _ (ap bound_of c.in-Prod.is ∙ bound_of-Prod c.in-Prod.parts) in (
       λ e. h.0 (subst (AreWritable c.args.inputs) same (c.are_writable-in-Prod.ensures.0 e)),
       λ w. c.are_writable-in-Prod.ensures.1 (subst (AreWritable c.args.inputs) (sym same) (h.1 w)),
     )
@@ -46,8 +45,7 @@ is_writable-returns-in-Prod t c =
 pub is_writable-returns-in-Max : goal.is_writable-returns-in-Max
 is_writable-returns-in-Max t c =
     let same = ap (λ (ps : List Bound). parts_of (bounds_of ps)) c.deref-in-Max.ensures.value in
-    let h = maximum-writable c.args.inputs (bound_of c.args.bound.now) _ (ap bound_of c.in-Max.is) in
-    (
+    let h = maximum-writable c.args.inputs (bound_of c.args.bound.now) _ (ap bound_of c.in-Max.is ∙ bound_of-Max c.in-Max.parts) in (
       λ e. h.0 (subst (AreWritable c.args.inputs) same (c.are_writable-in-Max.ensures.0 e)),
       λ w. c.are_writable-in-Max.ensures.1 (subst (AreWritable c.args.inputs) (sym same) (h.1 w)),
     )
