@@ -30,3 +30,19 @@ mod WritableBounds
 mod ProofViews
 -- lemmas that are cited
 mod CitedLemmas
+-- the symbols of a set
+mod Marking
+-- bounds by key
+mod Keys
+-- what is lost by a rule
+mod GoalForms
+-- the shape of ranking nodes
+mod RankShapes
+-- bounds that are needed
+mod NeededBounds
+-- forms of ranking functions
+mod RankForms
+-- what is answered to ranking nodes
+mod RankAnswers
+-- rows that suit ranking functions
+mod SuitedRows

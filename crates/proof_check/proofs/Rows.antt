@@ -67,7 +67,7 @@ module _ (p : Program) (preps : List RuleRows) (rows : AreRowsOf preps p) where
       go (suc u) r e = let l = slice_get_within p.rules u r e in (omega arith, omega (arith, l, same-length))
 
   -- which are its own
-  row-is : (t : ℕ) (r : Rule) (prep : RuleRows) → rule_at p t ≡ Some r → prep ≡ get_or preps (t - 1) prep
+  pub row-is : (t : ℕ) (r : Rule) (prep : RuleRows) → rule_at p t ≡ Some r → prep ≡ get_or preps (t - 1) prep
       → prepared_of prep ≡ prepared r
   row-is zero r prep e h = absurd (let no : ⊥ = cc in no)
   row-is (suc t) r prep e h =

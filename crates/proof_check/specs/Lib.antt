@@ -12,6 +12,14 @@ pub mod PlainChecks
 pub mod Singles
 pub mod Writables
 pub mod Zeros
+-- ranking functions
+pub mod Marks
+pub mod Lookups
+pub mod Needed
+pub mod RankShapes
+pub mod Goals
+pub mod RankChecks
+pub mod RankRows
 -- lemmas
 pub mod Judging
 -- files

@@ -21,8 +21,8 @@ use its_model::Program;
 use proof_tree::{Fact, Reason};
 use std::alloc::Global;
 
-// The bound of a fact.
-fn bound_at(fact: &Fact) -> &Bound
+/// The bound of a fact.
+pub(crate) fn bound_at(fact: &Fact) -> &Bound
     ensures { bound_of result.now ≡ bound_in (fact_of fact.now) }
 {
     match fact {
