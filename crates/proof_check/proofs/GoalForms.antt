@@ -147,10 +147,14 @@ loss-row w f g news k xs c within h e = record {
     past a b d m = omega (arith, ints, d, m)
 
     go : (u : ℕ) → (u < w) ⊎ (w ≤ u) → at xs u ≡ at (loss f g news k).coefs u
-    go u (inl l) = h.each u l ∙ (none _ _ ∙ sym (loss-column (column.Unknown u) f g news k))
+    go u (inl l) =
+        h.each u l
+        ∙ (none (at f.coefs u) (list_dot (map (number_in (column.Unknown u)) news) (at g.coefs))
+        ∙ sym (loss-column (column.Unknown u) f g news k))
     go u (inr l) =
         at-past xs u (omega (arith, l, h.long))
-        ∙ (past _ _ (at-past f.coefs u (omega (arith, l, within.before))) (dot-past news (at g.coefs) w u l within.news)
+        ∙ (past (at f.coefs u) (list_dot (map (number_in (column.Unknown u)) news) (at g.coefs))
+        (at-past f.coefs u (omega (arith, l, within.before))) (dot-past news (at g.coefs) w u l within.news)
         ∙ sym (loss-column (column.Unknown u) f g news k))
 
 -- how many numbers a column has

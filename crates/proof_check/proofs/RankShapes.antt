@@ -51,9 +51,11 @@ moves-at (u ∷ ts) (m ∷ ms) (suc i) d e a l h =
 
 module _ (Q : ℕ → List ℕ → Type 0) (set : List ℕ) (ms : List (Vec ℕ Global)) (i : ℕ) (m : Vec ℕ Global)
     (a : IsAscending set) (l : length ms ≡ length set) (h : i < length set) (e : m ≡ get_or ms i m) where
-  lists : List (List ℕ)
+  -- the multipliers, rule by rule
+  abbrev lists : List (List ℕ)
   lists = map (λ (v : Vec ℕ Global). v.items) ms
 
+  -- those of the rule at a position are the ones at that position
   pub moves-is : moves_of set (map (λ (v : Vec ℕ Global). v.items) ms) (get_or set i 0) ≡ m.items
   moves-is =
       moves-at set lists i 0 m.items a (length-map ms (λ (v : Vec ℕ Global). v.items) ∙ l) h

@@ -113,7 +113,7 @@ fn coefs_of(form: Option<&Form>) -> &[i64]
 
 // A number less another.
 fn difference(first: i128, second: i128) -> i128
-    requires first_small { unsigned_abs first ≤ 2 ^ 124 }
+    requires first_small { unsigned_abs first ≤ 2 ^ 125 }
     requires second_small { unsigned_abs second ≤ 2 ^ 124 }
     ensures { result ≡ first -ℤ second }
 {
