@@ -1,0 +1,58 @@
+-- Facts of several nodes, joined.
+use Rattle.std.proofs.Common.{◌≡◌, ℕ, ◌+◌, ◌<◌, List, [], ◌∷◌, ◌++◌, length, map, take, get_or, refl, sym, ap, ◌∙◌}
+use Rattle.std.specs.List.{AllByRecursion}
+use Rattle.std.proofs.Common.{All}
+use Rattle.std.proofs.lemmas.List.{append-nil, append_assoc}
+use Rattle.std.proofs.lemmas.List.Elements.{All-nil, All-head, All-tail, All-append}
+use Rattle.model.specs.Facts.{Fact}
+use Rattle.proof_tree.specs.proof_nodes.Nodes.{Proofs}
+use Rattle.proof_tree.specs.proof_nodes.Acceptance.{facts_of, joined_facts}
+use Rattle.proof_tree.specs.proof_nodes.Setting.{Setting}
+use Rattle.proof_check.specs.declared.kept.Kept.{Kept}
+use Rattle.proof_check.specs.declared.kept.Use.{Use}
+use Rattle.proof_check.specs.Children.{list_of, all_facts}
+use Rattle.proof_check.specs.Statements.{AreBased, facts_by, joined_by, first_by}
+use Rattle.proof_check.proofs.ChildNodes.{uses-facts}
+use Rattle.proof_check.proofs.Cuts.{done-more}
+
+-- those of two lists
+facts-append : (fss gss : List (List Fact)) → all_facts (fss ++ gss) ≡ all_facts fss ++ all_facts gss
+facts-append [] gss = refl
+facts-append (fs ∷ fss) gss =
+    ap (λ (hs : List Fact). fs ++ hs) (facts-append fss gss) ∙ sym (append_assoc fs (all_facts fss) (all_facts gss))
+
+-- and of one list more
+pub facts-push : (fss : List (List Fact)) (fs : List Fact) → all_facts (fss ++ fs ∷ []) ≡ all_facts fss ++ fs
+facts-push fss fs = facts-append fss (fs ∷ []) ∙ ap (λ (hs : List Fact). all_facts fss ++ hs) (append-nil fs)
+
+-- what several uses state, and one more
+pub joined-more : (kept : Kept) (uses : List Use) (i : ℕ) (used : Use) → i < length uses → used ≡ get_or uses i used
+    → joined_by kept (take (i + 1) uses) ≡ joined_by kept (take i uses) ++ facts_by kept used
+joined-more kept uses i used l e =
+    ap all_facts (done-more (facts_by kept) uses i used l e) ∙ facts-push (map (facts_by kept) (take i uses)) (facts_by kept used)
+
+-- what the uses of a node state are the facts on which it rests
+pub joined-uses : (s : Setting) (past : List (List Fact)) (kept : Kept) (uses : List Use) (us : Proofs)
+    → map (facts_by kept) uses ≡ map (facts_of s past) (list_of us) → joined_by kept uses ≡ joined_facts s past us
+joined-uses s past kept uses us e = ap all_facts e ∙ sym (uses-facts s past us)
+
+-- what the only child of a node states
+pub first-child : (kept : Kept) (uses : List Use) (fs : List Fact) → map (facts_by kept) uses ≡ fs ∷ []
+    → first_by kept uses ≡ fs
+first-child kept [] fs e = absurd (let no : ⊥ = cc in no)
+first-child kept (used ∷ uses) fs e = same (facts_by kept used) fs (map (facts_by kept) uses) e
+  where
+    same : (a b : List Fact) (rest : List (List Fact)) → a ∷ rest ≡ b ∷ [] → a ≡ b
+    same a b rest k = cc
+
+-- where the bounds of all have bases of at least 1, so have those of the first
+pub first-based : (kept : Kept) (uses : List Use) → AllByRecursion AreBased (map (facts_by kept) uses)
+    → AreBased (first_by kept uses)
+first-based kept [] h = All-nil _
+first-based kept (used ∷ uses) h = h.0
+
+-- what holds of all facts of all lists holds of all facts
+pub all-joined : (P : Fact → Type 0) (fss : List (List Fact)) → All (All P) fss → All P (all_facts fss)
+all-joined P [] h = All-nil P
+all-joined P (fs ∷ fss) h =
+    All-append P fs (all_facts fss) (All-head (All P) fs fss h) (all-joined P fss (All-tail (All P) fs fss h))
