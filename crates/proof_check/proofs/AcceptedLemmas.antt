@@ -16,7 +16,7 @@ use Rattle.proof_tree.proofs.proof_nodes.Soundness.{accepted_bounds_are_based}
 use Rattle.proof_tree.proofs.proof_setting.Faithful.{settings-faithful}
 use Rattle.proof_check.specs.Children.{nodes_in}
 use Rattle.proof_check.specs.Refusing.{ArePassed}
-use Rattle.proof_check.specs.Statements.{AreBased}
+use Rattle.proof_facts.specs.Statements.{AreBased}
 
 module _ (s : Setting) where
   -- one more accepted lemma behind accepted ones

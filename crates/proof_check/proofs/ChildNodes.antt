@@ -8,7 +8,8 @@ use Rattle.proof_tree.specs.proof_nodes.Numbering.{nodes_of, nodes_of_all}
 use Rattle.proof_tree.specs.proof_nodes.Acceptance.{facts_of, joined_facts}
 use Rattle.proof_tree.specs.proof_nodes.Setting.{Setting}
 use Rattle.proof_tree.specs.Views.{uses_of}
-use Rattle.proof_check.specs.Children.{list_of, children_of, nodes_in, all_facts}
+use Rattle.proof_check.specs.Children.{list_of, children_of, nodes_in}
+use Rattle.proof_facts.specs.Statements.{all_facts}
 
 -- the nodes of uses are those of their list
 uses-nodes : (us : Proofs) → nodes_of_all us ≡ nodes_in (list_of us)

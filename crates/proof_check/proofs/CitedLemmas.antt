@@ -8,10 +8,10 @@ use Rattle.model.specs.Programs.{Program}
 use Rattle.proof_tree.specs.proof_nodes.Acceptance.{facts_of_lemma}
 use Rattle.proof_tree.specs.proof_nodes.Nodes.{Proof, Cite}
 use Rattle.proof_tree.specs.proof_nodes.Setting.{Setting}
-use Rattle.proof_check.specs.declared.kept.Kept.{Kept}
-use Rattle.proof_check.specs.declared.kept.Use.TheVariants as by
+use Rattle.proof_facts.specs.declared.kept.Kept.{Kept}
+use Rattle.proof_facts.specs.declared.kept.Use.TheVariants as by
 use Rattle.proof_check.specs.Judging.{IsKeptOf, IsNodeOf}
-use Rattle.proof_check.specs.Statements.{stated_at}
+use Rattle.proof_facts.specs.Statements.{stated_at}
 
 -- the facts of a lemma are those at its position
 cited-facts : (kept : Kept) (is : List ℕ) (m i : ℕ) → m < length is → i ≡ get_or is m i

@@ -15,12 +15,12 @@ use Rattle.proof_tree.proofs.proof_setting.Files.{files-hold}
 use Rattle.proof_check.specs.declared.error.CheckError.{CheckError}
 use Rattle.proof_check.specs.declared.error.CheckError.TheVariants as error
 use Rattle.proof_check.specs.declared.gaps.OffGap.{OffGap}
-use Rattle.proof_check.specs.declared.kept.Kept.{Kept}
-use Rattle.proof_check.specs.Children.{all_facts}
+use Rattle.proof_facts.specs.declared.kept.Kept.{Kept}
+use Rattle.proof_facts.specs.Statements.{all_facts}
 use Rattle.proof_check.specs.Files.{RefusesLemmas, RefusesFile, HoldAll, IsFirstOff, IsAcceptedWith, ExcludeFunctions}
 use Rattle.proof_check.specs.Judging.{IsKeptOf}
-use Rattle.proof_check.specs.Statements.{past_of}
-use Rattle.proof_check.proofs.JoinedFacts.{all-joined}
+use Rattle.proof_facts.specs.Statements.{past_of}
+use Rattle.proof_facts.proofs.JoinedFacts.{all-joined}
 
 -- what refuses the lemmas of a file refuses it
 pub refused-lemmas : (p : Program) (f : code.ProofFile) (e : CheckError)

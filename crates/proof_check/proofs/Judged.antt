@@ -21,19 +21,20 @@ use Rattle.proof_tree.proofs.proof_nodes.FirstFailures.{first-after, first-befor
 use Rattle.proof_tree.proofs.proof_nodes.ReasonsInLine.{first-reasons-in-line}
 use Rattle.proof_check.specs.declared.judging.Judged.{Judged}
 use Rattle.proof_check.specs.declared.judging.Joined.{Joined}
-use Rattle.proof_check.specs.declared.kept.Kept.{Kept}
-use Rattle.proof_check.specs.declared.kept.Use.{Use}
-use Rattle.proof_check.specs.declared.refusal.NodeFault.{NodeFault}
-use Rattle.proof_check.specs.declared.refusal.NodeFault.TheVariants as node
+use Rattle.proof_facts.specs.declared.kept.Kept.{Kept}
+use Rattle.proof_facts.specs.declared.kept.Use.{Use}
+use Rattle.proof_facts.specs.declared.refusal.NodeFault.{NodeFault}
+use Rattle.proof_facts.specs.declared.refusal.NodeFault.TheVariants as node
 use Rattle.proof_check.specs.declared.refusal.TreeFault.{TreeFault}
 use Rattle.proof_check.specs.declared.refusal.TreeFault.TheVariants as tree
 use Rattle.proof_check.specs.Children.{children_of, nodes_in}
 use Rattle.proof_check.specs.Faults.{at_number}
 use Rattle.proof_check.specs.Judging.{IsNodeOf, IsWhole, AreWhole}
-use Rattle.proof_check.specs.PlainChecks.{States}
-use Rattle.proof_check.specs.Refusing.{Refuses, ArePassed, RefusesAmong}
-use Rattle.proof_check.specs.Statements.{facts_by, past_of, owned_by}
-use Rattle.proof_check.proofs.Cuts.{cut-at}
+use Rattle.proof_facts.specs.NodeAnswers.{States}
+use Rattle.proof_facts.specs.NodeAnswers.{Refuses}
+use Rattle.proof_check.specs.Refusing.{ArePassed, RefusesAmong}
+use Rattle.proof_facts.specs.Statements.{facts_by, past_of, owned_by}
+use Rattle.proof_facts.proofs.Cuts.{cut-at}
 use Rattle.proof_check.proofs.ChildNodes.{nodes-children, count-children, nodes-append, nodes-push}
 
 -- a node whose checks pass is accepted

@@ -21,18 +21,18 @@ use Rattle.proof_tree.specs.proof_nodes.Setting.{Setting}
 use Rattle.proof_tree.proofs.proof_nodes.CheckLists.{each-append}
 use Rattle.proof_tree.proofs.proof_nodes.Numbering.{nodes-accepted}
 use Rattle.proof_check.specs.declared.judging.Judged.{Judged}
-use Rattle.proof_check.specs.declared.kept.Kept.{Kept}
+use Rattle.proof_facts.specs.declared.kept.Kept.{Kept}
 use Rattle.proof_check.specs.declared.refusal.TreeFault.{TreeFault}
 use Rattle.proof_check.specs.declared.refusal.TreeFault.TheVariants as tree
 use Rattle.proof_check.specs.Faults.{in_lemma}
 use Rattle.proof_check.specs.Files.{RefusesLemmas}
 use Rattle.proof_check.specs.Judging.{IsKeptOf, IsKeptMore, IsWhole}
 use Rattle.proof_check.specs.Refusing.{RefusesAmong}
-use Rattle.proof_check.specs.Statements.{facts_from, stated_at, past_of}
-use Rattle.proof_check.specs.Children.{all_facts}
+use Rattle.proof_facts.specs.Statements.{facts_from, stated_at, past_of}
+use Rattle.proof_facts.specs.Statements.{all_facts}
 use Rattle.proof_check.proofs.AcceptedLemmas.{accepts-push, told-push}
-use Rattle.proof_check.proofs.Cuts.{done-more}
-use Rattle.proof_check.proofs.JoinedFacts.{facts-push}
+use Rattle.proof_facts.proofs.Cuts.{done-more}
+use Rattle.proof_facts.proofs.JoinedFacts.{facts-push}
 
 -- what stands before the end stays, whatever is pushed behind it
 pub kept-before : (xs ys : List (Vec Fact Global)) (n : ℕ) → n < length xs → facts_from (xs ++ ys) n ≡ facts_from xs n
@@ -113,25 +113,6 @@ module _ (p : Program) (s : Setting) (lemmas : List Proof) (old : Kept) (h : IsK
       → RefusesLemmas s all (in_lemma fault lemma)
   refused-fault rest all lemma (tree.Refused node r) e f k = refused-lemma rest all lemma node r e f k
   refused-fault rest all lemma tree.Memory e f k = tt
-
--- what is found at a position
-pub facts-found : (xs ys : List (Vec Fact Global)) (n : ℕ) (x : Vec Fact Global) → xs ≡ ys → n < length xs
-    → x ≡ get_or xs n x → facts_in_order x.items ≡ facts_from ys n
-facts-found xs ys n x e l h = go xs n l h ∙ ap (λ (zs : List (Vec Fact Global)). facts_from zs n) e
-  where
-    go : (zs : List (Vec Fact Global)) (m : ℕ) → m < length zs → x ≡ get_or zs m x → facts_in_order x.items ≡ facts_from zs m
-    go [] m l h = absurd (omega (arith, l))
-    go (z ∷ zs) zero l h = ap (λ (v : Vec Fact Global). facts_in_order v.items) h
-    go (z ∷ zs) (suc m) l h = go zs m (omega (arith, l)) h
-
--- past the end there is nothing
-pub facts-past : (xs ys : List (Vec Fact Global)) (n : ℕ) → xs ≡ ys → length xs ≤ n → [] ≡ facts_from ys n
-facts-past xs ys n e l = go xs n l ∙ ap (λ (zs : List (Vec Fact Global)). facts_from zs n) e
-  where
-    go : (zs : List (Vec Fact Global)) (m : ℕ) → length zs ≤ m → [] ≡ facts_from zs m
-    go [] m l = refl
-    go (z ∷ zs) zero l = absurd (omega (arith, l))
-    go (z ∷ zs) (suc m) l = go zs m (omega (arith, l))
 
 -- no lemmas are accepted, and state nothing
 no-lemmas : (s : Setting) → AcceptsLemmas s []

@@ -4,18 +4,12 @@ mod ChildNodes
 mod AcceptedLemmas
 -- what judging nodes gives
 mod Judged
--- lists that are cut
-mod Cuts
 -- what is kept of lemmas
 mod Keeping
--- what was prepared of rules
-mod Rows
--- facts of places
-mod PlaceFacts
 -- gaps
 mod OffGaps
--- facts joined
-mod JoinedFacts
+-- what uses state
+mod UsedFacts
 -- rules of which a time is 0
 mod ZeroRules
 -- files
@@ -30,19 +24,3 @@ mod WritableBounds
 mod ProofViews
 -- lemmas that are cited
 mod CitedLemmas
--- the symbols of a set
-mod Marking
--- bounds by key
-mod Keys
--- what is lost by a rule
-mod GoalForms
--- the shape of ranking nodes
-mod RankShapes
--- bounds that are needed
-mod NeededBounds
--- forms of ranking functions
-mod RankForms
--- what is answered to ranking nodes
-mod RankAnswers
--- rows that suit ranking functions
-mod SuitedRows

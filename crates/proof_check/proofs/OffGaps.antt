@@ -6,7 +6,7 @@ use Rattle.proof_tree.specs.declared.gap.Gap as code
 use Rattle.proof_tree.specs.proof_nodes.GapChecks.{GapFault, GapHolds}
 use Rattle.proof_tree.specs.proof_nodes.Refusals.{FailsFirst, IsFirstFault}
 use Rattle.proof_tree.specs.proof_setting.RankedSets.{forms_at}
-use Rattle.proof_check.proofs.Cuts.{cut-at, done-count}
+use Rattle.proof_facts.proofs.Cuts.{cut-at, done-count}
 
 -- a gap with a fault, behind gaps that all hold, is the first that doesn't
 pub off-at : (p : Program) (gs : List code.Gap) (i n : ℕ) (x : code.Gap) (f : GapFault) → i < length gs → x ≡ get_or gs i x

@@ -12,15 +12,16 @@ use Rattle.proof_tree.specs.proof_nodes.Acceptance.{facts_of, facts_of_lemma}
 use Rattle.proof_tree.specs.proof_nodes.Checks.{checks_of, unreached_checks}
 use Rattle.proof_tree.specs.proof_nodes.Nodes.{Proof, Unreached, Never, Weaken, Proofs}
 use Rattle.proof_tree.specs.proof_nodes.Setting.{Setting}
-use Rattle.proof_check.specs.declared.kept.Kept.{Kept}
-use Rattle.proof_check.specs.declared.kept.Use.{Use}
-use Rattle.proof_check.specs.declared.refusal.NodeFault.{NodeFault}
+use Rattle.proof_facts.specs.declared.kept.Kept.{Kept}
+use Rattle.proof_facts.specs.declared.kept.Use.{Use}
+use Rattle.proof_facts.specs.declared.refusal.NodeFault.{NodeFault}
 use Rattle.proof_check.specs.Children.{children_of}
 use Rattle.proof_check.specs.Judging.{IsNodeOf}
-use Rattle.proof_check.specs.PlainChecks.{States, never_checks, weaken_checks}
-use Rattle.proof_check.specs.Refusing.{Refuses}
-use Rattle.proof_check.specs.Statements.{facts_by, first_by, joined_by, owned_by, past_of}
-use Rattle.proof_check.proofs.JoinedFacts.{joined-uses, first-child}
+use Rattle.proof_facts.specs.NodeAnswers.{States}
+use Rattle.proof_check.specs.PlainChecks.{never_checks, weaken_checks}
+use Rattle.proof_facts.specs.NodeAnswers.{Refuses}
+use Rattle.proof_facts.specs.Statements.{facts_by, first_by, joined_by, owned_by, past_of}
+use Rattle.proof_check.proofs.UsedFacts.{joined-uses, first-child}
 use Rattle.proof_check.proofs.Judged.{stated}
 
 -- what a node that is judged gives

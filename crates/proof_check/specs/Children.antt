@@ -1,6 +1,5 @@
 -- What a node rests on, as a list.
 use Rattle.std.specs.Prelude.{List, [], ◌∷◌, ◌++◌}
-use Rattle.model.specs.Facts.{Fact}
 use Rattle.proof_tree.specs.proof_nodes.Nodes.{Proof, Cite, Start, Empty, Unreached, Never, Rank, Spread, Cycle, Weaken}
 use Rattle.proof_tree.specs.proof_nodes.Nodes.{Charge, Proofs, NoProof, AndProof}
 use Rattle.proof_tree.specs.proof_nodes.Numbering.{nodes_of}
@@ -27,8 +26,3 @@ children_of (Charge node uses) = list_of uses
 abbrev pub nodes_in : List Proof → List Proof
 nodes_in [] = []
 nodes_in (proof ∷ proofs) = nodes_of proof ++ nodes_in proofs
-
--- facts joined in order
-abbrev pub all_facts : List (List Fact) → List Fact
-all_facts [] = []
-all_facts (facts ∷ others) = facts ++ all_facts others

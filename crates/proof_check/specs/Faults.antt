@@ -2,8 +2,8 @@
 use Rattle.std.specs.Prelude.{ℕ}
 use Rattle.proof_check.specs.declared.error.CheckError.{CheckError}
 use Rattle.proof_check.specs.declared.error.CheckError.TheVariants as error
-use Rattle.proof_check.specs.declared.refusal.NodeFault.{NodeFault}
-use Rattle.proof_check.specs.declared.refusal.NodeFault.TheVariants as node
+use Rattle.proof_facts.specs.declared.refusal.NodeFault.{NodeFault}
+use Rattle.proof_facts.specs.declared.refusal.NodeFault.TheVariants as node
 use Rattle.proof_check.specs.declared.refusal.TreeFault.{TreeFault}
 use Rattle.proof_check.specs.declared.refusal.TreeFault.TheVariants as tree
 

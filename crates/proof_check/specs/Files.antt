@@ -18,7 +18,7 @@ use Rattle.proof_tree.specs.proof_setting.Setting.{setting_of}
 use Rattle.proof_check.specs.declared.error.CheckError.{CheckError}
 use Rattle.proof_check.specs.declared.error.CheckError.TheVariants as error
 use Rattle.proof_check.specs.declared.gaps.OffGap.{OffGap}
-use Rattle.proof_check.specs.Children.{all_facts}
+use Rattle.proof_facts.specs.Statements.{all_facts}
 
 -- a lemma has fewer than 2^32 nodes
 abbrev pub HasFewNodes : Proof → Type 0

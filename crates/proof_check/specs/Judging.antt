@@ -11,12 +11,12 @@ use Rattle.proof_tree.specs.proof_nodes.Reasons.{AllPass}
 use Rattle.proof_tree.specs.proof_nodes.Checks.{checks_of}
 use Rattle.proof_check.specs.declared.judging.Judged.{Judged}
 use Rattle.proof_check.specs.declared.judging.Joined.{Joined}
-use Rattle.proof_check.specs.declared.kept.Kept.{Kept}
-use Rattle.proof_check.specs.declared.kept.Use.{Use}
-use Rattle.proof_check.specs.declared.kept.Use.TheVariants as by
+use Rattle.proof_facts.specs.declared.kept.Kept.{Kept}
+use Rattle.proof_facts.specs.declared.kept.Use.{Use}
+use Rattle.proof_facts.specs.declared.kept.Use.TheVariants as by
 use Rattle.proof_check.specs.Children.{nodes_in}
 use Rattle.proof_check.specs.Refusing.{ArePassed}
-use Rattle.proof_check.specs.Statements.{stated_at, facts_by, past_of}
+use Rattle.proof_facts.specs.Statements.{stated_at, facts_by, past_of}
 
 -- what a node states is kept where it says so
 abbrev pub IsPlaced : Kept → Use → Type 0

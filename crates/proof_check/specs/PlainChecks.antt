@@ -1,13 +1,10 @@
 -- The checks of the plain nodes over what they need to know of their children, as `proof_nodes` makes them.
-use Rattle.std.specs.Prelude.{◌≡◌, ℕ, List, [], ◌∷◌}
-use Rattle.std.specs.Global.{Vec}
+use Rattle.std.specs.Prelude.{ℕ, List, [], ◌∷◌}
 use Rattle.model.specs.Bounds.{Bound}
 use Rattle.model.specs.Facts as plain
 use Rattle.poly_terms.specs.linear_forms.Certificates.{Implies, minus_one}
-use Rattle.proof_tree.specs.Views.{facts_of}
-use Rattle.proof_tree.specs.declared.fact.Fact.{Fact}
 use Rattle.proof_tree.specs.proof_nodes.AcceptsPlain.{HasEmptyShape, IsOneTime, IsZeroTime, HasWeakenShape, IsWeaker}
-use Rattle.proof_tree.specs.proof_nodes.Reasons.{Check, check, AllPass, Shape, NotEmpty, NotZero, NotWeaker}
+use Rattle.proof_tree.specs.proof_nodes.Reasons.{Check, check, Shape, NotEmpty, NotZero, NotWeaker}
 use Rattle.proof_tree.specs.proof_nodes.Setting.{Setting}
 
 -- an empty rule
@@ -23,8 +20,3 @@ never_checks facts = check Shape (IsOneTime facts) ∷ check NotZero (IsZeroTime
 abbrev pub weaken_checks : Setting → List plain.Fact → Bound → List Check
 weaken_checks s facts b =
     check Shape (HasWeakenShape s.program b) ∷ check NotWeaker (IsWeaker s facts b) ∷ []
-
--- all checks pass, and these facts are stated
-pub record States (checks : List Check) (facts : List plain.Fact) (stated : Vec Fact) : Type 0 where
-  pub passed : AllPass checks
-  pub told : facts_of stated.items ≡ facts

@@ -1,4 +1,4 @@
--- Why a node, or a part of a lemma, isn't judged to be accepted.
+-- Why a part of a lemma isn't judged to be accepted.
 use Rattle.std.specs.Prelude.{◌≡◌, ℕ, ◌+◌, List, ⊤}
 use Rattle.std.specs.List.{AllByRecursion}
 use Rattle.model.specs.Facts.{Fact}
@@ -6,18 +6,10 @@ use Rattle.proof_tree.specs.AnswerViews.{reason_of}
 use Rattle.proof_tree.specs.proof_nodes.Nodes.{Proof}
 use Rattle.proof_tree.specs.proof_nodes.Acceptance.{AcceptsNode}
 use Rattle.proof_tree.specs.proof_nodes.Setting.{Setting}
-use Rattle.proof_tree.specs.proof_nodes.Reasons.{Check, IsFirstAmong}
 use Rattle.proof_tree.specs.proof_nodes.Checks.{IsFirstReason}
 use Rattle.proof_tree.specs.proof_nodes.Refusals.{FailsFirst}
-use Rattle.proof_check.specs.declared.refusal.NodeFault.{NodeFault}
-use Rattle.proof_check.specs.declared.refusal.NodeFault.TheVariants as node
 use Rattle.proof_check.specs.declared.refusal.TreeFault.{TreeFault}
 use Rattle.proof_check.specs.declared.refusal.TreeFault.TheVariants as tree
-
--- a refusal tells the first check that fails; want of memory tells nothing
-abbrev pub Refuses : List Check → NodeFault → Type 0
-Refuses checks (node.Refused reason) = IsFirstAmong checks (reason_of reason)
-Refuses checks node.Memory = ⊤
 
 -- each of these nodes is accepted by itself
 abbrev pub ArePassed : Setting → List (List Fact) → List Proof → Type 0

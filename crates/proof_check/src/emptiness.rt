@@ -3,16 +3,14 @@
 ghost use Rattle.std.specs.Prelude.{◌≡◌, ◌↔◌, ◌∷◌, [], IsTrue, MatchResult};
 ghost use Rattle.model.specs.Bounds.{Constant};
 ghost use Rattle.model.specs.Facts.{Time};
-ghost use Rattle.proof_check.specs.Grounds.{IsGround, program, setting};
-ghost use Rattle.proof_check.specs.PlainChecks.{States, empty_checks};
-ghost use Rattle.proof_check.specs.Refusing.{Refuses};
-ghost use Rattle.proof_tree.specs.proof_nodes.AcceptsPlain.{AreMultipliers, HasEmptyShape, IsRule};
-ghost use Rattle.proof_tree.specs.proof_nodes.Limits.{AreInLimit};
+ghost use Rattle.proof_facts.specs.Grounds.{IsGround, setting};
+ghost use Rattle.proof_facts.specs.NodeAnswers.{States};
+ghost use Rattle.proof_check.specs.PlainChecks.{empty_checks};
+ghost use Rattle.proof_facts.specs.NodeAnswers.{Refuses};
+ghost use Rattle.proof_tree.specs.proof_nodes.AcceptsPlain.{HasEmptyShape};
 
-use crate::ground::{Ground, is_rule, prep};
-use crate::refusal::NodeFault;
-use crate::stating::zero_time;
-use farkas_cert::{LIMIT, empty};
+use farkas_cert::empty;
+use proof_facts::{Ground, NodeFault, are_multipliers, is_rule, prep, zero_time};
 use proof_tree::{EmptyNode, Fact, Reason};
 use std::alloc::Global;
 
@@ -51,25 +49,4 @@ fn has_empty_shape(ground: &Ground, rule: u32, multipliers: &[u64]) -> bool
         return false;
     }
     are_multipliers(ground, rule, multipliers)
-}
-
-/// Whether there is a multiplier for each row of a rule, and all are within the limit.
-pub(crate) fn are_multipliers(ground: &Ground, rule: u32, multipliers: &[u64]) -> bool
-    requires ground { IsGround ground.now }
-    requires rule { IsRule (program ground.now) rule }
-    ensures { IsTrue result ↔ AreMultipliers (setting ground.now) rule multipliers.now }
-{
-    multipliers.len() == prep(ground, rule).rows.len() && are_within(multipliers)
-}
-
-// Whether the multipliers are within the limit.
-fn are_within(multipliers: &[u64]) -> bool
-    ensures { IsTrue result ↔ AreInLimit multipliers.now }
-{
-    for multiplier in multipliers {
-        if *multiplier > LIMIT {
-            return false;
-        }
-    }
-    true
 }

@@ -12,9 +12,9 @@ ghost use Rattle.proof_tree.specs.proof_setting.Laws.{AcceptedFilesHold};
 
 use crate::error::CheckError;
 use crate::gaps::first_off;
-use crate::ground::ground_of;
 use crate::lemmas::{all_stated, judge_lemmas};
 use its_model::Program;
+use proof_facts::ground_of;
 use proof_tree::{Fact, ProofFile};
 use std::alloc::Global;
 

@@ -2,10 +2,10 @@
 
 ghost use Rattle.std.specs.Prelude.{◌<◌, ◌^◌, length, map, MatchOption};
 ghost use Rattle.proof_check.specs.Files.{HoldAll, IsFirstOff};
-ghost use Rattle.proof_check.specs.Grounds.{IsGround, program};
+ghost use Rattle.proof_facts.specs.Grounds.{IsGround, program};
 ghost use Rattle.proof_tree.specs.AnswerViews.{gap_of};
 
-use crate::ground::Ground;
+use proof_facts::Ground;
 use proof_tree::{Gap, GapFault, gap_fault};
 
 /// A gap that doesn't hold.

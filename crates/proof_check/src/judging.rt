@@ -3,10 +3,11 @@
 ghost use Rattle.std.specs.Prelude.{◌≡◌, ◌+◌, ◌<◌, ◌^◌, ℕ, List, length, map, MatchResult};
 ghost use Rattle.std.specs.List.{AllByRecursion};
 ghost use Rattle.proof_check.specs.Children.{children_of, nodes_in};
-ghost use Rattle.proof_check.specs.Grounds.{IsGround, program, setting};
+ghost use Rattle.proof_facts.specs.Grounds.{IsGround, program, setting};
 ghost use Rattle.proof_check.specs.Judging.{AreWhole, IsKeptOf, IsNodeOf, IsWhole};
-ghost use Rattle.proof_check.specs.Refusing.{Refuses, RefusesAmong};
-ghost use Rattle.proof_check.specs.Statements.{AreBased, facts_by, first_by, past_of};
+ghost use Rattle.proof_facts.specs.NodeAnswers.{Refuses};
+ghost use Rattle.proof_check.specs.Refusing.{RefusesAmong};
+ghost use Rattle.proof_facts.specs.Statements.{AreBased, facts_by, first_by, past_of};
 ghost use Rattle.proof_tree.specs.Views.{facts_of as facts_in_order, proof_of};
 ghost use Rattle.proof_tree.specs.proof_nodes.Acceptance.{facts_of};
 ghost use Rattle.proof_tree.specs.proof_nodes.Checks.{checks_of};
@@ -14,16 +15,15 @@ ghost use Rattle.proof_tree.specs.proof_nodes.Nodes.{Cite, Proof as PlainProof};
 ghost use Rattle.proof_tree.specs.proof_nodes.Numbering.{nodes_of};
 ghost use Rattle.proof_tree.specs.proof_nodes.Setting.{Setting};
 ghost use Rattle.model.specs.Programs.{Program};
-ghost use Rattle.proof_check.specs.Statements.{owned_by};
+ghost use Rattle.proof_facts.specs.Statements.{owned_by};
 
 use crate::children::children;
 use crate::emptiness::empty_facts;
-use crate::ground::Ground;
-use crate::kept::{Kept, Use, facts_in};
-use crate::refusal::{NodeFault, TreeFault, at_node};
+use crate::refusal::{TreeFault, at_node};
 use crate::unreached::unreached_facts;
 use crate::unused::never_facts;
 use crate::weakening::weaker_facts;
+use proof_facts::{Ground, Kept, NodeFault, Use, facts_in};
 use proof_tree::{Fact, Proof, Reason};
 use std::alloc::Global;
 

@@ -3,22 +3,20 @@
 ghost use Rattle.std.specs.Prelude.{◌≡◌, ◌+◌, ◌++◌, ◌<◌, ◌^◌, [], ℕ, List, length, map, IfOk, OnOk, MatchResult};
 ghost use Rattle.std.specs.List.{AllByRecursion};
 ghost use Rattle.its_model.specs.Views.{program_of};
-ghost use Rattle.proof_check.specs.Children.{all_facts};
+ghost use Rattle.proof_facts.specs.Statements.{all_facts};
 ghost use Rattle.proof_check.specs.Files.{HasFewNodes, RefusesLemmas};
-ghost use Rattle.proof_check.specs.Grounds.{IsGround, program, setting};
+ghost use Rattle.proof_facts.specs.Grounds.{IsGround, program, setting};
 ghost use Rattle.proof_check.specs.Judging.{IsKeptMore, IsKeptOf, IsPlaced};
-ghost use Rattle.proof_check.specs.Statements.{past_of};
+ghost use Rattle.proof_facts.specs.Statements.{past_of};
 ghost use Rattle.proof_tree.specs.Views.{fact_of, facts_of, proof_of};
 ghost use Rattle.proof_tree.specs.proof_setting.Setting.{setting_of};
 
 use crate::error::CheckError;
-use crate::ground::Ground;
 use crate::judging::judge;
-use crate::kept::{Kept, Use, facts_at};
 use crate::refusal::at_lemma;
-use crate::stating::start_facts;
 use its_model::Program;
 use model::Memory;
+use proof_facts::{Ground, Kept, Use, facts_at, start_facts};
 use proof_tree::{Fact, Proof};
 use std::alloc::Global;
 

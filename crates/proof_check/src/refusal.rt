@@ -1,38 +1,13 @@
-//! Why a node isn't judged to be accepted.
+//! Why a part of a lemma isn't judged to be accepted.
 
 ghost use Rattle.std.specs.Prelude.{◌≡◌};
 ghost use Rattle.proof_check.specs.Faults.{at_number, in_lemma};
-ghost use Rattle.proof_check.specs.declared.refusal.NodeFault.TheVariants.{Memory};
 ghost use Rattle.proof_check.specs.declared.refusal.TreeFault.TheVariants as tree;
 
 use crate::error::CheckError;
+use proof_facts::NodeFault;
 use proof_tree::Reason;
 use std::alloc::{AllocError, AllocFailed};
-
-/// Why a node whose uses are accepted isn't.
-#[derive(Clone, Copy, Debug, PartialEq, Eq)]
-pub(crate) enum NodeFault {
-    /// The first of its checks that fails has this reason.
-    Refused(Reason),
-    /// Memory ran out.
-    Memory,
-}
-
-impl From<AllocError> for NodeFault {
-    ghost from_gives = { λ _ e. e ≡ Memory };
-
-    fn from(_error: AllocError) -> NodeFault {
-        NodeFault::Memory
-    }
-}
-
-impl<T: Drop> From<AllocFailed<T>> for NodeFault {
-    ghost from_gives = { λ _ e. e ≡ Memory };
-
-    fn from(_error: AllocFailed<T>) -> NodeFault {
-        NodeFault::Memory
-    }
-}
 
 /// Why a lemma, or a part of one, isn't judged to be accepted.
 #[derive(Clone, Copy, Debug, PartialEq, Eq)]

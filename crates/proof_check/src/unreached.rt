@@ -3,21 +3,18 @@
 ghost use Rattle.std.specs.Prelude.{◌≡◌, ◌∷◌, [], IfOk, OnOk, MatchResult, slice_index_or, false};
 ghost use Rattle.model.specs.Bounds.{Constant};
 ghost use Rattle.model.specs.Facts.{Time};
-ghost use Rattle.proof_check.specs.Grounds.{IsGround, setting};
-ghost use Rattle.proof_check.specs.PlainChecks.{States};
-ghost use Rattle.proof_check.specs.Refusing.{Refuses};
-ghost use Rattle.proof_check.specs.Statements.{joined_by};
+ghost use Rattle.proof_facts.specs.Grounds.{IsGround, setting};
+ghost use Rattle.proof_facts.specs.NodeAnswers.{States};
+ghost use Rattle.proof_facts.specs.NodeAnswers.{Refuses};
+ghost use Rattle.proof_facts.specs.Statements.{joined_by};
 ghost use Rattle.proof_check.specs.Zeros.{AddsZeros, AreZeros};
 ghost use Rattle.proof_tree.specs.Views.{fact_of, facts_of};
 ghost use Rattle.proof_tree.specs.proof_nodes.AcceptsPlain.{may_run};
 ghost use Rattle.proof_tree.specs.proof_nodes.Checks.{unreached_checks};
 
-use crate::ground::{Ground, is_rule};
-use crate::kept::{Kept, Use, facts_in};
-use crate::refusal::NodeFault;
-use crate::stating::zero_time;
 use crate::unused::is_zero;
 use model::Memory;
+use proof_facts::{Ground, Kept, NodeFault, Use, facts_in, is_rule, zero_time};
 use proof_tree::{Fact, Reason};
 use std::alloc::Global;
 

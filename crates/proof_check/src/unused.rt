@@ -6,17 +6,17 @@ ghost use Rattle.bound_expr.specs.Views.{bound_of};
 ghost use Rattle.its_model.specs.Views.{program_of};
 ghost use Rattle.model.specs.Facts.{Time};
 ghost use Rattle.model.specs.Paths.{target_of as target_of_rule};
-ghost use Rattle.proof_check.specs.PlainChecks.{States, never_checks};
-ghost use Rattle.proof_check.specs.Refusing.{Refuses};
+ghost use Rattle.proof_facts.specs.NodeAnswers.{States};
+ghost use Rattle.proof_check.specs.PlainChecks.{never_checks};
+ghost use Rattle.proof_facts.specs.NodeAnswers.{Refuses};
 ghost use Rattle.proof_check.specs.Singles.{IsNoSingle};
 ghost use Rattle.proof_tree.specs.Views.{fact_of, facts_of};
 ghost use Rattle.proof_tree.specs.proof_nodes.AcceptsPlain.{IsOneTime, never_facts as never_facts_of, places_at};
 ghost use Rattle.proof_tree.specs.proof_nodes.Known.{is_zero_bound};
 
-use crate::refusal::NodeFault;
-use crate::stating::{arity_at, zero_sizes};
 use bound_expr::Bound;
 use its_model::Program;
+use proof_facts::{NodeFault, arity_at, zero_sizes};
 use proof_tree::{Fact, Reason, target_of};
 use std::alloc::Global;
 

@@ -3,34 +3,23 @@
 ghost use Rattle.std.specs.Prelude.{◌≡◌, ◌∷◌, [], MatchResult, true};
 ghost use Rattle.bound_expr.specs.Views.{bound_of};
 ghost use Rattle.its_model.specs.Views.{program_of};
-ghost use Rattle.proof_check.specs.PlainChecks.{States, weaken_checks};
-ghost use Rattle.proof_check.specs.Refusing.{Refuses};
-ghost use Rattle.proof_check.specs.Statements.{AreBased};
+ghost use Rattle.proof_facts.specs.NodeAnswers.{States};
+ghost use Rattle.proof_check.specs.PlainChecks.{weaken_checks};
+ghost use Rattle.proof_facts.specs.NodeAnswers.{Refuses};
+ghost use Rattle.proof_facts.specs.Statements.{AreBased};
 ghost use Rattle.proof_tree.specs.Views.{fact_of, facts_of};
 ghost use Rattle.proof_tree.specs.proof_nodes.AcceptsPlain.{weakened};
 ghost use Rattle.proof_tree.specs.proof_nodes.Laws.{bound_in};
 ghost use Rattle.proof_tree.specs.proof_setting.Setting.{setting_of};
 
-use crate::refusal::NodeFault;
-use crate::stating::{arity_at, one};
 use crate::unused::only;
 use crate::writable::is_writable;
 use bound_expr::Bound;
 use bound_table::below;
 use its_model::Program;
+use proof_facts::{NodeFault, arity_at, one};
 use proof_tree::{Fact, Reason};
 use std::alloc::Global;
-
-/// The bound of a fact.
-pub(crate) fn bound_at(fact: &Fact) -> &Bound
-    ensures { bound_of result.now ≡ bound_in (fact_of fact.now) }
-{
-    match fact {
-        Fact::Time { bound, .. } => bound,
-        Fact::Size { bound, .. } => bound,
-        Fact::Cost { bound, .. } => bound,
-    }
-}
 
 // A fact with another bound.
 fn with_bound(fact: &Fact, bound: Bound) -> Fact

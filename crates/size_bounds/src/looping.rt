@@ -9,17 +9,17 @@ ghost use Rattle.proof_tree.specs.proof_setting.Setting.{setting_of};
 ghost use Rattle.proof_tree.specs.Views.{facts_of, member_of, proof_of, spot_of};
 ghost use Rattle.bound_rounds.specs.Needs.{uses_for};
 ghost use Rattle.size_bounds.specs.Tables.{table_of, number_at};
-ghost use Rattle.size_bounds.specs.SizeAnswers.{AreMembersOfProgram, IsCycleAnswer};
+ghost use Rattle.size_nodes.specs.Members.{AreMembersOfProgram};
+ghost use Rattle.size_bounds.specs.SizeAnswers.{IsCycleAnswer};
 
 use crate::answer::SizeAnswer;
-use crate::sized::sized_cycle;
-use crate::sizing::Sizing;
 use crate::table::Table;
 use crate::uses::uses_of_needs;
 use bound_expr::{Bound, Memory};
 use guard_prep::RuleRows;
 use its_graph::Graph;
 use proof_tree::{CycleNode, Fact, Member, Proof, Spot, copied_local};
+use size_nodes::{Sizing, sized_cycle};
 use std::alloc::Global;
 
 /// The size of all members of a loop of places: what comes into the loop from outside, and what its rules add, each as

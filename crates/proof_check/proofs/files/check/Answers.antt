@@ -1,6 +1,6 @@
 use Rattle.its_model.specs.Views.{program_of}
 use Rattle.proof_tree.specs.Views.{facts_of}
-use Rattle.proof_check.specs.Grounds.{program}
+use Rattle.proof_facts.specs.Grounds.{program}
 use Rattle.proof_check.proofs.FileAnswers.{kept-same, hold-same, facts-hold, gaps-exclude}
 use Rattle.proof_check.proofs.files.check.Goals as goal
 

@@ -4,8 +4,8 @@ use Rattle.proof_tree.specs.AnswerViews.{gap_of, fault_of}
 use Rattle.proof_tree.specs.proof_nodes.GapChecks.{GapHolds}
 use Rattle.proof_tree.specs.proof_setting.RankedSets.{forms_at}
 use Rattle.proof_check.specs.Files.{HoldAll}
-use Rattle.proof_check.specs.Grounds.{program}
-use Rattle.proof_check.proofs.Cuts.{done-more, done-all}
+use Rattle.proof_facts.specs.Grounds.{program}
+use Rattle.proof_facts.proofs.Cuts.{done-more, done-all}
 use Rattle.proof_check.proofs.OffGaps.{off-at}
 use Rattle.proof_check.proofs.gaps.first_off.Goals as goal
 

@@ -1,7 +1,7 @@
 use Rattle.std.proofs.Common.{map, take}
 use Rattle.proof_tree.specs.AnswerViews.{gap_of}
 use Rattle.proof_check.specs.Files.{HoldAll}
-use Rattle.proof_check.specs.Grounds.{program}
+use Rattle.proof_facts.specs.Grounds.{program}
 use Rattle.proof_check.proofs.gaps.first_off.Given as goal
 
 -- the gaps so far hold

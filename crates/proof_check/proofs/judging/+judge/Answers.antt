@@ -2,15 +2,15 @@ use Rattle.std.proofs.Common.{◌∙◌, ◌+◌, List, map, take, drop, length,
 use Rattle.proof_tree.specs.proof_nodes.Numbering.{nodes_of}
 use Rattle.proof_tree.specs.Views.{proof_of}
 use Rattle.proof_check.specs.Children.{nodes_in}
-use Rattle.proof_check.specs.Grounds.{program, setting}
+use Rattle.proof_facts.specs.Grounds.{program, setting}
 use Rattle.proof_check.specs.Judging.{AreWhole}
 use Rattle.proof_check.specs.Refusing.{RefusesAmong}
 use Rattle.std.specs.List.{AllByRecursion}
-use Rattle.proof_check.specs.Statements.{past_of, facts_by, AreBased}
+use Rattle.proof_facts.specs.Statements.{past_of, facts_by, AreBased}
 use Rattle.proof_check.proofs.AcceptedLemmas.{based-all}
 use Rattle.proof_tree.specs.proof_nodes.Nodes.{Proof}
 use Rattle.proof_check.proofs.ChildNodes.{count-children}
-use Rattle.proof_check.proofs.Cuts.{cut-at, done-more, done-all}
+use Rattle.proof_facts.proofs.Cuts.{cut-at, done-more, done-all}
 use Rattle.proof_check.proofs.Judged.{whole, refused-here, refused-child, one-more, refused-next, cut-count}
 use Rattle.proof_check.proofs.judging.+judge.Goals as goal
 

@@ -2,7 +2,7 @@ use Rattle.std.proofs.Common.{◌+◌, ◌*◌, length, map, take}
 use Rattle.proof_tree.specs.Views.{proof_of}
 use Rattle.proof_tree.specs.proof_nodes.Numbering.{nodes_of}
 use Rattle.proof_check.specs.Children.{nodes_in}
-use Rattle.proof_check.specs.Grounds.{setting}
+use Rattle.proof_facts.specs.Grounds.{setting}
 use Rattle.proof_check.specs.Judging.{AreWhole}
 use Rattle.proof_check.proofs.judging.+judge.Given as goal
 

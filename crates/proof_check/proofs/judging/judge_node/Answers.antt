@@ -2,7 +2,7 @@ use Rattle.std.proofs.Common.{◌∙◌, map, sym, ap}
 use Rattle.proof_tree.specs.Views.{proof_of, uses_of}
 use Rattle.proof_tree.specs.declared.proof.UnreachedNode.{UnreachedNode}
 use Rattle.proof_tree.specs.proof_nodes.Nodes.{Unreached}
-use Rattle.proof_check.specs.Grounds.{setting}
+use Rattle.proof_facts.specs.Grounds.{setting}
 use Rattle.proof_check.proofs.PlainNodes.{unreached-node}
 use Rattle.proof_check.proofs.ProofViews.{proof-Unreached}
 use Rattle.proof_check.proofs.judging.judge_node.Goals as goal

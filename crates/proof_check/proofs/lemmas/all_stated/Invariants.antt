@@ -1,7 +1,7 @@
 use Rattle.std.proofs.Common.{◌≡◌, map, take}
 use Rattle.proof_tree.specs.Views.{facts_of}
-use Rattle.proof_check.specs.Children.{all_facts}
-use Rattle.proof_check.specs.Statements.{stated_at}
+use Rattle.proof_facts.specs.Statements.{all_facts}
+use Rattle.proof_facts.specs.Statements.{stated_at}
 use Rattle.proof_check.proofs.lemmas.all_stated.Given as goal
 
 -- the facts of the lemmas so far

@@ -2,9 +2,9 @@ use Rattle.std.proofs.Common.{List, ◌+◌, map, take, drop, sym, subst, arith}
 use Rattle.proof_tree.specs.Views.{proof_of}
 use Rattle.proof_tree.specs.proof_nodes.Nodes.{Proof}
 use Rattle.proof_check.specs.Files.{HasFewNodes, RefusesLemmas}
-use Rattle.proof_check.specs.Grounds.{program, setting}
+use Rattle.proof_facts.specs.Grounds.{program, setting}
 use Rattle.proof_check.specs.Judging.{IsKeptOf}
-use Rattle.proof_check.proofs.Cuts.{cut-at, done-more, done-all, done-count, each-at}
+use Rattle.proof_facts.proofs.Cuts.{cut-at, done-more, done-all, done-count, each-at}
 use Rattle.proof_check.proofs.Keeping.{kept-more, refused-fault}
 use Rattle.proof_check.proofs.lemmas.judge_lemmas.Goals as goal
 

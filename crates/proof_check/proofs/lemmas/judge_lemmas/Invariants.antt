@@ -1,6 +1,6 @@
 use Rattle.std.proofs.Common.{map, take}
 use Rattle.proof_tree.specs.Views.{proof_of}
-use Rattle.proof_check.specs.Grounds.{program, setting}
+use Rattle.proof_facts.specs.Grounds.{program, setting}
 use Rattle.proof_check.specs.Judging.{IsKeptOf}
 use Rattle.proof_check.proofs.lemmas.judge_lemmas.Given as goal
 

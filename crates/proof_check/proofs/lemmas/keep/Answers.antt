@@ -1,6 +1,6 @@
 use Rattle.std.proofs.Common.{◌≡◌, ◌∙◌, ℕ, ◌∷◌, ◌++◌, [], length, ap, sym, arith}
 use Rattle.std.proofs.lemmas.List.{length-append}
-use Rattle.proof_check.specs.Statements.{facts_from, facts_by}
+use Rattle.proof_facts.specs.Statements.{facts_from, facts_by}
 use Rattle.proof_check.proofs.Keeping.{kept-before, kept-last}
 use Rattle.proof_check.proofs.lemmas.keep.Goals as goal
 

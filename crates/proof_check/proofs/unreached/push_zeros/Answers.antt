@@ -2,7 +2,7 @@ use Rattle.std.proofs.Common.{List, sym, subst, arith}
 use Rattle.model.specs.Facts as plain
 use Rattle.proof_tree.specs.Views.{fact_of}
 use Rattle.proof_check.specs.Zeros.{AddsZeros}
-use Rattle.proof_check.proofs.Cuts.{done-more, done-all}
+use Rattle.proof_facts.proofs.Cuts.{done-more, done-all}
 use Rattle.proof_check.proofs.ZeroRules.{adds-both}
 use Rattle.proof_check.proofs.unreached.push_zeros.Goals as goal
 

@@ -1,9 +1,9 @@
 use Rattle.std.proofs.Common.{◌≡◌, ℕ, List, Bool, true, false, inl, inr, refl, sym, subst, slice_index_or}
 use Rattle.its_model.specs.Views.{rule_of}
-use Rattle.proof_check.specs.Grounds.{program}
-use Rattle.proof_check.specs.Statements.{joined_by}
+use Rattle.proof_facts.specs.Grounds.{program}
+use Rattle.proof_facts.specs.Statements.{joined_by}
 use Rattle.proof_check.specs.Zeros.{AreZeros}
-use Rattle.proof_check.proofs.Rows.{rule-numbered}
+use Rattle.proof_facts.proofs.Rows.{rule-numbered}
 use Rattle.proof_check.proofs.ZeroRules.{seen-reached, unseen-unreached}
 use Rattle.proof_check.proofs.unreached.unreached_facts.Goals as goal
 

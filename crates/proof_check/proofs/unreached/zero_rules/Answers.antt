@@ -1,10 +1,10 @@
 use Rattle.std.proofs.Common.{List, [], sym, subst, arith}
 use Rattle.std.proofs.lemmas.List.{take_all}
 use Rattle.model.specs.Facts as plain
-use Rattle.proof_check.specs.Statements.{joined_by}
+use Rattle.proof_facts.specs.Statements.{joined_by}
 use Rattle.proof_check.specs.Zeros.{AddsZeros}
-use Rattle.proof_check.specs.declared.kept.Use.{Use}
-use Rattle.proof_check.proofs.JoinedFacts.{joined-more}
+use Rattle.proof_facts.specs.declared.kept.Use.{Use}
+use Rattle.proof_facts.proofs.JoinedFacts.{joined-more}
 use Rattle.proof_check.proofs.ZeroRules.{adds-both, zeros-from}
 use Rattle.proof_check.proofs.unreached.zero_rules.Goals as goal
 

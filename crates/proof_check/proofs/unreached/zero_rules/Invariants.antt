@@ -1,5 +1,5 @@
 use Rattle.std.proofs.Common.{[], take}
-use Rattle.proof_check.specs.Statements.{joined_by}
+use Rattle.proof_facts.specs.Statements.{joined_by}
 use Rattle.proof_check.specs.Zeros.{AddsZeros}
 use Rattle.proof_check.proofs.unreached.zero_rules.Given as goal
 
