@@ -16,6 +16,8 @@ mod ZeroRules
 mod FileAnswers
 -- plain nodes
 mod PlainNodes
+-- nodes that are judged by key
+mod KeyedNodes
 -- facts that stand alone, and weaker bounds
 mod SingleFacts
 -- bounds as they may be written

@@ -4,24 +4,15 @@
 //! first node or gap that isn't accepted, and why.
 #![tactic(auto)]
 
+mod by_key;
 mod children;
 mod emptiness;
 mod error;
 mod files;
 mod gaps;
-mod goals;
-mod ground;
-mod joining;
 mod judging;
-mod kept;
 mod lemmas;
-mod lookup;
-mod needed;
-mod rank_shape;
-mod ranking;
 mod refusal;
-mod stating;
-mod symbols;
 mod unreached;
 mod unused;
 mod weakening;

@@ -1,9 +1,14 @@
 -- Positions of facts by key: what is entered, fact by fact, and the bound that is found.
 use Rattle.std.proofs.Common.{◌≡◌, ℕ, suc, ◌+◌, ◌==◌, ◌&&◌, ◌<◌, ◌≤◌, Bool, true, false, cond, List, [], ◌∷◌, ◌++◌, length, map, take, get_or}
-use Rattle.std.proofs.Common.{Option, Some, None, option_map, refl, sym, ap, ◌∙◌, subst, arith}
+use Rattle.std.proofs.Common.{Option, Some, None, is_some, option_map, refl, sym, ap, ◌∙◌, subst, arith}
 use Rattle.std.specs.Prelude.{slice_get}
-use Rattle.std.specs.BTreeMap.{BTreeMap, get}
-use Rattle.std.specs.Ordering.{nat_cmp}
+use Rattle.std.specs.BTreeMap.{BTreeMap, get, is_at}
+use Rattle.std.specs.Cmp.{unsigned_tied}
+use Rattle.std.specs.declared.cmp.Ordering.{Ordering}
+use Rattle.std.specs.declared.cmp.Ordering.TheVariants.{Less, Equal, Greater}
+use Rattle.std.specs.Ordering.{nat_cmp, ordering_then, is_eq}
+use Rattle.std.proofs.lemmas.Bool.{and_parts}
+use Rattle.model.proofs.Membership.{told_same}
 use denote.Ref.{Bor}
 use Rattle.model.specs.Bounds as plain
 use Rattle.model.specs.Facts as facts
@@ -112,3 +117,44 @@ pub sizes-all : (refs : List (Bor Fact)) (i : ℕ) (sizes : BTreeMap (ℕ × ℕ
     → HasSizes (facts_at (take i refs)) sizes → HasSizes (facts_at refs) sizes
 sizes-all refs i sizes l h =
     subst (λ (fs : List facts.Fact). HasSizes fs sizes) (done-all (λ (q : Bor Fact). fact_of q.now) refs i l) h
+
+-- two pairs are equal where both their numbers are
+both-equal : (o p : Ordering) → is_eq (ordering_then o p) ≡ (is_eq o && is_eq p)
+both-equal Less p = refl
+both-equal Equal p = refl
+both-equal Greater p = refl
+
+same-pair : (x q : ℕ × ℕ) → is_at (pair_cmp x) q ≡ ((x.0 == q.0) && (x.1 == q.1))
+same-pair x q =
+    both-equal (nat_cmp x.0 q.0) (nat_cmp x.1 q.1)
+    ∙ (ap (λ (v : Bool). v && is_eq (nat_cmp x.1 q.1)) (unsigned_tied x.0 q.0)
+    ∙ ap (λ (v : Bool). (x.0 == q.0) && v) (unsigned_tied x.1 q.1))
+
+-- a size is entered where its place has none
+pub size-entered : (old new : BTreeMap (ℕ × ℕ) ℕ) (t i position : ℕ) (b : plain.Bound) (fact : facts.Fact)
+    → fact ≡ Size t i b → is_some (get pair_cmp old (t, i)) ≡ false
+    → ((q : ℕ × ℕ) → get pair_cmp new q ≡ cond (is_at (pair_cmp (t, i)) q) (Some position) (get pair_cmp old q))
+    → EntersSize old fact position new
+size-entered old new t i position b fact e n u = record {
+  each = λ v j.
+      u (v, j)
+      ∙ (ap (λ (w : Bool). cond w (Some position) (get pair_cmp old (v, j))) (same-pair (t, i) (v, j))
+      ∙ (go v j ((t == v) && (i == j)) refl
+      ∙ ap (λ (f : facts.Fact). first_of (get pair_cmp old (v, j)) (cond (is_size_of v j f) (Some position) None)) (sym e)));
+}
+  where
+    none : (o : Option ℕ) → is_some o ≡ false → o ≡ None
+    none None h = refl
+    none (Some m) h = absurd (let no : ⊥ = cc in no)
+
+    first-none : (o : Option ℕ) → first_of o None ≡ o
+    first-none None = refl
+    first-none (Some m) = refl
+
+    go : (v j : ℕ) (w : Bool) → ((t == v) && (i == j)) ≡ w
+        → cond w (Some position) (get pair_cmp old (v, j)) ≡ first_of (get pair_cmp old (v, j)) (cond w (Some position) None)
+    go v j true k =
+        let h = and_parts (t == v) (i == j) k in
+        sym (ap (λ (o : Option ℕ). first_of o (Some position))
+        ((λ m. get pair_cmp old (sym (told_same t v h.0) m, sym (told_same i j h.1) m)) ∙ none (get pair_cmp old (t, i)) n))
+    go v j false k = sym (first-none (get pair_cmp old (v, j)))

@@ -6,7 +6,7 @@ ghost use Rattle.its_model.specs.Valid.{IsValid};
 ghost use Rattle.its_model.specs.Views.{program_of};
 ghost use Rattle.poly_terms.specs.Views.{form_of};
 ghost use Rattle.proof_facts.specs.Grounds.{IsGround, program, setting};
-ghost use Rattle.proof_facts.specs.SuitedRows.{SuitsGoals};
+ghost use Rattle.proof_facts.specs.SuitedRows.{HasPlaces, IsPrepOf, SuitsArms, SuitsGoals};
 ghost use Rattle.proof_tree.specs.Composing.{AreRowsOf};
 ghost use Rattle.proof_tree.specs.proof_nodes.AcceptsPlain.{IsRule};
 
@@ -73,6 +73,9 @@ pub fn prep<'g>(ground: &'g Ground, rule: u32) -> &'g RuleRows
     ensures news { map form_of result.now.news.items ≡ (setting ground.now).news rule }
     ensures small { AreSmall (map form_of result.now.rows.items) }
     ensures suits { SuitsGoals (program ground.now) rule result.now }
+    ensures arms { SuitsArms result.now }
+    ensures own { IsPrepOf (setting ground.now) rule result.now }
+    ensures places { HasPlaces (program ground.now) rule result.now }
 {
     &ground.preps[rule as usize - 1]
 }

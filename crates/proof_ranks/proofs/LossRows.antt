@@ -66,6 +66,10 @@ module _ (p : Program) (n : code_node.RankNode) (h : HasRankShape (setting_of p)
   found-short v o (Some a) e =
       omega (arith, ap (λ (f : Form). length f.coefs) e, form-width p forms h.forms a, few-places p a v)
 
+  -- the strict rule is one
+  pub strict-rule : IsRule p n.rule
+  strict-rule = h.rules n.rule h.inside
+
   module _ (t : ℕ) (m : RuleRows) (suits : SuitsGoals p t m) where
     -- at the source of a rule no more than the rule has unknowns
     pub found-width : (o : Option (Bor code.Form)) → form_found o ≡ at_source p (rank_of n) t

@@ -1,6 +1,6 @@
 //! Whether the shape of a node with a ranking function is right.
 
-ghost use Rattle.std.specs.Prelude.{◌≡◌, ◌↔◌, ◌≤◌, map, IfOk, IsTrue, nat_abs};
+ghost use Rattle.std.specs.Prelude.{◌≡◌, ◌↔◌, map, IfOk, IsTrue};
 ghost use Rattle.std.specs.List.{All, AllByRecursion};
 ghost use Rattle.its_model.specs.Views.{program_of};
 ghost use Rattle.model.specs.Entries.{is_in};
@@ -9,14 +9,13 @@ ghost use Rattle.proof_ranks.specs.RankShapes.{HasMoves, HasRankNumbers, IsRankS
 ghost use Rattle.proof_tree.specs.Views.{form_of, rank_of};
 ghost use Rattle.proof_tree.specs.proof_nodes.AcceptsPlain.{IsRule};
 ghost use Rattle.proof_tree.specs.proof_nodes.AcceptsRank.{HasFormShape, HasRankShape};
-ghost use Rattle.proof_tree.specs.proof_nodes.Limits.{IsInLimit};
 ghost use Rattle.proof_tree.specs.proof_nodes.Numbers.{IsAscending};
 
 use crate::symbols::symbols_of_set;
 use farkas_cert::LIMIT;
 use its_model::Program;
 use model::Memory;
-use proof_facts::{Ground, are_multipliers, arity_at, is_rule};
+use proof_facts::{Ground, are_multipliers, are_within, arity_at, is_rule, is_within};
 use proof_tree::{Form, RankNode};
 use std::alloc::Global;
 
@@ -63,25 +62,6 @@ fn is_rank_set(p: &Program, node: &RankNode) -> bool
     ensures { IsTrue result ↔ IsRankSet (program_of p.now) (rank_of node.now) }
 {
     ascends(&node.set) && are_rules(p, &node.set) && has(&node.set, node.rule)
-}
-
-// Whether a coefficient or a constant is within the limit.
-fn is_within(number: i64) -> bool
-    ensures { IsTrue result ↔ IsInLimit (nat_abs number) }
-{
-    number.unsigned_abs() <= LIMIT
-}
-
-// Whether the coefficients are within the limit.
-fn are_within(coefs: &[i64]) -> bool
-    ensures { IsTrue result ↔ All (λ c. IsInLimit (nat_abs c)) coefs.now }
-{
-    for coef in coefs {
-        if coef.unsigned_abs() > LIMIT {
-            return false;
-        }
-    }
-    true
 }
 
 // Whether a form has a coefficient for each place of its symbol, and numbers within the limit.

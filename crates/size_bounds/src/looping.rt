@@ -19,7 +19,7 @@ use bound_expr::{Bound, Memory};
 use guard_prep::RuleRows;
 use its_graph::Graph;
 use proof_tree::{CycleNode, Fact, Member, Proof, Spot, copied_local};
-use size_nodes::{Sizing, sized_cycle};
+use size_nodes::{Sizing, size_facts, sized_cycle};
 use std::alloc::Global;
 
 /// The size of all members of a loop of places: what comes into the loop from outside, and what its rules add, each as
@@ -87,20 +87,4 @@ fn copied_members(alloc: Global, members: &[Member]) -> Result<Vec<Member>, Memo
         copies.push(copy)?;
     }
     Ok(copies)
-}
-
-// The facts that this is the size of each member.
-fn size_facts(alloc: Global, members: &[Member], bound: &Bound) -> Result<Vec<Fact>, Memory>
-    ensures { IfOk result (λ facts. facts_of facts.items ≡ cycle_facts (bound_of bound.now) (map member_of
-        members.now)) }
-{
-    let mut facts = Vec::new(alloc);
-    for member in members {
-        facts.push(Fact::Size {
-            rule: member.spot.rule,
-            place: member.spot.place,
-            bound: bound.copied(alloc)?,
-        })?;
-    }
-    Ok(facts)
 }

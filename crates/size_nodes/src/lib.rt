@@ -15,8 +15,10 @@ mod needs;
 mod rules;
 mod sized;
 mod sizing;
+mod stating;
 mod updates;
 
 pub use growth::is_zero;
 pub use sized::{sized_cycle, sized_spread};
 pub use sizing::Sizing;
+pub use stating::size_facts;

@@ -5,7 +5,7 @@ use Rattle.std.proofs.lemmas.Int.{ints}
 use Rattle.std.proofs.lemmas.List.{take_all}
 use Rattle.std.proofs.lemmas.List.Elements.{All-more}
 use Rattle.proof_tree.specs.proof_nodes.Limits.{IsInLimit}
-use Rattle.proof_ranks.proofs.rank_shape.are_within.Goals as goal
+use Rattle.proof_facts.proofs.multipliers.are_within.Goals as goal
 
 pub loop-coef-preserved : goal.loop-coef-preserved
 loop-coef-preserved c =

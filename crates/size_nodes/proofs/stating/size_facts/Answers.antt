@@ -4,7 +4,7 @@ use Rattle.bound_expr.specs.Views.{bound_of}
 use Rattle.proof_tree.specs.proof_nodes.AcceptsSizes.{cycle_facts}
 use Rattle.proof_tree.specs.declared.arm.Member.{Member}
 use Rattle.proof_tree.specs.Views.{member_of, facts_of}
-use Rattle.size_bounds.proofs.looping.size_facts.Goals as goal
+use Rattle.size_nodes.proofs.stating.size_facts.Goals as goal
 
 pub returns : goal.returns
 returns c =

@@ -1,0 +1,12 @@
+use Rattle.std.proofs.Common.{map}
+use Rattle.std.specs.Prelude.{pos}
+use Rattle.poly_terms.specs.Views.{form_of}
+use Rattle.proof_tree.specs.Sizes.{form_found}
+use Rattle.proof_ranks.proofs.GoalForms.{loss-row}
+use Rattle.proof_ranks.proofs.goals.loss_row.Goals as goal
+
+pub returns : goal.returns
+returns c =
+    loss-row c.args.width (form_found c.args.before) (form_found c.args.after) (map form_of c.args.news.now)
+    (pos c.args.least) c.in_ok-coefs.coefs.items c.lost_constant-constant.result c.requires.within c.in_ok-coefs.ensures
+    c.lost_constant-constant.ensures

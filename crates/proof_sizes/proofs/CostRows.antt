@@ -1,0 +1,65 @@
+-- What is prepared of the cost rule of a rule is what its setting has of the cost.
+use Rattle.std.proofs.Common.{◌≡◌, ℕ, zero, suc, ◌+◌, Bool, true, false, List, [], ◌∷◌, length, Option, Some}
+use Rattle.std.proofs.Common.{option_map, refl, sym, ap, ◌∙◌}
+use Rattle.std.specs.Prelude.{if◌then◌else◌}
+use Rattle.std.proofs.lemmas.List.{length-map}
+use Rattle.poly_terms.specs.Views.{form_of}
+use Rattle.guard_prep.specs.Prepared.{Prepared, is_bent, news_from, unknowns_of}
+use Rattle.guard_prep.specs.declared.rule_rows.RuleRows.{RuleRows}
+use Rattle.guard_prep.proofs.StepLaws.{costs-are-points}
+use Rattle.its_model.specs.Valid.{IsValid}
+use Rattle.model.specs.Costs.{cost_rule}
+use Rattle.model.specs.Polynomials.{Polynomial}
+use Rattle.model.specs.Programs.{Program, Rule, rule_at}
+use Rattle.poly_terms.specs.Expanding.{expanded, variable_form}
+use Rattle.poly_terms.specs.Rows.{linear_form}
+use Rattle.poly_terms.specs.linear_forms.Forms.{Form}
+use Rattle.proof_tree.specs.proof_nodes.AcceptsSizes.{left_in}
+use Rattle.proof_tree.specs.proof_nodes.Combined.{form_at}
+use Rattle.proof_tree.specs.proof_nodes.Setting.{costs_of, only_place}
+use Rattle.proof_tree.specs.proof_setting.Setting.{bent_at, cost_rule_at, cost_rule_in, news_in, polys_in, rows_in, setting_of}
+use Rattle.proof_facts.specs.SuitedRows.{IsPrepOf, SuitsArms}
+use Rattle.proof_facts.proofs.SuitedRows.{suits-arms}
+use Rattle.proof_sizes.specs.Costs.{IsCostPrep}
+
+-- one new value alone is the first
+one-new : (w k : ℕ) (q : Polynomial) → news_from w k (q ∷ []) ≡ form_at (news_from w k (q ∷ [])) 0 ∷ []
+one-new w k q = go (is_bent q)
+  where
+    go : (v : Bool) → (if v then linear_form w (variable_form k) ∷ news_from w (suc k) [] else linear_form w q ∷ news_from w k [])
+        ≡ form_at (if v then linear_form w (variable_form k) ∷ news_from w (suc k) [] else linear_form w q ∷ news_from w k []) 0 ∷ []
+    go true = refl
+    go false = refl
+
+module _ (p : Program) (t : ℕ) (m : RuleRows) (h : IsCostPrep p t m) where
+  -- the cost rule of the rule
+  rule-is : cost_rule_at p t ≡ Some (cost_rule h.costs.rule h.costs.cost)
+  rule-is = ap cost_rule_in h.costs.numbered ∙ ap (option_map (λ c. cost_rule h.costs.rule c)) h.costs.written
+
+  -- the update at a position is the cost at the only place
+  only : (q : Polynomial) (i : ℕ) → bent_at (q ∷ []) i ≡ only_place (bent_at (q ∷ []) 0) i
+  only q zero = refl
+  only q (suc i) = refl
+
+  -- what was prepared is what the costs have of the rule
+  pub cost-own : IsPrepOf (costs_of (setting_of p)) t m
+  cost-own = record {
+    rows = ap (λ (x : Prepared). x.rows) h.same ∙ sym (ap rows_in rule-is);
+    news = ap (λ (x : Prepared). x.news) h.same
+        ∙ (one-new (unknowns_of (cost_rule h.costs.rule h.costs.cost)) (h.costs.rule.left + h.costs.rule.free) (expanded h.costs.cost)
+        ∙ sym (ap (λ (o : Option Rule). form_at (news_in o) 0 ∷ []) rule-is));
+    polys = λ i. ap (λ (x : Prepared). bent_at x.polys i) h.same
+        ∙ (only (expanded h.costs.cost) i ∙ sym (ap (λ (o : Option Rule). only_place (bent_at (polys_in o) 0) i) rule-is));
+    left = ap (λ (x : Prepared). x.left) h.same ∙ sym (ap left_in h.costs.numbered);
+  }
+
+  -- and suits certificates
+  pub cost-arms : IsValid p → SuitsArms m
+  cost-arms v = suits-arms (cost_rule h.costs.rule h.costs.cost) m (costs-are-points.preparable p t h.costs.rule h.costs.cost v h.costs.numbered h.costs.written) h.same
+
+  -- with one new value
+  pub cost-single : length m.news.items ≡ 1
+  cost-single =
+      sym (length-map m.news.items form_of)
+      ∙ ap length (ap (λ (x : Prepared). x.news) h.same
+      ∙ one-new (unknowns_of (cost_rule h.costs.rule h.costs.cost)) (h.costs.rule.left + h.costs.rule.free) (expanded h.costs.cost))
