@@ -6,6 +6,6 @@ use Rattle.proof_facts.proofs.joining.enter_size.Goals as goal
 
 pub returns-in_ok-insert-in-Size : goal.returns-in_ok-insert-in-Size
 returns-in_ok-insert-in-Size c =
-    size-entered c.args.sizes.now c.insert.new.self c.in-Size.rule.now c.in-Size.place.now c.args.position
-    (bound_of c.in-Size.bound.now) (fact_of c.args.fact.now) (ap fact_of c.in-Size.is)
+    size-entered c.args.sizes.now c.insert.new.self c.in-Size.rule c.in-Size.place c.args.position
+    (bound_of c.in-Size.bound) (fact_of c.args.fact.now) (ap fact_of c.in-Size.is)
     (sym c.contains_key.ensures ∙ c.if-not-contains_key.true) c.in_ok-insert-in-Size.ensures.updates.0
