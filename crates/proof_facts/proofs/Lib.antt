@@ -1,17 +1,17 @@
 -- lists that are cut
-mod Cuts
+pub mod Cuts
 -- what was prepared of rules
-mod Rows
-mod SuitedRows
+pub mod Rows
+pub mod SuitedRows
 -- facts of places
-mod PlaceFacts
+pub mod PlaceFacts
 -- facts that are kept
-mod KeptFacts
+pub mod KeptFacts
 -- facts joined
-mod JoinedFacts
+pub mod JoinedFacts
 -- bounds by key
-mod Keys
+pub mod Keys
 -- bounds that are needed
-mod NeededBounds
+pub mod NeededBounds
 -- forms, column by column
-mod FormColumns
+pub mod FormColumns

@@ -1,7 +1,11 @@
 -- Arms over what was prepared of a rule are those that a setting accepts at the rule.
 use Rattle.std.specs.Bool.{IsTrue}
-use Rattle.std.proofs.Common.{◌≡◌, ◌↔◌, ℕ, zero, suc, ◌-◌, ◌≤◌, Bool, length, map, Option, Some, None, refl, sym, ap, ◌∙◌, subst, arith}
+use Rattle.std.proofs.Common.{◌≡◌, ◌↔◌, ℕ, zero, suc, ◌-◌, ◌≤◌, ◌<◌, Bool, List, [], ◌∷◌, length, get_or, map, Option, Some, None, refl, sym, ap, ◌∙◌, subst, arith}
 use Rattle.std.proofs.lemmas.List.{length-map}
+use Rattle.std.proofs.lemmas.List.Elements.{recursion_from_All}
+use Rattle.farkas_cert.specs.Sizes.{HasRowNumbers}
+use Rattle.poly_terms.specs.declared.poly.Row.{Row}
+use Rattle.poly_terms.specs.linear_forms.Forms.{Form}
 use Rattle.guard_prep.specs.declared.rule_rows.RuleRows.{RuleRows}
 use Rattle.model.specs.Polynomials.{Polynomial}
 use Rattle.poly_terms.specs.Views.{form_of, poly_of}
@@ -12,7 +16,8 @@ use Rattle.proof_tree.specs.proof_nodes.ComposedSizes.{poly_of as poly_in}
 use Rattle.proof_tree.specs.proof_nodes.Nodes.{Arm, Linear, Poly}
 use Rattle.proof_tree.specs.proof_nodes.Setting.{Setting}
 use Rattle.proof_tree.specs.proof_setting.Setting.{bent_at}
-use Rattle.proof_facts.specs.SuitedRows.{IsPrepOf}
+use Rattle.proof_facts.specs.SuitedRows.{IsPrepOf, SuitsArms}
+use Rattle.proof_facts.proofs.Cuts.{each-at}
 use Rattle.proof_sizes.specs.Arms.{HasArmNumbers, IsArmOver, IsLeftAlone}
 
 module _ (s : Setting) (t : ℕ) (m : RuleRows) (own : IsPrepOf s t m) where
@@ -80,3 +85,18 @@ module _ (s : Setting) (t : ℕ) (m : RuleRows) (own : IsPrepOf s t m) where
     pub arm-test : (side : Side) (arm : Arm) (b : Bool) → IsTrue b ↔ IsArmOver m place side arm
         → IsTrue b ↔ AcceptsArm s (record { rule = t; place = place }) side arm
     arm-test side arm b h = (λ e. over-accepted side arm (h.0 e), λ k. h.1 (accepted-over side arm k))
+
+-- the new value at a position
+pub new-there : (rs : List Row) (i : ℕ) (r : Row) → i < length rs → r ≡ get_or rs i r → form_at (map form_of rs) i ≡ form_of r
+new-there [] i r l e = absurd (omega (arith, l))
+new-there (x ∷ rs) zero r l e = ap form_of (sym e)
+new-there (x ∷ rs) (suc i) r l e = new-there rs i r (omega (arith, l)) e
+
+-- has small numbers, and few coefficients
+pub new-suits : (m : RuleRows) (i : ℕ) (r : Row) → SuitsArms m → i < length m.news.items → r ≡ get_or m.news.items i r
+    → HasRowNumbers (form_of r) × (length (form_of r).coefs ≤ m.unknowns)
+new-suits m i r h l e = (
+  each-at form_of HasRowNumbers m.news.items i r l e (recursion_from_All HasRowNumbers (map form_of m.news.items) h.news),
+  each-at form_of (λ (f : Form). length f.coefs ≤ m.unknowns) m.news.items i r l e
+      (recursion_from_All (λ (f : Form). length f.coefs ≤ m.unknowns) (map form_of m.news.items) h.width),
+)

@@ -8,3 +8,4 @@ mod MemberShapes
 mod SizedNodes
 -- costs
 mod CostRows
+mod CostAnswers

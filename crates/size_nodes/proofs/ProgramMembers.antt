@@ -114,7 +114,7 @@ few-places w (Some q) polys (suc i) l h e =
     (few-terms w q.now.terms.items l (told-below w polys i (poly_of q.now) h (sym e)))
 
 -- expanded updates have variables below those of the rule
-updates-below : (n : ℕ) (us : List Term) → AllByRecursion (IsValidTerm n) us
+pub updates-below : (n : ℕ) (us : List Term) → AllByRecursion (IsValidTerm n) us
     → AllByRecursion (HasVariablesBelow n) (map expanded us)
 updates-below n [] h = tt
 updates-below n (u ∷ us) h = (variables-expanded n u h.0.variables, updates-below n us h.1)

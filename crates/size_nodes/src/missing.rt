@@ -6,23 +6,12 @@ ghost use Rattle.size_nodes.specs.Needs.{first_missing as first_missing_of, firs
 
 use proof_tree::{Known, Spot};
 
-// Whether a place after a rule has no size.
-fn is_unsized<K: Known>(known: &K, spot: &Spot) -> bool
-    ensures { result ≡ lacks ((K.table known.now).size spot.now.rule spot.now.place) }
-{
-    match known.size(spot.rule, spot.place) {
-        Some(_) => false,
-        None => true,
-    }
-}
-
 /// The first of these places after rules whose size isn't known.
 pub(crate) fn first_missing<K: Known>(known: &K, spots: &[Spot]) -> Option<Spot>
     ensures { option_map spot_of result ≡ first_missing_of (K.table known.now) (map spot_of spots.now) }
 {
     for spot in spots {
-        let is_missing = is_unsized(known, spot);
-        if is_missing {
+        if known.size(spot.rule, spot.place).is_none() {
             return Some(*spot);
         }
     }

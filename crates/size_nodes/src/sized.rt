@@ -1,4 +1,4 @@
-//! Sizes without the lemmas that they rest on: of a place that doesn't loop, and of the members of a loop.
+//! Sizes of a place that doesn't loop, and of the members of a loop.
 
 ghost use Rattle.std.specs.Prelude.{◌≡◌, [], ◌∷◌, ◌++◌, map, None, IfOk};
 ghost use Rattle.model.specs.Programs.{Program};
@@ -29,8 +29,10 @@ use its_graph::Graph;
 use proof_tree::{Known, Member, Spot, spread_size};
 use std::alloc::Global;
 
-/// What `spread` answers, with the keys of the sizes that the node needs in place of lemmas that state them. `Bent` and
-/// `Untimed` never come.
+/// The size of a place after a rule where its arms read no place of its own loop: the maximum, over the rules that can
+/// come before, of both arms at the sizes after that rule, with the keys of the sizes that the node needs. Else the first
+/// of these is named: `Missing`, a size that isn't known, in the order of the rules before, up before low, places
+/// ascending; and `Large`, how many nodes the composed bound has. `Bent` and `Untimed` never come.
 ///
 /// # Errors
 ///
@@ -81,8 +83,12 @@ fn sized_composed<K: Known>(
     }
 }
 
-/// What `cycle` answers, with the keys of the sizes and then of the times that the node needs in place of lemmas that
-/// state them.
+/// The size of all members of a loop of places: what comes into the loop from outside, and what its rules add, each as
+/// often as its time says, times the factor of each rule that multiplies to the power of its time; with the keys of the
+/// sizes and then of the times that the node needs. Else the first of these is named: `Missing`, a size from outside that
+/// isn't known, in the order of members, then of the rules before, up before low, places ascending; `Bent`, a member of
+/// which a polynomial arm reads a member; `Untimed`, the least rule that multiplies or adds and has no time; and `Large`,
+/// how many nodes the composed bound has.
 ///
 /// # Errors
 ///

@@ -9,8 +9,9 @@ use Rattle.proof_tree.specs.proof_nodes.Limits.{IsInLimit}
 use Rattle.farkas_cert.specs.Sizes.{row_limit}
 use Rattle.farkas_cert.proofs.Products.{read_sum, sum-le, moved, all_done, one_ends}
 use Rattle.farkas_cert.proofs.Sums.{zip_dot, zip_dot-next, zip_dot-end, zip_dot-list_dot}
-use Rattle.proof_ranks.specs.Goals.{number_in}
-use Rattle.proof_ranks.proofs.GoalForms.{row-number, row-small, news-length, coef-read}
+use Rattle.proof_facts.specs.Columns.{number_in}
+use Rattle.proof_facts.proofs.FormColumns.{coef-read}
+use Rattle.proof_ranks.proofs.GoalForms.{row-number, row-small, news-length}
 use Rattle.proof_ranks.proofs.goals.combined.Goals as goal
 
 pub product-sum-requires-clause-number_small : goal.product-sum-requires-clause-number_small

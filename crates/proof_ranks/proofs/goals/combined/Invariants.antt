@@ -2,7 +2,7 @@ use Rattle.std.proofs.Common.{◌≡◌, ◌*◌, ◌^◌, ◌≤◌, drop, map}
 use Rattle.std.specs.Prelude.{◌+ℤ◌, unsigned_abs}
 use Rattle.farkas_cert.proofs.Sums.{zip_dot}
 use Rattle.poly_terms.specs.Views.{form_of}
-use Rattle.proof_ranks.specs.Goals.{number_in}
+use Rattle.proof_facts.specs.Columns.{number_in}
 use Rattle.proof_ranks.proofs.goals.combined.Given as goal
 
 -- the sum and what is left are the product; each term so far added at most 2^118
