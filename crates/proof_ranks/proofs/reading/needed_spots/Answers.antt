@@ -1,4 +1,4 @@
-use Rattle.std.proofs.Common.{◌<◌, ◌^◌, ◌∙◌, ◌++◌, List, length, map, ap, subst, sym, arith}
+use Rattle.std.proofs.Common.{◌<◌, ◌^◌, ◌∙◌, ◌++◌, List, length, map, get_or, ap, subst, sym, arith}
 use Rattle.std.specs.Prelude.{ℤ}
 use Rattle.std.proofs.lemmas.List.{take_all}
 use Rattle.poly_terms.specs.linear_forms.Forms.{Form}
@@ -25,7 +25,7 @@ loop-entry-preserved c =
     c.in_ok-push_read.ensures {u = tt}
     ∙ (λ i. c.loop-entry.invariant i ++ read_after ((c.coefs_of.ensures ∙ ap (λ (f : Form). f.coefs)
     (c.rank_form-form.ensures.first ∙ (λ j. rank_form (map form_at_symbol (c.deref.ensures.value j)) (c.target_of.ensures j)))) i)
-    c.entry-item.result)
+    (get_or c.args.entering.now c.loop-entry.entry-index 0))
     ∙ sym (needed-more s n c.args.entering.now c.loop-entry.entry-index c.loop-entry-test.true)
 
 pub returns : goal.returns
