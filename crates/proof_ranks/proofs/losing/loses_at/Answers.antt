@@ -4,7 +4,7 @@ use Rattle.std.proofs.lemmas.Result.{IfOk-weaker}
 use Rattle.proof_tree.specs.proof_nodes.AcceptsPlain.{IsRule}
 use Rattle.proof_tree.specs.proof_nodes.Limits.{AreInLimit}
 use Rattle.proof_facts.specs.Grounds.{program}
-use Rattle.proof_ranks.proofs.LossRows.{moves-limited, rule-there}
+use Rattle.proof_ranks.proofs.LossRows.{loses-by, moves-limited, rule-there}
 use Rattle.proof_ranks.proofs.losing.loses_at.Goals as goal
 
 pub is_losing-requires-clause-rule : goal.is_losing-requires-clause-rule
@@ -25,4 +25,11 @@ is_losing-requires-clause-limit c =
     c.requires.within c.index-2.ensures))
 
 pub returns : goal.returns
-returns c = ?
+returns c =
+    let xs = c.args.node.now.set.items in
+    let same : get_or xs c.args.position 0 ≡ c.index.result.now =
+    get_or_default xs c.args.position 0 c.index.result.now c.requires.within ∙ sym c.index.ensures in
+    IfOk-weaker c.is_losing.result _ _
+    (λ b h. loses-by (program c.args.ground.now) c.args.node.now c.requires.shape c.args.position c.index-2.result.now
+    c.requires.within c.index-2.ensures b c.index.result.now (sym same) ?)
+    c.is_losing.ensures
