@@ -1,6 +1,15 @@
 -- What is answered to a ranking node: its first check that fails, or that all pass.
 use Rattle.std.proofs.Common.{◌≡◌, inl, inr, ℕ, List, [], ◌∷◌, refl, sym, ap, subst}
+use Rattle.std.proofs.Common.{Vec}
+use Rattle.std.specs.declared.alloc.Global.{Global}
+use Rattle.std.specs.Prelude.{Result, Ok, Err, MatchResult}
 use Rattle.std.specs.List.{AllByRecursion}
+use Rattle.model.specs.Facts as plain
+use Rattle.proof_tree.specs.AnswerViews.{reason_of}
+use Rattle.proof_tree.specs.declared.fact.Fact.{Fact}
+use Rattle.proof_facts.specs.NodeAnswers.{Refuses, States}
+use Rattle.proof_facts.specs.declared.refusal.NodeFault.{NodeFault}
+use Rattle.proof_facts.specs.declared.refusal.NodeFault.TheVariants as fault
 use Rattle.bound_table.specs.InForce.{rewritten}
 use Rattle.bound_table.specs.Within.{Fits, TooLarge, rewritten_within}
 use Rattle.model.specs.Bounds.{Bound}
@@ -52,6 +61,14 @@ module _ (s : Setting) (table : Table) (node : RankNode) where
       -- or all pass
       pub passed : AllPass (behind_floor s table node) → AllPass (rank_checks s table node)
       passed k = (h, passes_each check_move from_floor node.set m (f, k))
+
+      -- so what is answered behind the floor is the answer
+      pub behind : (r : Result (Vec Fact Global) NodeFault) (fs : List plain.Fact)
+          → MatchResult r (λ facts. States (behind_floor s table node) fs facts) (λ e. Refuses (behind_floor s table node) e)
+          → MatchResult r (λ facts. States (rank_checks s table node) fs facts) (λ e. Refuses (rank_checks s table node) e)
+      behind (Ok facts) fs k = record { passed = passed k.passed; told = k.told }
+      behind (Err (fault.Refused r)) fs k = refused (reason_of r) k
+      behind (Err fault.Memory) fs k = tt
 
 module _ (p : Program) (table : Table) (node : RankNode) where
   abbrev s : Setting
