@@ -26,3 +26,5 @@ mod WritableBounds
 mod ProofViews
 -- lemmas that are cited
 mod CitedLemmas
+-- counts of nodes
+mod NodeCounts

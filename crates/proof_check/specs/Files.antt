@@ -1,9 +1,11 @@
 -- What is answered to a proof file.
-use Rattle.std.specs.Prelude.{◌≡◌, ◌<◌, ◌^◌, List, length, ⊤}
-use Rattle.std.specs.List.{All}
+use Rattle.std.specs.Prelude.{◌≡◌, ◌<◌, ◌^◌, List, length, map, ⊤}
+use Rattle.std.specs.List.{All, AllByRecursion}
 use Rattle.model.specs.Facts.{Fact}
 use Rattle.model.specs.Programs.{Program}
 use Rattle.proof_tree.specs.AnswerViews.{reason_of, fault_of}
+use Rattle.proof_tree.specs.Views.{proof_of}
+use Rattle.proof_tree.specs.declared.file.ProofFile as code
 use Rattle.proof_tree.specs.proof_nodes.Nodes.{Proof}
 use Rattle.proof_tree.specs.proof_nodes.Numbering.{nodes_of}
 use Rattle.proof_tree.specs.proof_nodes.Acceptance.{facts_of_lemmas}
@@ -23,6 +25,12 @@ use Rattle.proof_facts.specs.Statements.{all_facts}
 -- a lemma has fewer than 2^32 nodes
 abbrev pub HasFewNodes : Proof → Type 0
 HasFewNodes proof = length (nodes_of proof) < 2 ^ 32
+
+-- all that a file holds can be numbered in 32 bits: its lemmas, its gaps, and the nodes of each lemma
+pub record CanBeNumbered (f : code.ProofFile) : Type 0 where
+  pub lemmas : length f.lemmas.items < 2 ^ 32
+  pub gaps : length f.gaps.items < 2 ^ 32
+  pub nodes : AllByRecursion HasFewNodes (map proof_of f.lemmas.items)
 
 -- lemmas are refused at this node of this lemma, for this reason
 abbrev pub RefusesLemmas : Setting → List Proof → CheckError → Type 0

@@ -10,5 +10,7 @@ pub mod Writables
 pub mod Zeros
 -- lemmas
 pub mod Judging
+-- counts of nodes
+pub mod Counts
 -- files
 pub mod Files

@@ -1,13 +1,13 @@
 //! The checker's answer to a proof file.
 
-ghost use Rattle.std.specs.Prelude.{◌≡◌, ◌<◌, ◌^◌, length, map, IfOk, MatchResult};
-ghost use Rattle.std.specs.List.{All, AllByRecursion};
+ghost use Rattle.std.specs.Prelude.{map, IfOk, MatchResult};
+ghost use Rattle.std.specs.List.{All};
 ghost use Rattle.its_model.specs.Valid.{IsValid};
 ghost use Rattle.its_model.specs.Views.{program_of};
 ghost use Rattle.model.specs.Facts.{Holds};
-ghost use Rattle.proof_check.specs.Files.{HasFewNodes, IsAcceptedWith, RefusesFile, ExcludeFunctions};
+ghost use Rattle.proof_check.specs.Files.{CanBeNumbered, IsAcceptedWith, RefusesFile, ExcludeFunctions};
 ghost use Rattle.proof_tree.specs.AnswerViews.{file_of, gap_of};
-ghost use Rattle.proof_tree.specs.Views.{facts_of, proof_of};
+ghost use Rattle.proof_tree.specs.Views.{facts_of};
 ghost use Rattle.proof_tree.specs.proof_setting.Laws.{AcceptedFilesHold};
 
 use crate::error::CheckError;
@@ -29,9 +29,7 @@ use std::alloc::Global;
 /// allocation fails.
 pub fn check(alloc: Global, p: &Program, f: &ProofFile) -> Result<Vec<Fact>, CheckError>
     requires valid { IsValid (program_of p.now) }
-    requires few_lemmas { length f.now.lemmas.items < 2 ^ 32 }
-    requires few_gaps { length f.now.gaps.items < 2 ^ 32 }
-    requires few_nodes { AllByRecursion HasFewNodes (map proof_of f.now.lemmas.items) }
+    requires numbered { CanBeNumbered f.now }
     ensures answered { MatchResult result
         (λ facts. IsAcceptedWith (program_of p.now) (file_of f.now) (facts_of facts.items))
         (λ error. RefusesFile (program_of p.now) (file_of f.now) error) }

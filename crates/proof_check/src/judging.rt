@@ -17,7 +17,7 @@ ghost use Rattle.proof_tree.specs.proof_nodes.Setting.{Setting};
 ghost use Rattle.model.specs.Programs.{Program};
 ghost use Rattle.proof_facts.specs.Statements.{owned_by};
 
-use crate::by_key::ranked;
+use crate::by_key::{charged, looped, ranked, spread};
 use crate::children::children;
 use crate::emptiness::empty_facts;
 use crate::refusal::{TreeFault, at_node};
@@ -140,7 +140,9 @@ fn judge_node(
             bound,
         )),
         Proof::Rank(node) => owned(ranked(alloc, ground, kept, node, uses)),
-        Proof::Spread(_) | Proof::Cycle(_) | Proof::Cost(_) => Err(NodeFault::Memory),
+        Proof::Spread(node) => owned(spread(alloc, ground, kept, node, uses)),
+        Proof::Cycle(node) => owned(looped(alloc, ground, kept, node, uses)),
+        Proof::Cost(node) => owned(charged(alloc, ground, kept, node, uses)),
     }
 }
 

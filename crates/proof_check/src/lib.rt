@@ -12,6 +12,7 @@ mod files;
 mod gaps;
 mod judging;
 mod lemmas;
+mod numbering;
 mod refusal;
 mod unreached;
 mod unused;
@@ -20,3 +21,4 @@ mod writable;
 
 pub use error::CheckError;
 pub use files::{accepted_files_hold, check};
+pub use numbering::can_be_numbered;

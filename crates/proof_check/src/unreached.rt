@@ -12,10 +12,10 @@ ghost use Rattle.proof_tree.specs.Views.{fact_of, facts_of};
 ghost use Rattle.proof_tree.specs.proof_nodes.AcceptsPlain.{may_run};
 ghost use Rattle.proof_tree.specs.proof_nodes.Checks.{unreached_checks};
 
-use crate::unused::is_zero;
 use model::Memory;
 use proof_facts::{Ground, Kept, NodeFault, Use, facts_in, is_rule, zero_time};
 use proof_tree::{Fact, Reason};
+use size_nodes::is_zero;
 use std::alloc::Global;
 
 // Adds the rule of a fact to a list, where the fact is that its time is 0.

@@ -12,12 +12,12 @@ ghost use Rattle.proof_facts.specs.NodeAnswers.{Refuses};
 ghost use Rattle.proof_check.specs.Singles.{IsNoSingle};
 ghost use Rattle.proof_tree.specs.Views.{fact_of, facts_of};
 ghost use Rattle.proof_tree.specs.proof_nodes.AcceptsPlain.{IsOneTime, never_facts as never_facts_of, places_at};
-ghost use Rattle.proof_tree.specs.proof_nodes.Known.{is_zero_bound};
 
 use bound_expr::Bound;
 use its_model::Program;
 use proof_facts::{NodeFault, arity_at, zero_sizes};
 use proof_tree::{Fact, Reason, target_of};
+use size_nodes::is_zero;
 use std::alloc::Global;
 
 /// The only fact of a list, where it has one alone.
@@ -46,17 +46,6 @@ fn only_time(facts: &[Fact]) -> Option<(u32, &Bound)>
         },
         Fact::Size { .. } => None,
         Fact::Cost { .. } => None,
-    }
-}
-
-/// Whether a bound is the constant 0.
-pub(crate) fn is_zero(bound: &Bound) -> bool
-    ensures { result ≡ is_zero_bound (bound_of bound.now) }
-{
-    match bound {
-        Bound::Const(c) => *c == 0,
-        Bound::Var(_) | Bound::Sum(_) | Bound::Prod(_) | Bound::Max(_) | Bound::Power(_, _) =>
-            false,
     }
 }
 

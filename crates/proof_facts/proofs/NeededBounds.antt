@@ -36,6 +36,13 @@ lacks-first f P (y ∷ xs) (suc i) d l h n =
     inr (All-head P (f y) (map f (take i xs)) h,
     lacks-first f P xs i d (omega (arith, l)) (All-tail P (f y) (map f (take i xs)) h) n)
 
+-- so where it is told by itself what stands there
+pub lacks-here : {A B : Type 0} (f : A → B) (P : B → Type 0) (xs : List A) (i : ℕ) (x : A) → i < length xs
+    → x ≡ get_or xs i x → All P (map f (take i xs)) → ¬ (P (f x)) → IsFirstFailing P (map f xs) (f x)
+lacks-here f P xs i x l e h n =
+    subst (λ y. IsFirstFailing P (map f xs) (f y)) (sym e)
+    (lacks-first f P xs i x l h (subst (λ y. ¬ (P (f y))) e n))
+
 -- all have it
 pub has-all : {A B : Type 0} (f : A → B) (P : B → Type 0) (xs : List A) (i : ℕ) → length xs ≤ i → All P (map f (take i xs))
     → AllByRecursion P (map f xs)

@@ -20,6 +20,6 @@ pub use joining::lookup_of;
 pub use kept::{Kept, Use, facts_at, facts_in};
 pub use lookup::Lookup;
 pub use multipliers::{are_multipliers, are_within, are_within_limit, is_within};
-pub use needed::{first_missing, first_untimed};
+pub use needed::{first_missing, first_untimed, has_time};
 pub use refusal::NodeFault;
 pub use stating::{arity_at, bound_at, one, start_facts, zero_sizes, zero_time};

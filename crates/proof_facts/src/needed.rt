@@ -8,8 +8,8 @@ ghost use Rattle.proof_tree.specs.Views.{spot_of};
 
 use proof_tree::{Known, Spot};
 
-// Whether a time of a rule is known.
-fn has_time<K: Known>(known: &K, rule: u32) -> bool
+/// Whether a time of a rule is known.
+pub fn has_time<K: Known>(known: &K, rule: u32) -> bool
     ensures { IsTrue result ↔ HasTime (K.table known.now) rule }
 {
     match known.time(rule) {

@@ -126,15 +126,15 @@ module _ (p : Program) (n : code_node.RankNode) (h : HasRankShape (setting_of p)
     moves-limited is = subst AreInLimit same-moves (h.moves (get_or n.set.items i 0) (in-list n.set.items i 0 l)).limit
 
     -- so with these it loses by that rule what it has to
-    pub loses-by : (b : Bool) (t : ℕ) → t ≡ get_or n.set.items i 0
-        → IsTrue b ↔ Implies ((setting_of p).rows t) m.items
+    pub loses-by : (b : Bool) (t : ℕ) (ms : List ℕ) → t ≡ get_or n.set.items i 0 → ms ≡ m.items
+        → IsTrue b ↔ Implies ((setting_of p).rows t) ms
         (loss (at_source p (rank_of n) t) (at_target p (rank_of n) t) ((setting_of p).news t) (least_loss (rank_of n) t))
         → IsTrue b ↔ Loses (setting_of p) (rank_of n) (get_or n.set.items i 0)
-    loses-by b t d k =
+    loses-by b t ms d o k =
         subst (λ (u : ℕ). IsTrue b ↔ Loses (setting_of p) (rank_of n) u) d
-        (subst (λ (ms : List ℕ). IsTrue b ↔ Implies ((setting_of p).rows t) ms
+        (subst (λ (xs : List ℕ). IsTrue b ↔ Implies ((setting_of p).rows t) xs
         (loss (at_source p (rank_of n) t) (at_target p (rank_of n) t) ((setting_of p).news t) (least_loss (rank_of n) t)))
-        (sym same-moves ∙ ap (moves_of n.set.items (rank_of n).moves) (sym d)) k)
+        (o ∙ (sym same-moves ∙ ap (moves_of n.set.items (rank_of n).moves) (sym d))) k)
 
     -- the rule at a position of the set is one
     pub rule-there : IsRule p (get_or n.set.items i 0)

@@ -41,6 +41,13 @@ fn number_of(form: Option<&Form>, column: Column) -> i64
     }
 }
 
+// The same in more bits.
+fn wide_number(form: Option<&Form>, column: Column) -> i128
+    ensures { result ≡ number_in column (form_found form.entry) }
+{
+    i128::from(number_of(form, column))
+}
+
 // A column of the new values, each number times the coefficient of its place.
 fn combined(news: &[Row], coefs: &[i64], column: Column) -> i128
     requires few { length news.now ≤ 32 }
@@ -171,8 +178,17 @@ pub(crate) fn floor_row(
     ensures { IfOk result (λ row. IsAlike (form_of row) (less (form_found before.entry) (constant_form (pos least)))) }
 {
     let coefs = own_coefs(alloc, width, before)?;
-    let constant = difference(i128::from(number_of(before, Column::Constant)), i128::from(least));
+    let constant = floor_constant(before, least);
     Ok(Row { coefs, constant })
+}
+
+// The constant of a form, less a number.
+fn floor_constant(form: Option<&Form>, least: u64) -> i128
+    requires form { IsFormInLimit (form_found form) }
+    requires least { IsInLimit least }
+    ensures { result ≡ (form_found form.entry).constant -ℤ pos least }
+{
+    difference(i128::from(number_of(form, Column::Constant)), i128::from(least))
 }
 
 // The coefficients of so many unknowns.
@@ -182,7 +198,7 @@ fn own_coefs(alloc: Global, width: usize, form: Option<&Form>) -> Result<Vec<i12
 {
     let mut coefs = Vec::new(alloc);
     for unknown in 0..width {
-        coefs.push(i128::from(number_of(form, Column::Unknown(unknown))))?;
+        coefs.push(wide_number(form, Column::Unknown(unknown)))?;
     }
     Ok(coefs)
 }

@@ -1,6 +1,6 @@
 //! The places that a ranking function reads after the entries of its set.
 
-ghost use Rattle.std.specs.Prelude.{◌≡◌, ◌<◌, ◌^◌, ◌++◌, length, map, IfOk, OnOk};
+ghost use Rattle.std.specs.Prelude.{◌≡◌, suc, ◌<◌, ◌^◌, ◌++◌, length, map, IfOk, OnOk};
 ghost use Rattle.proof_facts.specs.Grounds.{IsGround, setting};
 ghost use Rattle.proof_ranks.specs.RankChecks.{read_after};
 ghost use Rattle.proof_tree.specs.Views.{rank_of, spot_of};
@@ -9,9 +9,20 @@ ghost use Rattle.proof_tree.specs.proof_nodes.Checks.{needed_after_each};
 
 use crate::goals::coefs_of;
 use model::Memory;
-use proof_facts::Ground;
+use proof_facts::{Ground, coefficient};
 use proof_tree::{RankNode, Spot, rank_form, target_of};
 use std::alloc::Global;
+
+// The place after a rule at a position.
+fn spot_at(rule: u32, position: usize) -> Spot
+    requires { position < 2 ^ 31 }
+    ensures { spot_of result ≡ record { rule = rule; place = suc position } }
+{
+    Spot {
+        rule,
+        place: position as u32 + 1,
+    }
+}
 
 // Appends the places after a rule whose coefficients aren't 0.
 fn push_read(spots: &mut Vec<Spot>, coefs: &[i64], rule: u32) -> Result<(), Memory>
@@ -19,11 +30,9 @@ fn push_read(spots: &mut Vec<Spot>, coefs: &[i64], rule: u32) -> Result<(), Memo
     ensures { OnOk result (map spot_of spots.new.items ≡ map spot_of spots.old.items ++ read_after coefs.now rule) }
 {
     for position in 0..coefs.len() {
-        if coefs[position] != 0 {
-            spots.push(Spot {
-                rule,
-                place: position as u32 + 1,
-            })?;
+        let coef = coefficient(coefs, position);
+        if coef != 0 {
+            spots.push(spot_at(rule, position))?;
         }
     }
     Ok(())

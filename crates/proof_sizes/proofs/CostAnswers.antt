@@ -26,9 +26,11 @@ use Rattle.proof_tree.specs.proof_setting.Setting.{setting_of}
 use Rattle.proof_tree.proofs.GapFaults.{first-of-each, behind-each}
 use Rattle.proof_tree.proofs.proof_nodes.CheckLists.{passes_each}
 use Rattle.proof_tree.proofs.proof_setting.Small.{small-bounds}
-use Rattle.proof_facts.specs.NodeAnswers.{States}
+use Rattle.proof_facts.specs.NodeAnswers.{Refuses, States}
+use Rattle.proof_facts.specs.declared.refusal.NodeFault.{NodeFault}
+use Rattle.proof_facts.specs.declared.refusal.NodeFault.TheVariants as fault
 use Rattle.proof_facts.specs.Needed.{HasSize}
-use Rattle.proof_sizes.specs.Costs.{ComposesCost}
+use Rattle.proof_sizes.specs.CostAnswers.{ComposesCost}
 
 module _ (s : Setting) (table : Table) (t : ℕ) where
   -- cost rows without a point cost nothing
@@ -101,3 +103,8 @@ module _ (s : Setting) (table : Table) (n : CostNode) where
       → facts_of facts.items ≡ Cost n.rule b ∷ []
       → States (cost_checks s table n) (Cost n.rule (node_cost s table n) ∷ []) facts
   cost-behind h facts b k e = record { passed = (h, k.passed); told = e ∙ ap (λ (c : Bound). Cost n.rule c ∷ []) k.told }
+
+  pub cost-refused : HasCostShape s n → (f : NodeFault) → Refuses (cost_checks_by s table n.rule n.by) f
+      → Refuses (cost_checks s table n) f
+  cost-refused h (fault.Refused r) k = inr (h, k)
+  cost-refused h fault.Memory k = tt

@@ -1,10 +1,16 @@
 -- What is prepared of the cost rule of a rule is what its setting has of the cost.
-use Rattle.std.proofs.Common.{◌≡◌, ℕ, zero, suc, ◌+◌, ◌≤◌, Bool, true, false, List, [], ◌∷◌, ◌++◌, length, map, filter, Option, Some}
+use Rattle.std.proofs.Common.{◌≡◌, ℕ, zero, suc, ◌+◌, ◌<◌, ◌≤◌, Bool, true, false, List, [], ◌∷◌, ◌++◌, length, map, filter, Option}
+use Rattle.std.proofs.Common.{Some, None}
 use Rattle.std.proofs.Common.{option_map, refl, sym, ap, ◌∙◌, subst, arith}
 use Rattle.std.specs.List.{AllByRecursion, range_with_len}
 use denote.Ref.{Bor}
 use Rattle.std.specs.Prelude.{if◌then◌else◌}
 use Rattle.std.proofs.lemmas.List.{length-map}
+use Rattle.std.proofs.lemmas.Option.{slice_get_within}
+use Rattle.its_graph.specs.Graphs.{IsGraphOf}
+use Rattle.its_graph.specs.Links.{ends_of}
+use Rattle.its_graph.specs.declared.graph.Graph.{Graph}
+use Rattle.proof_tree.specs.proof_nodes.AcceptsCosts.{HasCostNumbers}
 use Rattle.poly_terms.specs.Views.{form_of, poly_of}
 use Rattle.poly_terms.specs.declared.poly.Poly.{Poly}
 use Rattle.guard_prep.specs.Laws.{IsPreparable}
@@ -33,7 +39,8 @@ use Rattle.proof_tree.specs.proof_nodes.Setting.{Setting, costs_of, only_place}
 use Rattle.proof_tree.specs.proof_setting.Setting.{bent_at, cost_rule_at, cost_rule_in, news_in, polys_in, rows_in, setting_of}
 use Rattle.proof_facts.specs.SuitedRows.{IsPrepOf, SuitsArms}
 use Rattle.proof_facts.proofs.SuitedRows.{suits-arms}
-use Rattle.proof_sizes.specs.Costs.{IsCostPrep, spots_after_each}
+use Rattle.proof_sizes.specs.Costs.{HasNumbersBy, IsCostPrep, spots_after_each}
+use Rattle.proof_sizes.proofs.ArmsOver.{numbers-shape, shape-numbers}
 
 -- one new value alone is the first
 one-new : (w k : ℕ) (q : Polynomial) → news_from w k (q ∷ []) ≡ form_at (news_from w k (q ∷ [])) 0 ∷ []
@@ -69,6 +76,34 @@ module _ (p : Program) (t : ℕ) (m : RuleRows) (h : IsCostPrep p t m) where
   -- and suits certificates
   pub cost-arms : IsValid p → SuitsArms m
   cost-arms v = suits-arms (cost_rule h.costs.rule h.costs.cost) m (costs-are-points.preparable p t h.costs.rule h.costs.cost v h.costs.numbered h.costs.written) h.same
+
+  -- the numbers by which the cost is shown are right for what was prepared where they are right for the costs
+  rows-count : length m.rows.items ≡ length ((costs_of (setting_of p)).rows t)
+  rows-count = sym (length-map m.rows.items form_of) ∙ ap length cost-own.rows
+
+  pub by-numbers : (by : plain.CostBy) → HasNumbersBy (length m.rows.items) m.left by → HasCostNumbers (setting_of p) t by
+  by-numbers (plain.EmptyCost ms) k = record { long = k.one_each ∙ rows-count; limit = k.within }
+  by-numbers plain.NeverCost k = tt
+  by-numbers (plain.ArmCost arm) k = numbers-shape (costs_of (setting_of p)) t m cost-own arm k
+
+  pub numbers-by : (by : plain.CostBy) → HasCostNumbers (setting_of p) t by → HasNumbersBy (length m.rows.items) m.left by
+  numbers-by (plain.EmptyCost ms) k = record { one_each = k.long ∙ sym rows-count; within = k.limit }
+  numbers-by plain.NeverCost k = tt
+  numbers-by (plain.ArmCost arm) k = shape-numbers (costs_of (setting_of p)) t m cost-own arm k
+
+  -- the rule is one of the graph
+  pub cost-linked : (g : Graph) → IsGraphOf g p → (0 < t) × (t ≤ length g.links.items)
+  cost-linked g k = go t h.costs.numbered
+    where
+      go : (u : ℕ) → rule_at p u ≡ Some h.costs.rule → (0 < u) × (u ≤ length g.links.items)
+      go zero e = absurd (none e)
+        where
+          none : None ≡ Some h.costs.rule → ⊥
+          none d = cc
+      go (suc u) e =
+          let l = slice_get_within p.rules u h.costs.rule e in
+          let n = ap length k.links ∙ length-map p.rules ends_of in
+          (omega arith, omega (arith, l, n))
 
   -- with one new value
   pub cost-single : length m.news.items ≡ 1

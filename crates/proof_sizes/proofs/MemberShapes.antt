@@ -1,5 +1,8 @@
 -- Members of the rules of a program: their spots, and lists of them.
-use Rattle.std.proofs.Common.{◌≡◌, ℕ, zero, suc, ◌<◌, ◌≤◌, List, [], ◌∷◌, length, map, get_or, Some, sym, ◌∙◌, subst, arith}
+use Rattle.std.proofs.Common.{◌≡◌, ℕ, zero, suc, ◌+◌, ◌-◌, ◌<◌, ◌≤◌, List, [], ◌∷◌, length, map, get_or, Some, sym, ap, ◌∙◌, subst}
+use Rattle.std.proofs.Common.{arith, ◌⊎◌, inl, inr}
+use Rattle.std.proofs.lemmas.Bool.{cases_lt as order}
+use Rattle.std.proofs.lemmas.List.{get_or_default}
 use Rattle.model.specs.Programs.{Program, Rule, rule_at, arity_of}
 use Rattle.model.proofs.Cases.{some_same as some-same}
 use Rattle.proof_tree.specs.Views.{member_of, spot_of}
@@ -38,3 +41,32 @@ ascend-at [] k d a l = absurd (omega (arith, l))
 ascend-at (m ∷ []) k d a l = absurd (omega (arith, l))
 ascend-at (m ∷ n ∷ rest) zero d a l = a.0
 ascend-at (m ∷ n ∷ rest) (suc k) d a l = ascend-at (n ∷ rest) k d a.1 (omega (arith, l))
+
+-- a member comes before the one behind it
+pub next-at : (ms : List Member) (i : ℕ) (a b : Member) → AreAscending (map member_of ms) → 1 ≤ i → i < length ms
+    → a ≡ get_or ms (i - 1) a → b ≡ get_or ms i b → ComesBefore (spot_of a.spot) (spot_of b.spot)
+next-at ms zero a b h l m e f = absurd (omega (arith, l))
+next-at ms (suc k) a b h l m e f =
+    subst (λ (x : Member). ComesBefore (spot_of x.spot) (spot_of b.spot))
+    (sym (e ∙ ap (λ (n : ℕ). get_or ms n a) (let z : suc k - 1 ≡ k = omega arith in z)))
+    (subst (λ (y : Member). ComesBefore (spot_of (get_or ms k a).spot) (spot_of y.spot))
+    (get_or_default ms (suc k) a b m ∙ sym f) (ascend-at ms k a h m))
+
+-- where the members so far ascend, so do they with the next
+pub ascend-more : (ms : List Member) (i : ℕ) (a b : Member) → 1 ≤ i → i < length ms → a ≡ get_or ms (i - 1) a
+    → b ≡ get_or ms i b
+    → ((k : ℕ) (d : Member) → suc k < i → ComesBefore (spot_of (get_or ms k d).spot) (spot_of (get_or ms (suc k) d).spot))
+    → ComesBefore (spot_of a.spot) (spot_of b.spot) → (k : ℕ) (d : Member) → suc k < i + 1
+    → ComesBefore (spot_of (get_or ms k d).spot) (spot_of (get_or ms (suc k) d).spot)
+ascend-more ms i a b l m e f h c k d n = go (order (suc k) i)
+  where
+    go : (suc k < i) ⊎ (i ≤ suc k) → ComesBefore (spot_of (get_or ms k d).spot) (spot_of (get_or ms (suc k) d).spot)
+    go (inl o) = h k d o
+    go (inr o) =
+        let here : suc k ≡ i = omega (arith, n, o) in
+        let before : i - 1 ≡ k = omega (arith, n, o) in
+        let low : k < length ms = omega (arith, n, m) in
+        subst (λ (y : Member). ComesBefore (spot_of (get_or ms k d).spot) (spot_of y.spot))
+        (f ∙ (ap (λ (j : ℕ). get_or ms j b) (sym here) ∙ get_or_default ms (suc k) b d (omega (arith, here, m))))
+        (subst (λ (x : Member). ComesBefore (spot_of x.spot) (spot_of b.spot))
+        (e ∙ (ap (λ (j : ℕ). get_or ms j a) before ∙ get_or_default ms k a d low)) c)

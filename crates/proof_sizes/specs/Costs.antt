@@ -9,15 +9,12 @@ use Rattle.model.specs.Polynomials.{Polynomial}
 use Rattle.model.specs.Programs.{Program}
 use Rattle.proof_tree.specs.Views.{cost_by_of}
 use Rattle.proof_tree.specs.declared.proof.CostNode as code
-use Rattle.proof_tree.specs.proof_nodes.AcceptsCosts.{stated_cost}
-use Rattle.proof_tree.specs.proof_nodes.Checks.{cost_checks_by, spots_after}
+use Rattle.proof_tree.specs.proof_nodes.Checks.{spots_after}
 use Rattle.proof_tree.specs.proof_nodes.Composed.{both_parts, parts_for, sizes_after}
 use Rattle.proof_tree.specs.proof_nodes.ComposedSizes.{arm_bound}
 use Rattle.proof_tree.specs.proof_nodes.Known.{Table, known}
 use Rattle.proof_tree.specs.proof_nodes.Limits.{AreInLimit}
 use Rattle.proof_tree.specs.proof_nodes.Nodes.{Arm, CostBy, EmptyCost, NeverCost, ArmCost, CostNode, Spot}
-use Rattle.proof_tree.specs.proof_nodes.Reasons.{AllPass}
-use Rattle.proof_tree.specs.proof_nodes.Setting.{Setting}
 use Rattle.proof_sizes.specs.Arms.{HasArmNumbers}
 
 -- what a node on a cost holds beside its uses
@@ -52,8 +49,3 @@ step_over q arm size es = MaximumOf (parts_for (λ e. arm_bound q arm (sizes_aft
 -- what all steps by a rule cost at most: as often as it occurs, what a step costs
 abbrev pub cost_over : Option Polynomial → Arm → Table → ℕ → List ℕ → Bound
 cost_over q arm table t es = ProductOf (both_parts (known (table.time t)) (step_over q arm table.size es))
-
--- all checks of how a cost is shown pass, and this cost is stated
-pub record ComposesCost (s : Setting) (table : Table) (t : ℕ) (by : CostBy) (b : Bound) : Type 0 where
-  pub passed : AllPass (cost_checks_by s table t by)
-  pub told : b ≡ stated_cost s table t by

@@ -4,3 +4,4 @@ pub mod Arms
 pub mod SizeAnswers
 -- nodes on costs
 pub mod Costs
+pub mod CostAnswers

@@ -39,6 +39,18 @@ fn goal_number(own: i64, value: i128, times: i128) -> i128
     i128::from(own) + product(value, times)
 }
 
+// So at an unknown.
+fn goal_at(coefs: &[i64], value: &Row, times: i128, unknown: usize) -> i128
+    requires coefs_small { All (λ c. IsInLimit (nat_abs c)) coefs.now }
+    requires value_small { HasRowNumbers (form_of value.now) }
+    requires times_small { unsigned_abs times ≤ certificate_limit }
+    ensures { result ≡ at coefs.now unknown +ℤ (at (form_of value.now).coefs unknown *ℤ times) }
+{
+    let own = coefficient(coefs, unknown);
+    let other = number(value, Column::Unknown(unknown));
+    goal_number(own, other, times)
+}
+
 // So at each of so many unknowns.
 fn goal_coefs(
     alloc: Global,
@@ -55,9 +67,7 @@ fn goal_coefs(
 {
     let mut goal = Vec::new(alloc);
     for unknown in 0..width {
-        let own = coefficient(coefs, unknown);
-        let other = number(value, Column::Unknown(unknown));
-        goal.push(goal_number(own, other, times))?;
+        goal.push(goal_at(coefs, value, times, unknown))?;
     }
     Ok(goal)
 }

@@ -4,16 +4,25 @@ ghost use Rattle.std.specs.Prelude.{◌↔◌, length, IfOk, IsTrue};
 ghost use Rattle.its_model.specs.Valid.{IsValid};
 ghost use Rattle.its_model.specs.Views.{program_of};
 ghost use Rattle.model.specs.Costs.{HasCost};
-ghost use Rattle.proof_sizes.specs.Costs.{HasNumbersBy, IsCostPrep};
+ghost use Rattle.proof_sizes.specs.Costs.{AreRowMultipliers, HasNumbersBy, IsCostPrep};
 ghost use Rattle.proof_tree.specs.Views.{cost_by_of};
 
 use crate::arm_numbers::has_arm_numbers;
 use guard_prep::{RuleRows, rows};
 use its_model::{Program, cost_program};
 use model::Memory;
-use proof_facts::{are_within_limit, is_rule};
+use proof_facts::{Ground, are_within_limit, is_rule};
 use proof_tree::CostBy;
 use std::alloc::Global;
+
+/// A rule with a cost, and what was prepared of its cost rule: the rows of its guard and of the atom that the cost is at
+/// least 0, and the cost as the one new value.
+#[derive(Drop)]
+pub struct CostRule<'a> {
+    pub ground: &'a Ground<'a>,
+    pub rule: u32,
+    pub prepared: RuleRows,
+}
 
 /// Whether the rule is one, and has a cost.
 pub(crate) fn has_cost(p: &Program, rule: u32) -> bool
@@ -25,7 +34,7 @@ pub(crate) fn has_cost(p: &Program, rule: u32) -> bool
     p.rules[rule as usize - 1].cost.is_some()
 }
 
-/// The rows of its cost rule, and the cost as its one new value.
+/// What is prepared of its cost rule.
 ///
 /// # Errors
 ///
@@ -45,9 +54,18 @@ pub(crate) fn has_cost_numbers(prepared: &RuleRows, by: &CostBy) -> bool
         ↔ HasNumbersBy (length prepared.now.rows.items) prepared.now.left (cost_by_of by.now) }
 {
     match by {
-        CostBy::Empty(multipliers) => multipliers.len() == prepared.rows.len()
-            && are_within_limit(multipliers),
+        CostBy::Empty(multipliers) => are_row_multipliers(multipliers, prepared.rows.len()),
         CostBy::Never => true,
         CostBy::Arm(arm) => has_arm_numbers(arm, prepared.left, prepared.rows.len()),
     }
+}
+
+// Whether there are multipliers for so many rows, within the limit.
+fn are_row_multipliers(multipliers: &[u64], rows: usize) -> bool
+    ensures { IsTrue result ↔ AreRowMultipliers rows multipliers.now }
+{
+    if multipliers.len() != rows {
+        return false;
+    }
+    are_within_limit(multipliers)
 }

@@ -26,12 +26,19 @@ fn comes_before(first: Spot, second: Spot) -> bool
     first.rule < second.rule || (first.rule == second.rule && first.place < second.place)
 }
 
+// Whether a member comes before another.
+fn precedes(first: &Member, second: &Member) -> bool
+    ensures { IsTrue result ↔ ComesBefore (spot_of first.now.spot) (spot_of second.now.spot) }
+{
+    comes_before(first.spot, second.spot)
+}
+
 // Whether members ascend.
 fn ascend(members: &[Member]) -> bool
     ensures { IsTrue result ↔ AreAscending (map member_of members.now) }
 {
     for i in 1..members.len() {
-        let fits = comes_before(members[i - 1].spot, members[i].spot);
+        let fits = precedes(&members[i - 1], &members[i]);
         if !fits {
             return false;
         }
@@ -61,7 +68,10 @@ fn has_cycle_shape(ground: &Ground, members: &[Member]) -> bool
     if members.is_empty() {
         return false;
     }
-    ascend(members) && have_member_shapes(ground, members)
+    if !ascend(members) {
+        return false;
+    }
+    have_member_shapes(ground, members)
 }
 
 // The first member whose up arm isn't accepted.

@@ -31,5 +31,5 @@ returns c =
     get_or_default xs c.args.position 0 c.index.result.now c.requires.within ∙ sym c.index.ensures in
     IfOk-weaker c.is_losing.result _ _
     (λ b h. loses-by (program c.args.ground.now) c.args.node.now c.requires.shape c.args.position c.index-2.result.now
-    c.requires.within c.index-2.ensures b c.index.result.now (sym same) ?)
+    c.requires.within c.index-2.ensures b c.index.result.now c.deref.result.now (sym same) c.deref.ensures.value h)
     c.is_losing.ensures

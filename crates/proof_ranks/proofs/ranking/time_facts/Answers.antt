@@ -1,6 +1,9 @@
-use Rattle.std.proofs.Common.{◌≡◌, ◌∙◌, ℕ, List, map, ap, subst, sym}
+use Rattle.std.proofs.Common.{◌≡◌, ◌∙◌, ℕ, List, [], ◌∷◌, map, ap, subst, sym}
 use Rattle.std.specs.List.{AllByRecursion}
 use Rattle.bound_table.specs.Within.{answer_of}
+use Rattle.bound_table.specs.bound_expr.Views.{bound_of}
+use Rattle.model.specs.Bounds.{Bound}
+use Rattle.model.specs.Facts.{Time}
 use Rattle.model.specs.Entries.{entries}
 use Rattle.proof_tree.specs.GapTests.{IsFirstFailing}
 use Rattle.proof_tree.specs.Views.{rank_of, spot_of}
@@ -39,7 +42,23 @@ rank_time-requires-clause-few g c =
     forms-short (program c.args.ground.now) c.args.node.now.forms.items c.requires.ground.valid c.requires.shape.forms
 
 pub returns-in-Rewritten : goal.returns-in-Rewritten
-returns-in-Rewritten g c = ?
+returns-in-Rewritten g c =
+    let p = program c.args.ground.now in
+    let n = rank_of c.args.node.now in
+    let table = g.K.Known.table c.args.known.now in
+    let es = c.in_ok-entering.ensures ∙ ap (entries p) c.deref.ensures.value in
+    let w =
+        small p table n
+        (subst (AllByRecursion (HasTime table)) (c.deref-2.ensures.value ∙ es) c.in_default.ensures)
+        (subst (AllByRecursion (HasSize table))
+        (ap (map spot_of) c.deref-4.ensures.value
+        ∙ (c.in_ok-needed.ensures ∙ ap (needed_after_each (setting c.args.ground.now) n) (c.deref-3.ensures.value ∙ es)))
+        c.in_default-first_missing.ensures)
+        (bound_of c.in-Rewritten.bound) (ap answer_of (sym c.in-Rewritten.is) ∙ c.in_ok-bound.ensures) in
+    record {
+      passed = w.0;
+      told = c.in_ok-one-in-Rewritten.ensures ∙ ap (λ (b : Bound). Time c.args.node.now.rule b ∷ []) w.1;
+    }
 
 pub returns : goal.returns
 returns g c =

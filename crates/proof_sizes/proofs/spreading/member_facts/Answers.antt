@@ -1,9 +1,12 @@
-use Rattle.std.proofs.Common.{List, [], ◌∷◌, subst, sym}
+use Rattle.std.proofs.Common.{List, [], ◌∷◌, map, subst, sym}
+use Rattle.std.specs.Prelude.{MatchResult}
 use Rattle.guard_prep.specs.declared.rule_rows.RuleRows.{RuleRows}
 use Rattle.proof_tree.specs.Composing.{AreRowsOf}
 use Rattle.proof_tree.specs.Views.{member_of}
+use Rattle.proof_tree.specs.declared.arm.Member.{Member}
 use Rattle.size_nodes.specs.Members.{IsMemberOfProgram}
 use Rattle.proof_facts.specs.Grounds.{program, setting}
+use Rattle.proof_sizes.specs.SizeAnswers.{IsFaultOf, StatesSizes}
 use Rattle.proof_sizes.proofs.SizedNodes.{spread-answer, spread-low, spread-shape, spread-up}
 use Rattle.proof_sizes.proofs.spreading.member_facts.Goals as goal
 
@@ -36,3 +39,20 @@ sized_spread-requires g c = (
     low = c.in_ok-has_low.ensures.0 c.if-not-has_low.false;
   },
 )
+
+pub returns : goal.returns
+returns g c =
+    let s = setting c.args.ground.now in
+    let table = g.K.Known.table c.args.known.now in
+    let m = member_of c.args.member.now in
+    spread-answer s table m c.in_ok-sizing.sizing c.stated.result
+    (c.in_ok-sizing.ensures (program c.args.ground.now) (record {
+      valid = c.requires.valid;
+      graph = c.requires.graph;
+      rows = subst (λ (rs : List RuleRows). AreRowsOf rs (program c.args.ground.now)) (sym c.deref.ensures.value) c.requires.rows;
+      shape = c.has_member_shape.ensures.0 c.if-not-has_member_shape.false;
+      up = c.in_ok-has_up.ensures.0 c.if-not-has_up.false;
+      low = c.in_ok-has_low.ensures.0 c.if-not-has_low.false;
+    }))
+    (subst (λ (ms : List Member). MatchResult c.stated.result (λ facts. StatesSizes (map member_of ms) c.in_ok-sizing.sizing facts)
+    (λ fault. IsFaultOf c.in_ok-sizing.sizing fault)) c.from_ref.ensures c.stated.ensures)
