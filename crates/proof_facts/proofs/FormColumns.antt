@@ -47,8 +47,8 @@ less-column c f g = regroup _ _ _ _ (sum-column c f (form_times (negsuc 0) g)) (
     regroup s a b g e d = omega (arith, ints, e, d)
 
 -- no numbers of columns
-pub columns-none : (f : ℕ → ℤ) → HasColumns f 0 []
-columns-none f = record { long = refl; each = λ u l. absurd (omega (arith, l)) }
+pub columns-none : (f : ℕ → ℤ) (xs : List ℤ) → xs ≡ [] → HasColumns f 0 xs
+columns-none f xs e = record { long = ap length e; each = λ u l. absurd (omega (arith, l)) }
 
 at-before : (xs : List ℤ) (x : ℤ) (u : ℕ) → u < length xs → at (xs ++ x ∷ []) u ≡ at xs u
 at-before [] x u l = absurd (omega (arith, l))

@@ -7,7 +7,7 @@ use Rattle.proof_facts.proofs.FormColumns.{columns-none, columns-more}
 use Rattle.proof_ranks.proofs.goals.own_coefs.Goals as goal
 
 pub loop-unknown-init : goal.loop-unknown-init
-loop-unknown-init c = columns-none _
+loop-unknown-init c = columns-none _ c.new-coefs.result.items c.new-coefs.ensures.items
 
 pub loop-unknown-preserved : goal.loop-unknown-preserved
 loop-unknown-preserved c =

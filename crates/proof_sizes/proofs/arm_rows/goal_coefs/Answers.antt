@@ -8,7 +8,7 @@ use Rattle.proof_facts.proofs.FormColumns.{columns-none, columns-more}
 use Rattle.proof_sizes.proofs.arm_rows.goal_coefs.Goals as goal
 
 pub loop-unknown-init : goal.loop-unknown-init
-loop-unknown-init c = columns-none _
+loop-unknown-init c = columns-none _ c.new-goal.result.items c.new-goal.ensures.items
 
 pub loop-unknown-preserved : goal.loop-unknown-preserved
 loop-unknown-preserved c =
