@@ -1,6 +1,7 @@
 -- The sizes that arms need: those of the places that they read, but for members; and the first size or time that isn't
 -- known.
-use Rattle.std.specs.Prelude.{ℕ, zero, suc, not, Bool, true, false, cond, List, [], ◌∷◌, ◌++◌, filter, Option, Some, None}
+use Rattle.std.specs.Prelude.{ℕ, zero, suc, not, Bool, true, false, cond, List, [], ◌∷◌, ◌++◌, filter}
+use Rattle.std.specs.Prelude.{Option, Some, None}
 use Rattle.model.specs.Bounds.{Bound}
 use Rattle.model.specs.Polynomials.{Polynomial}
 use Rattle.proof_tree.specs.proof_setting.Setting.{bent_at}

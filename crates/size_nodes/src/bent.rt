@@ -11,12 +11,11 @@ ghost use Rattle.proof_tree.specs.Composing.{optional_poly, HasFewVariables, Has
 ghost use Rattle.proof_tree.specs.Views.{arm_of, member_of, local_of, spot_of};
 ghost use Rattle.size_nodes.specs.BentArms.{is_bent_arm, is_bent_from, is_bent_over, is_bent_by};
 ghost use Rattle.size_nodes.specs.BentArms.{first_bent as first_bent_of};
-ghost use Rattle.size_nodes.specs.Members.{IsMemberOfProgram, AreMembersOfProgram};
+ghost use Rattle.size_nodes.specs.Members.{IsMemberIn, AreMembersIn};
 
 use crate::members::members_after;
+use crate::setting::Setting;
 use crate::updates::poly_at;
-use guard_prep::RuleRows;
-use its_graph::Graph;
 use poly_terms::{Monomial, Poly};
 use proof_tree::{Arm, LocalBound, Member, Spot, has_spot};
 
@@ -92,25 +91,30 @@ fn is_bent_after(
 }
 
 // Whether one of both arms of a member is, after what can come before it.
-fn is_bent_member(g: &Graph, preps: &[RuleRows], members: &[Member], member: &Member) -> bool
+fn is_bent_member(setting: &Setting, members: &[Member], member: &Member) -> bool
     requires ascending { AreAscending (map member_of members.now) }
-    requires given { (p : Program) × IsMemberOfProgram p g.now preps.now (member_of member.now) }
-    ensures { (p : Program) → IsMemberOfProgram p g.now preps.now (member_of member.now)
+    requires given { (p : Program) × IsMemberIn p setting.now (member_of member.now) }
+    ensures { (p : Program) → IsMemberIn p setting.now (member_of member.now)
         → result ≡ is_bent_by (setting_of p) (map member_of members.now) (member_of member.now) }
 {
-    let poly = poly_at(preps, member.spot);
-    is_bent_after(&member.local, poly, members, g.pre(member.spot.rule))
+    let poly = poly_at(setting.rows, member.spot);
+    is_bent_after(
+        &member.local,
+        poly,
+        members,
+        setting.graph.pre(member.spot.rule),
+    )
 }
 
 /// The first member with a polynomial arm that reads a member, after what can come before it.
-pub(crate) fn first_bent(g: &Graph, preps: &[RuleRows], members: &[Member]) -> Option<Spot>
-    requires { (p : Program) × AreMembersOfProgram p g.now preps.now (map member_of members.now) }
-    ensures { (p : Program) → AreMembersOfProgram p g.now preps.now (map member_of members.now)
+pub(crate) fn first_bent(setting: &Setting, members: &[Member]) -> Option<Spot>
+    requires { (p : Program) × AreMembersIn p setting.now (map member_of members.now) }
+    ensures { (p : Program) → AreMembersIn p setting.now (map member_of members.now)
         → option_map spot_of result ≡ first_bent_of (setting_of p) (map member_of members.now) (map member_of
         members.now) }
 {
     for member in members {
-        let is_here = is_bent_member(g, preps, members, member);
+        let is_here = is_bent_member(setting, members, member);
         if is_here {
             return Some(member.spot);
         }

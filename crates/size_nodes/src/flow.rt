@@ -16,13 +16,12 @@ ghost use Rattle.proof_tree.specs.Composing.{optional_poly, HasFewPlaces};
 ghost use Rattle.proof_tree.specs.Sizes.{is_spot, members_from};
 ghost use Rattle.proof_tree.specs.Views.{arm_of, member_of};
 ghost use Rattle.size_nodes.specs.Flows.{IsLimited, flow_of, flow_over, flows_over};
-ghost use Rattle.size_nodes.specs.Members.{IsMemberOfProgram, AreMembersOfProgram};
+ghost use Rattle.size_nodes.specs.Members.{IsMemberIn, AreMembersIn};
 
 use crate::members::members_after;
+use crate::setting::Setting;
 use crate::updates::poly_at;
 use bound_expr::{Bound, Memory};
-use guard_prep::RuleRows;
-use its_graph::Graph;
 use poly_terms::Poly;
 use proof_tree::{Arm, Known, Member, arm_bound, has_spot, rounded_coefficient};
 use std::alloc::Global;
@@ -36,6 +35,20 @@ pub(crate) struct Flow {
     pub slope: u64,
     /// What it adds to them.
     pub offset: Bound,
+}
+
+/// What the arms of a loop's members read: the bounds that are known outside of it, and the members.
+#[derive(Drop)]
+pub(crate) struct Scope<'a, K> {
+    pub known: &'a K,
+    pub members: &'a [Member],
+}
+
+// The member that flows come into, with the update of its place where that has degree 2 or more.
+#[derive(Clone, Copy)]
+struct Sink<'a> {
+    member: &'a Member,
+    poly: Option<&'a Poly>,
 }
 
 // The coefficient of a place over the denominator, rounded up, where the place is a member.
@@ -81,21 +94,21 @@ fn slope(arm: &Arm, members: &[Member], rule: u32) -> u64
 // What flows into a member by an arm from a rule.
 fn flow_by<K: Known>(
     alloc: Global,
-    known: &K,
-    members: &[Member],
-    member: &Member,
+    scope: &Scope<K>,
+    sink: &Sink,
     arm: &Arm,
-    poly: Option<&Poly>,
     rule: u32,
 ) -> Result<Flow, Memory>
     requires limited { IsLimited arm.now }
-    requires few { HasFewPlaces poly }
-    ensures { IfOk result (λ f. flow_of f ≡ flow_over (optional_poly poly.entry) (map member_of members.now) (K.table known.now).size (member_of member.now) (arm_of arm.now) rule) }
+    requires few { HasFewPlaces sink.now.poly }
+    ensures { IfOk result (λ f. flow_of f ≡ flow_over (optional_poly sink.now.poly)
+        (map member_of scope.now.members.now) (K.table scope.now.known.now).size (member_of sink.now.member.now)
+        (arm_of arm.now) rule) }
 {
-    let offset = arm_bound(alloc, arm, poly, known, rule, members)?;
+    let offset = arm_bound(alloc, arm, sink.poly, scope.known, rule, scope.members)?;
     Ok(Flow {
-        rule: member.spot.rule,
-        slope: slope(arm, members, rule),
+        rule: sink.member.spot.rule,
+        slope: slope(arm, scope.members, rule),
         offset,
     })
 }
@@ -104,21 +117,20 @@ fn flow_by<K: Known>(
 fn push_both<K: Known>(
     alloc: Global,
     flows: &mut Vec<Flow>,
-    known: &K,
-    members: &[Member],
-    member: &Member,
-    poly: Option<&Poly>,
+    scope: &Scope<K>,
+    sink: &Sink,
     rule: u32,
 ) -> Result<(), Memory>
-    requires up { IsLimited member.now.local.up }
-    requires low { IsLimited member.now.local.low }
-    requires few { HasFewPlaces poly }
-    ensures { OnOk result (map flow_of flows.new.items ≡ map flow_of flows.old.items ++ flows_over (optional_poly
-        poly.entry) (map member_of members.now) (K.table known.now).size (member_of member.now) (rule ∷ [])) }
+    requires up { IsLimited sink.now.member.now.local.up }
+    requires low { IsLimited sink.now.member.now.local.low }
+    requires few { HasFewPlaces sink.now.poly }
+    ensures { OnOk result (map flow_of flows.new.items ≡ map flow_of flows.old.items
+        ++ flows_over (optional_poly sink.now.poly) (map member_of scope.now.members.now)
+        (K.table scope.now.known.now).size (member_of sink.now.member.now) (rule ∷ [])) }
 {
-    let up = flow_by(alloc, known, members, member, &member.local.up, poly, rule)?;
+    let up = flow_by(alloc, scope, sink, &sink.member.local.up, rule)?;
     flows.push(up)?;
-    let low = flow_by(alloc, known, members, member, &member.local.low, poly, rule)?;
+    let low = flow_by(alloc, scope, sink, &sink.member.local.low, rule)?;
     flows.push(low)?;
     Ok(())
 }
@@ -128,22 +140,24 @@ fn push_both<K: Known>(
 fn push_flows<K: Known>(
     alloc: Global,
     flows: &mut Vec<Flow>,
-    known: &K,
-    members: &[Member],
-    member: &Member,
-    poly: Option<&Poly>,
+    scope: &Scope<K>,
+    sink: &Sink,
     before: &[u32],
 ) -> Result<(), Memory>
-    requires ascending { AreAscending (map member_of members.now) }
-    requires up { IsLimited member.now.local.up }
-    requires low { IsLimited member.now.local.low }
-    requires few { HasFewPlaces poly }
-    ensures { OnOk result (map flow_of flows.new.items ≡ map flow_of flows.old.items ++ flows_over (optional_poly
-        poly.entry) (map member_of members.now) (K.table known.now).size (member_of member.now) before.now) }
+    requires ascending { AreAscending (map member_of scope.now.members.now) }
+    requires up { IsLimited sink.now.member.now.local.up }
+    requires low { IsLimited sink.now.member.now.local.low }
+    requires few { HasFewPlaces sink.now.poly }
+    ensures { OnOk result (map flow_of flows.new.items ≡ map flow_of flows.old.items
+        ++ flows_over (optional_poly sink.now.poly) (map member_of scope.now.members.now)
+        (K.table scope.now.known.now).size (member_of sink.now.member.now) before.now) }
 {
     for rule in before {
-        let inside = members_after(members, *rule);
-        push_both(alloc, flows, known, inside, member, poly, *rule)?;
+        let inside = Scope {
+            known: scope.known,
+            members: members_after(scope.members, *rule),
+        };
+        push_both(alloc, flows, &inside, sink, *rule)?;
     }
     Ok(())
 }
@@ -152,21 +166,20 @@ fn push_flows<K: Known>(
 fn push_flows_into<K: Known>(
     alloc: Global,
     flows: &mut Vec<Flow>,
-    g: &Graph,
-    preps: &[RuleRows],
-    known: &K,
-    members: &[Member],
+    setting: &Setting,
+    scope: &Scope<K>,
     member: &Member,
 ) -> Result<(), Memory>
-    requires ascending { AreAscending (map member_of members.now) }
-    requires given { (p : Program) × IsMemberOfProgram p g.now preps.now (member_of member.now) }
-    ensures { OnOk result ((p : Program) → IsMemberOfProgram p g.now preps.now (member_of member.now)
-        → map flow_of flows.new.items ≡ map flow_of flows.old.items ++ flows_from (setting_of p) (map member_of
-        members.now) (K.table known.now).size (member_of member.now) (pre p member.now.spot.rule)) }
+    requires ascending { AreAscending (map member_of scope.now.members.now) }
+    requires given { (p : Program) × IsMemberIn p setting.now (member_of member.now) }
+    ensures { OnOk result ((p : Program) → IsMemberIn p setting.now (member_of member.now)
+        → map flow_of flows.new.items ≡ map flow_of flows.old.items ++ flows_from (setting_of p)
+        (map member_of scope.now.members.now) (K.table scope.now.known.now).size (member_of member.now)
+        (pre p member.now.spot.rule)) }
 {
-    let poly = poly_at(preps, member.spot);
-    let before = g.pre(member.spot.rule);
-    push_flows(alloc, flows, known, members, member, poly, before)
+    let poly = poly_at(setting.rows, member.spot);
+    let before = setting.graph.pre(member.spot.rule);
+    push_flows(alloc, flows, scope, &Sink { member, poly }, before)
 }
 
 /// All that flows into the members of a loop: by members, then by what can come before, then up before low.
@@ -176,18 +189,17 @@ fn push_flows_into<K: Known>(
 /// `Memory` where an allocation fails.
 pub(crate) fn flows_in<K: Known>(
     alloc: Global,
-    g: &Graph,
-    preps: &[RuleRows],
-    known: &K,
-    members: &[Member],
+    setting: &Setting,
+    scope: &Scope<K>,
 ) -> Result<Vec<Flow>, Memory>
-    requires { (p : Program) × AreMembersOfProgram p g.now preps.now (map member_of members.now) }
-    ensures { IfOk result (λ fs. (p : Program) → AreMembersOfProgram p g.now preps.now (map member_of members.now)
-        → map flow_of fs.items ≡ flows (setting_of p) (map member_of members.now) (K.table known.now).size) }
+    requires { (p : Program) × AreMembersIn p setting.now (map member_of scope.now.members.now) }
+    ensures { IfOk result (λ fs. (p : Program) → AreMembersIn p setting.now (map member_of scope.now.members.now)
+        → map flow_of fs.items ≡ flows (setting_of p) (map member_of scope.now.members.now)
+        (K.table scope.now.known.now).size) }
 {
     let mut flows = Vec::new(alloc);
-    for member in members {
-        push_flows_into(alloc, &mut flows, g, preps, known, members, member)?;
+    for member in scope.members {
+        push_flows_into(alloc, &mut flows, setting, scope, member)?;
     }
     Ok(flows)
 }

@@ -1,8 +1,8 @@
 //! The checks of nodes on sizes behind the shapes and the arms of their members: of a place that doesn't loop, and of
 //! the members of a loop.
 //! Contract to the layers above: over anything that is known, `sized_spread` and `sized_cycle` find the node accepted,
-//! with the keys of the bounds that it needs and the bound that it states, or the first check of the node that fails, as
-//! `proof_nodes` says both. A search and a checker stand on the same.
+//! with the keys of the bounds that it needs and the bound that it states, or the first check of the node that fails,
+//! as `proof_nodes` says both. A search and a checker can stand on the same.
 #![tactic(auto)]
 
 mod bent;
@@ -13,6 +13,7 @@ mod members;
 mod missing;
 mod needs;
 mod rules;
+mod setting;
 mod sized;
 mod sizing;
 mod stating;

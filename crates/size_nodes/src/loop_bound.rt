@@ -54,8 +54,8 @@ fn powers<K: Known>(alloc: Global, known: &K, growths: &[Growth]) -> Result<Vec<
 
 // The addition of a rule times its time.
 fn addition<K: Known>(alloc: Global, known: &K, growth: &Growth) -> Result<Bound, Memory>
-    ensures { IfOk result (λ b. bound_of b ≡ ProductOf (both_parts (known_bound ((K.table known.now).time growth.now.rule))
-        (bound_of growth.now.addition))) }
+    ensures { IfOk result (λ b. bound_of b ≡ ProductOf (both_parts
+        (known_bound ((K.table known.now).time growth.now.rule)) (bound_of growth.now.addition))) }
 {
     let mut factors = Vec::new(alloc);
     let time = known_or_zero(alloc, known.time(growth.rule))?;
@@ -85,7 +85,8 @@ fn push_addition<K: Known>(
 
 // What comes into the loop, and the additions.
 fn sum<K: Known>(alloc: Global, known: &K, base: Bound, growths: &[Growth]) -> Result<Bound, Memory>
-    ensures { IfOk result (λ b. bound_of b ≡ SumOf (Part (bound_of base) (all_joined (addition_part (K.table known.now).time) (map growth_of growths.now)))) }
+    ensures { IfOk result (λ b. bound_of b ≡ SumOf (Part (bound_of base)
+        (all_joined (addition_part (K.table known.now).time) (map growth_of growths.now)))) }
 {
     let mut parts = Vec::new(alloc);
     parts.push(base)?;

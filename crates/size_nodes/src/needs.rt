@@ -8,13 +8,12 @@ ghost use Rattle.proof_tree.specs.proof_nodes.Checks.{needed_from, needed_into};
 ghost use Rattle.proof_tree.specs.proof_setting.Setting.{setting_of};
 ghost use Rattle.proof_tree.specs.Views.{member_of, spot_of};
 ghost use Rattle.size_nodes.specs.Needs.{spots_outside, spots_from};
-ghost use Rattle.size_nodes.specs.Members.{IsMemberOfProgram, AreMembersOfProgram};
+ghost use Rattle.size_nodes.specs.Members.{IsMemberIn, AreMembersIn};
 
 use crate::members::members_after;
+use crate::setting::Setting;
 use crate::updates::poly_at;
 use bound_expr::Memory;
-use guard_prep::RuleRows;
-use its_graph::Graph;
 use proof_tree::{Member, Spot, has_spot, places_read};
 use std::alloc::Global;
 
@@ -100,22 +99,21 @@ fn push_from(
 pub(crate) fn push_needed(
     alloc: Global,
     spots: &mut Vec<Spot>,
-    g: &Graph,
-    preps: &[RuleRows],
+    setting: &Setting,
     m: &Member,
     members: &[Member],
 ) -> Result<(), Memory>
-    requires given { (p : Program) × IsMemberOfProgram p g.now preps.now (member_of m.now) }
+    requires given { (p : Program) × IsMemberIn p setting.now (member_of m.now) }
     requires ascending { AreAscending (map member_of members.now) }
-    ensures { OnOk result ((p : Program) → IsMemberOfProgram p g.now preps.now (member_of m.now)
+    ensures { OnOk result ((p : Program) → IsMemberIn p setting.now (member_of m.now)
         → map spot_of spots.new.items ≡ map spot_of spots.old.items
         ++ needed_from (setting_of p) (map member_of members.now) (member_of m.now) (pre p m.now.spot.rule)) }
 {
-    let poly = poly_at(preps, m.spot);
-    let left = preps[m.spot.rule as usize - 1].left;
+    let poly = poly_at(setting.rows, m.spot);
+    let left = setting.rows[m.spot.rule as usize - 1].left;
     let up = places_read(alloc, &m.local.up, poly, left)?;
     let low = places_read(alloc, &m.local.low, poly, left)?;
-    push_from(spots, &up, &low, g.pre(m.spot.rule), members)
+    push_from(spots, &up, &low, setting.graph.pre(m.spot.rule), members)
 }
 
 /// The sizes that these members need from outside, after what can come before each.
@@ -125,18 +123,17 @@ pub(crate) fn push_needed(
 /// `Memory` where an allocation fails.
 pub(crate) fn needed_spots(
     alloc: Global,
-    g: &Graph,
-    preps: &[RuleRows],
+    setting: &Setting,
     members: &[Member],
 ) -> Result<Vec<Spot>, Memory>
-    requires { (p : Program) × AreMembersOfProgram p g.now preps.now (map member_of members.now) }
-    ensures { IfOk result (λ spots. (p : Program) → AreMembersOfProgram p g.now preps.now (map member_of members.now)
+    requires { (p : Program) × AreMembersIn p setting.now (map member_of members.now) }
+    ensures { IfOk result (λ spots. (p : Program) → AreMembersIn p setting.now (map member_of members.now)
         → map spot_of spots.items
         ≡ needed_into (setting_of p) (map member_of members.now) (map member_of members.now)) }
 {
     let mut spots = Vec::new(alloc);
     for m in members {
-        push_needed(alloc, &mut spots, g, preps, m, members)?;
+        push_needed(alloc, &mut spots, setting, m, members)?;
     }
     Ok(spots)
 }

@@ -10,16 +10,17 @@ ghost use Rattle.proof_tree.specs.Views.{member_of, spot_of};
 ghost use Rattle.size_nodes.specs.Flows.{flow_of};
 ghost use Rattle.size_nodes.specs.Growths.{growth_of, growth_by_flows};
 ghost use Rattle.size_nodes.specs.Needs.{first_missing as first_missing_of};
-ghost use Rattle.size_nodes.specs.Members.{IsMemberOfProgram, AreMembersOfProgram};
+ghost use Rattle.size_nodes.specs.Members.{IsMemberOfProgram, IsMemberIn, AreMembersOfProgram};
 ghost use Rattle.size_nodes.specs.Sizings.{IsSpreadSizing, IsCycleSizing, IsTimedSizing, IsLoopSizing, time_key};
 
 use crate::bent::first_bent;
-use crate::flow::{Flow, flows_in};
+use crate::flow::{Flow, Scope, flows_in};
 use crate::growth::{FlowKind, Growth, growing_rules, growths_by, maximum_offset};
 use crate::loop_bound::loop_bound;
 use crate::missing::{first_missing, first_untimed};
 use crate::needs::{needed_spots, push_needed};
 use crate::rules::rules_in;
+use crate::setting::Setting;
 use crate::sizing::Sizing;
 use crate::updates::poly_at;
 use bound_expr::{Bound, Memory};
@@ -30,8 +31,8 @@ use proof_tree::{Known, Member, Spot, spread_size};
 use std::alloc::Global;
 
 /// The size of a place after a rule where its arms read no place of its own loop: the maximum, over the rules that can
-/// come before, of both arms at the sizes after that rule, with the keys of the sizes that the node needs. Else the first
-/// of these is named: `Missing`, a size that isn't known, in the order of the rules before, up before low, places
+/// come before, of both arms at the sizes after that rule, with the keys of the sizes that the node needs. Else the
+/// first of these is named: `Missing`, a size that isn't known, in the order of the rules before, up before low, places
 /// ascending; and `Large`, how many nodes the composed bound has. `Bent` and `Untimed` never come.
 ///
 /// # Errors
@@ -48,32 +49,35 @@ pub fn sized_spread<K: Known>(
     ensures { IfOk result (λ a. (p : Program) → IsMemberOfProgram p g.now preps.now (member_of m.now)
         → IsSpreadSizing (setting_of p) (K.table known.now) (member_of m.now) a) }
 {
+    let setting = Setting {
+        graph: g,
+        rows: preps,
+    };
     let mut needed = Vec::new(alloc);
-    push_needed(alloc, &mut needed, g, preps, m, &[])?;
+    push_needed(alloc, &mut needed, &setting, m, &[])?;
     match first_missing(known, &needed) {
         Some(spot) => Ok(Sizing::Missing(spot)),
-        None => sized_composed(alloc, g, preps, known, m, needed),
+        None => sized_composed(alloc, &setting, known, m, needed),
     }
 }
 
 // The size of a place where each size that it needs is known.
 fn sized_composed<K: Known>(
     alloc: Global,
-    g: &Graph,
-    preps: &[RuleRows],
+    setting: &Setting,
     known: &K,
     m: &Member,
     needed: Vec<Spot>,
 ) -> Result<Sizing, Memory>
-    requires given { (p : Program) × IsMemberOfProgram p g.now preps.now (member_of m.now) }
-    requires needs { (p : Program) → IsMemberOfProgram p g.now preps.now (member_of m.now)
+    requires given { (p : Program) × IsMemberIn p setting.now (member_of m.now) }
+    requires needs { (p : Program) → IsMemberIn p setting.now (member_of m.now)
         → map spot_of needed.items ≡ needed_into (setting_of p) [] (member_of m.now ∷ []) }
     requires all_known { first_missing_of (K.table known.now) (map spot_of needed.items) ≡ None }
-    ensures { IfOk result (λ a. (p : Program) → IsMemberOfProgram p g.now preps.now (member_of m.now)
+    ensures { IfOk result (λ a. (p : Program) → IsMemberIn p setting.now (member_of m.now)
         → IsSpreadSizing (setting_of p) (K.table known.now) (member_of m.now) a) }
 {
-    let poly = poly_at(preps, m.spot);
-    let before = g.pre(m.spot.rule);
+    let poly = poly_at(setting.rows, m.spot);
+    let before = setting.graph.pre(m.spot.rule);
     match spread_size(alloc, &m.local, poly, before, known)? {
         Within::Rewritten(bound) => Ok(Sizing::Found {
             needs: needed,
@@ -85,10 +89,10 @@ fn sized_composed<K: Known>(
 
 /// The size of all members of a loop of places: what comes into the loop from outside, and what its rules add, each as
 /// often as its time says, times the factor of each rule that multiplies to the power of its time; with the keys of the
-/// sizes and then of the times that the node needs. Else the first of these is named: `Missing`, a size from outside that
-/// isn't known, in the order of members, then of the rules before, up before low, places ascending; `Bent`, a member of
-/// which a polynomial arm reads a member; `Untimed`, the least rule that multiplies or adds and has no time; and `Large`,
-/// how many nodes the composed bound has.
+/// sizes and then of the times that the node needs. Else the first of these is named: `Missing`, a size from outside
+/// that isn't known, in the order of members, then of the rules before, up before low, places ascending; `Bent`, a
+/// member of which a polynomial arm reads a member; `Untimed`, the least rule that multiplies or adds and has no time;
+/// and `Large`, how many nodes the composed bound has.
 ///
 /// # Errors
 ///
@@ -104,14 +108,18 @@ pub fn sized_cycle<K: Known>(
     ensures { IfOk result (λ a. (p : Program) → AreMembersOfProgram p g.now preps.now (map member_of members.now)
         → IsCycleSizing (setting_of p) (K.table known.now) (map member_of members.now) a) }
 {
-    let needed = needed_spots(alloc, g, preps, members)?;
+    let setting = Setting {
+        graph: g,
+        rows: preps,
+    };
+    let needed = needed_spots(alloc, &setting, members)?;
     if let Some(spot) = first_missing(known, &needed) {
         return Ok(Sizing::Missing(spot));
     }
-    if let Some(spot) = first_bent(g, preps, members) {
+    if let Some(spot) = first_bent(&setting, members) {
         return Ok(Sizing::Bent(spot));
     }
-    let flows = flows_in(alloc, g, preps, known, members)?;
+    let flows = flows_in(alloc, &setting, &Scope { known, members })?;
     let rules = rules_in(alloc, members)?;
     sized_by_flows(alloc, known, needed, &flows, &rules)
 }

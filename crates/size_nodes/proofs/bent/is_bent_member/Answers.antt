@@ -10,7 +10,7 @@ poly_at-poly-requires c = (c.requires.given.0, (c.requires.given.1.valid, (c.req
 pub pre-requires : goal.pre-requires
 pre-requires c = record {
   graph = (c.requires.given.0, c.requires.given.1.graph);
-  number = linked c.requires.given.0 c.args.g.now c.args.preps.now (member_of c.args.member.now) c.requires.given.1;
+  number = linked c.requires.given.0 c.args.setting.now.graph.now c.args.setting.now.rows.now (member_of c.args.member.now) c.requires.given.1;
 }
 
 pub returns : goal.returns

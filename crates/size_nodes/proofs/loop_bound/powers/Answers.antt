@@ -7,7 +7,7 @@ use Rattle.size_nodes.proofs.loop_bound.powers.Goals as goal
 
 pub loop-growth-preserved : goal.loop-growth-preserved
 loop-growth-preserved g c =
-    parts_more (λ (g : Growth). power_part (g.K.Known.table c.args.known.now).time (growth_of g)) c.args.growths.now
+    parts_more (λ (r : Growth). power_part (g.K.Known.table c.args.known.now).time (growth_of r)) c.args.growths.now
     c.loop-growth.growth-index c.growth-item.result (parts_of (bounds_of c.loop-growth.factors.items))
     (parts_of (bounds_of c.push_power.new.factors.items)) _ c.loop-growth-test.true c.growth-item.is
     c.loop-growth.invariant (c.in_ok-push_power.ensures {u = tt})
@@ -15,6 +15,6 @@ loop-growth-preserved g c =
 pub returns : goal.returns
 returns g c =
     let end : length c.args.growths.now ≤ c.loop-growth.growth-index = omega (arith, c.loop-growth-test.false) in
-    parts_done (λ (g : Growth). power_part (g.K.Known.table c.args.known.now).time (growth_of g)) c.args.growths.now
+    parts_done (λ (r : Growth). power_part (g.K.Known.table c.args.known.now).time (growth_of r)) c.args.growths.now
     c.loop-growth.growth-index (parts_of (bounds_of c.loop-growth.factors.items)) _ end c.loop-growth.invariant
     ∙ joined-map (power_part (g.K.Known.table c.args.known.now).time) growth_of c.args.growths.now

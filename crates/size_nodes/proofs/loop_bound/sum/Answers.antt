@@ -9,7 +9,7 @@ use Rattle.size_nodes.proofs.loop_bound.sum.Goals as goal
 
 pub loop-growth-preserved : goal.loop-growth-preserved
 loop-growth-preserved g c =
-    parts_more (λ (g : Growth). addition_part (g.K.Known.table c.args.known.now).time (growth_of g)) c.args.growths.now
+    parts_more (λ (r : Growth). addition_part (g.K.Known.table c.args.known.now).time (growth_of r)) c.args.growths.now
     c.loop-growth.growth-index c.growth-item.result (parts_of (bounds_of c.loop-growth.parts.items))
     (parts_of (bounds_of c.push_addition.new.parts.items)) _ c.loop-growth-test.true c.growth-item.is
     c.loop-growth.invariant (c.in_ok-push_addition.ensures {u = tt})
@@ -18,7 +18,7 @@ pub returns : goal.returns
 returns g c =
     let end : length c.args.growths.now ≤ c.loop-growth.growth-index = omega (arith, c.loop-growth-test.false) in
     bound_of-Sum c.loop-growth.parts ∙ ap SumOf
-    (parts_done (λ (g : Growth). addition_part (g.K.Known.table c.args.known.now).time (growth_of g)) c.args.growths.now
+    (parts_done (λ (r : Growth). addition_part (g.K.Known.table c.args.known.now).time (growth_of r)) c.args.growths.now
     c.loop-growth.growth-index (parts_of (bounds_of c.loop-growth.parts.items)) _ end c.loop-growth.invariant
     ∙ ap (λ (ps : Parts). Part (bound_of c.args.base) ps)
     (joined-map (addition_part (g.K.Known.table c.args.known.now).time) growth_of c.args.growths.now))

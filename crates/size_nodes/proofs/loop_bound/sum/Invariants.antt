@@ -8,5 +8,5 @@ use Rattle.size_nodes.proofs.loop_bound.sum.Given as goal
 abbrev pub invariant-loop-growth : goal.invariant-loop-growth
 invariant-loop-growth g l =
     joined (parts_of (bounds_of l.parts.items))
-    (all_joined (λ g. addition_part (g.K.Known.table l.known).time (growth_of g)) (drop l.growth-index l.growths))
-    ≡ Part (bound_of l.fn.base) (all_joined (λ g. addition_part (g.K.Known.table l.known).time (growth_of g)) l.growths)
+    (all_joined (λ r. addition_part (g.K.Known.table l.known).time (growth_of r)) (drop l.growth-index l.growths))
+    ≡ Part (bound_of l.fn.base) (all_joined (λ r. addition_part (g.K.Known.table l.known).time (growth_of r)) l.growths)

@@ -11,7 +11,7 @@ use Rattle.size_nodes.proofs.needs.needed_spots.Goals as goal
 pub push_needed-requires-clause-given : goal.push_needed-requires-clause-given
 push_needed-requires-clause-given c = (
   c.requires.0,
-  given_at c.requires.0 c.args.g.now c.args.preps.now c.args.members.now c.loop-m.m-index c.m-item.result c.requires.1
+  given_at c.requires.0 c.args.setting.now.graph.now c.args.setting.now.rows.now c.args.members.now c.loop-m.m-index c.m-item.result c.requires.1
       c.loop-m-test.true c.m-item.is,
 )
 
@@ -24,4 +24,4 @@ loop-m-preserved c = λ p given.
     (map spot_of c.push_needed.new.spots.items) (needed_into (setting_of p) members members) c.loop-m-test.true c.m-item.is
     (c.loop-m.invariant p given)
     (c.in_ok-push_needed.ensures p
-    (given_at p c.args.g.now c.args.preps.now c.args.members.now c.loop-m.m-index c.m-item.result given c.loop-m-test.true c.m-item.is))
+    (given_at p c.args.setting.now.graph.now c.args.setting.now.rows.now c.args.members.now c.loop-m.m-index c.m-item.result given c.loop-m-test.true c.m-item.is))

@@ -1,4 +1,4 @@
-use Rattle.std.proofs.Common.{◌≡◌, ◌∙◌, ap, sym, List, [], ◌∷◌, map}
+use Rattle.std.proofs.Common.{◌≡◌, ◌∙◌, ap, sym, [], ◌∷◌, map}
 use Rattle.bound_expr.specs.Views.{bound_of}
 use Rattle.bound_table.specs.Within.{Fits, answer_of, rewritten_within}
 use Rattle.proof_tree.specs.proof_nodes.AcceptsSizes.{spread_size}

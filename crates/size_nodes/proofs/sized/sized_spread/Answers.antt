@@ -1,4 +1,4 @@
-use Rattle.std.proofs.Common.{◌≡◌, ◌∙◌, ◌++◌, ap, sym, List, [], ◌∷◌, map, None}
+use Rattle.std.proofs.Common.{◌≡◌, ◌∙◌, ◌++◌, ap, sym, List, [], ◌∷◌, map}
 use Rattle.std.proofs.lemmas.List.{append-nil}
 use Rattle.model.specs.Paths.{pre}
 use Rattle.proof_tree.specs.proof_nodes.Nodes as nodes
