@@ -19,7 +19,8 @@ use Rattle.proof_tree.specs.Views.{arm_of}
 use Rattle.proof_tree.specs.declared.arm.Arm.{Arm}
 use Rattle.proof_tree.specs.declared.arm.Arm.TheVariants as arms
 use Rattle.proof_tree.specs.proof_nodes.Checks.{needed_at_cost, spots_after}
-use Rattle.proof_tree.specs.proof_nodes.ComposedSizes.{reads}
+use Rattle.proof_tree.specs.proof_nodes.ComposedSizes.{arm_bound, is_member, offset_of, reads}
+use Rattle.model.specs.Bounds.{Bound}
 use Rattle.proof_tree.specs.proof_nodes.Nodes as plain
 use Rattle.size_nodes.proofs.ProgramMembers.{few-places, updates-below}
 use Rattle.proof_sizes.specs.Arms.{HasArmNumbers}
@@ -144,3 +145,9 @@ pub needed-each : (s : Setting) (t : ℕ) (arm : plain.Arm) (js es : List ℕ)
     → spots_after_each js es ≡ needed_at_cost s t arm es
 needed-each s t arm js [] e = refl
 needed-each s t arm js (x ∷ es) e = λ i. spots_after x (e i) ++ needed-each s t arm js es e i
+
+-- an arm over no members is the arm as a bound
+pub no-members : (q : Option Polynomial) (arm : plain.Arm) (e : ℕ) (sizes : ℕ → Bound)
+    → offset_of q arm (is_member [] e) sizes ≡ arm_bound q arm sizes
+no-members q (plain.Linear den form multipliers) e sizes = refl
+no-members q plain.Poly e sizes = refl

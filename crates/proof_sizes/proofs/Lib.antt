@@ -8,4 +8,5 @@ mod MemberShapes
 mod SizedNodes
 -- costs
 mod CostRows
+mod WrittenCosts
 mod CostAnswers

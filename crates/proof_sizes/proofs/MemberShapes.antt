@@ -1,8 +1,9 @@
 -- Members of the rules of a program: their spots, and lists of them.
-use Rattle.std.proofs.Common.{◌≡◌, ℕ, zero, suc, ◌+◌, ◌-◌, ◌<◌, ◌≤◌, List, [], ◌∷◌, length, map, get_or, Some, sym, ap, ◌∙◌, subst}
-use Rattle.std.proofs.Common.{arith, ◌⊎◌, inl, inr}
+use Rattle.std.proofs.Common.{◌≡◌, ℕ, zero, suc, ◌+◌, ◌-◌, ◌<◌, ◌≤◌, List, [], ◌∷◌, length, map, get_or, Some, None, sym, ap, ◌∙◌, subst}
+use Rattle.std.proofs.Common.{arith, ◌⊎◌, inl, inr, nat_eq, false}
 use Rattle.std.proofs.lemmas.Bool.{cases_lt as order}
 use Rattle.std.proofs.lemmas.List.{get_or_default}
+use Rattle.model.specs.Paths.{target_in, target_of}
 use Rattle.model.specs.Programs.{Program, Rule, rule_at, arity_of}
 use Rattle.model.proofs.Cases.{some_same as some-same}
 use Rattle.proof_tree.specs.Views.{member_of, spot_of}
@@ -70,3 +71,40 @@ ascend-more ms i a b l m e f h c k d n = go (order (suc k) i)
         (f ∙ (ap (λ (j : ℕ). get_or ms j b) (sym here) ∙ get_or_default ms (suc k) b d (omega (arith, here, m))))
         (subst (λ (x : Member). ComesBefore (spot_of x.spot) (spot_of b.spot))
         (e ∙ (ap (λ (j : ℕ). get_or ms j a) before ∙ get_or_default ms k a d low)) c)
+
+-- the target of a rule is where it leads to
+pub target-is : (p : Program) (t : ℕ) (r : Rule) → rule_at p t ≡ Some r → target_of p t ≡ Some r.target
+target-is p zero r e = absurd (none e)
+  where
+    none : None ≡ Some r → ⊥
+    none k = cc
+target-is p (suc t) r e = ap target_in e
+
+module _ (p : Program) (spot : Spot) (is : IsRule p spot.rule) where
+  -- a spot of a rule with this target is a place of it, and no other is
+  pub spot-at : (target : ℕ) → Some target ≡ target_of p spot.rule → (1 ≤ spot.place) × (spot.place ≤ arity_of p target)
+      → IsSpot p spot
+  spot-at target e h =
+      spot-is p spot is.rule is.numbered h.0
+      (subst (λ (a : ℕ). spot.place ≤ arity_of p a)
+      (some-same target is.rule.target (e ∙ target-is p spot.rule is.rule is.numbered)) h.1)
+
+  pub spot-of-target : (target : ℕ) → Some target ≡ target_of p spot.rule → IsSpot p spot
+      → (1 ≤ spot.place) × (spot.place ≤ arity_of p target)
+  spot-of-target target e h = (
+    h.least,
+    subst (λ (a : ℕ). spot.place ≤ arity_of p a)
+        (some-same h.rule.target target (sym (e ∙ target-is p spot.rule h.rule h.numbered))) h.most,
+  )
+
+  -- each rule has one
+  pub no-target : None ≡ target_of p spot.rule → ⊥
+  no-target e = differ (e ∙ target-is p spot.rule is.rule is.numbered)
+    where
+      differ : None ≡ Some is.rule.target → ⊥
+      differ k = cc
+
+-- where the list isn't empty, there are members
+pub some-there : (ms : List Member) → nat_eq (length ms) 0 ≡ false → 1 ≤ length (map member_of ms)
+some-there [] e = absurd (let no : ⊥ = cc in no)
+some-there (m ∷ ms) e = omega arith

@@ -50,10 +50,10 @@ module _ (s : Setting) (table : Table) (m : Member) where
       → Refuses (spread_checks s table m) fault
   spread-failed sizing node.Memory h k = tt
   spread-failed (sizings.Found needs bound) (node.Refused r) h k = absurd k
-  spread-failed (sizings.Missing spot) (node.Refused r) h k = same-reason _ r _ k h
+  spread-failed (sizings.Missing spot) (node.Refused r) h k = same-reason (spread_checks s table m) r _ k h
   spread-failed (sizings.Bent spot) (node.Refused r) h k = absurd h
   spread-failed (sizings.Untimed rule) (node.Refused r) h k = absurd h
-  spread-failed (sizings.Large nodes) (node.Refused r) h k = same-reason _ r _ k h
+  spread-failed (sizings.Large nodes) (node.Refused r) h k = same-reason (spread_checks s table m) r _ k h
 
   -- whichever it is
   pub spread-answer : (sizing : Sizing) (r : Result (Vec Fact Global) NodeFault) → IsSpreadSizing s table m sizing
@@ -93,10 +93,10 @@ module _ (s : Setting) (table : Table) (ms : List Member) where
       → Refuses (cycle_checks s table ms) fault
   cycle-failed sizing node.Memory h k = tt
   cycle-failed (sizings.Found needs bound) (node.Refused r) h k = absurd k
-  cycle-failed (sizings.Missing spot) (node.Refused r) h k = same-reason _ r _ k h
-  cycle-failed (sizings.Bent spot) (node.Refused r) h k = same-reason _ r _ k h
-  cycle-failed (sizings.Untimed rule) (node.Refused r) h k = same-reason _ r _ k h
-  cycle-failed (sizings.Large nodes) (node.Refused r) h k = same-reason _ r _ k h
+  cycle-failed (sizings.Missing spot) (node.Refused r) h k = same-reason (cycle_checks s table ms) r _ k h
+  cycle-failed (sizings.Bent spot) (node.Refused r) h k = same-reason (cycle_checks s table ms) r _ k h
+  cycle-failed (sizings.Untimed rule) (node.Refused r) h k = same-reason (cycle_checks s table ms) r _ k h
+  cycle-failed (sizings.Large nodes) (node.Refused r) h k = same-reason (cycle_checks s table ms) r _ k h
 
   pub cycle-answer : (sizing : Sizing) (r : Result (Vec Fact Global) NodeFault) → IsCycleSizing s table ms sizing
       → MatchResult r (λ facts. StatesSizes ms sizing facts) (λ fault. IsFaultOf sizing fault)

@@ -51,6 +51,16 @@ fn goal_at(coefs: &[i64], value: &Row, times: i128, unknown: usize) -> i128
     goal_number(own, other, times)
 }
 
+// So in the column of constants.
+fn goal_constant(constant: i64, value: &Row, times: i128) -> i128
+    requires constant_small { IsInLimit (nat_abs constant) }
+    requires value_small { HasRowNumbers (form_of value.now) }
+    requires times_small { unsigned_abs times ≤ certificate_limit }
+    ensures { result ≡ constant +ℤ ((form_of value.now).constant *ℤ times) }
+{
+    goal_number(constant, value.constant, times)
+}
+
 // So at each of so many unknowns.
 fn goal_coefs(
     alloc: Global,
@@ -97,7 +107,7 @@ pub(crate) fn arm_row(
 {
     let times = factor(side, den);
     let goal = goal_coefs(alloc, width, coefs, value, times)?;
-    let last = goal_number(constant, value.constant, times);
+    let last = goal_constant(constant, value, times);
     Ok(Row {
         coefs: goal,
         constant: last,

@@ -2,14 +2,14 @@
 
 ghost use Rattle.std.specs.Prelude.{◌↔◌, length, IfOk, IsTrue};
 ghost use Rattle.its_model.specs.Valid.{IsValid};
-ghost use Rattle.its_model.specs.Views.{program_of};
+ghost use Rattle.its_model.specs.Views.{program_of, rule_of};
 ghost use Rattle.model.specs.Costs.{HasCost};
-ghost use Rattle.proof_sizes.specs.Costs.{AreRowMultipliers, HasNumbersBy, IsCostPrep};
+ghost use Rattle.proof_sizes.specs.Costs.{AreRowMultipliers, HasNumbersBy, IsCostPrep, IsWritten};
 ghost use Rattle.proof_tree.specs.Views.{cost_by_of};
 
 use crate::arm_numbers::has_arm_numbers;
 use guard_prep::{RuleRows, rows};
-use its_model::{Program, cost_program};
+use its_model::{Program, Rule, cost_program};
 use model::Memory;
 use proof_facts::{Ground, are_within_limit, is_rule};
 use proof_tree::CostBy;
@@ -31,7 +31,17 @@ pub(crate) fn has_cost(p: &Program, rule: u32) -> bool
     if !is_rule(p, rule) {
         return false;
     }
-    p.rules[rule as usize - 1].cost.is_some()
+    is_written(&p.rules[rule as usize - 1])
+}
+
+// Whether a rule has a cost.
+fn is_written(rule: &Rule) -> bool
+    ensures { IsTrue result ↔ IsWritten (rule_of rule.now).cost }
+{
+    match &rule.cost {
+        Some(_) => true,
+        None => false,
+    }
 }
 
 /// What is prepared of its cost rule.

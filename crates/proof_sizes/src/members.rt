@@ -13,7 +13,7 @@ use crate::arms::{Side, accepts_arm};
 use its_model::Program;
 use model::Memory;
 use proof_facts::{Ground, arity_at, is_rule, prep};
-use proof_tree::{Member, Spot};
+use proof_tree::{Member, Spot, target_of};
 use std::alloc::Global;
 
 // Whether a spot is a place of the target of a rule.
@@ -23,8 +23,17 @@ fn is_spot(p: &Program, spot: Spot) -> bool
     if !is_rule(p, spot.rule) {
         return false;
     }
-    let target = p.rules[spot.rule as usize - 1].target;
-    spot.place >= 1 && spot.place <= arity_at(p, target)
+    match target_of(p, spot.rule) {
+        Some(target) => is_place(spot.place, arity_at(p, target)),
+        None => false,
+    }
+}
+
+// Whether a place is one of so many, counted from 1.
+fn is_place(place: u32, count: u32) -> bool
+    ensures { IsTrue result ↔ ((1 ≤ place) × (place ≤ count)) }
+{
+    place >= 1 && place <= count
 }
 
 /// Whether the shape of a member is right.

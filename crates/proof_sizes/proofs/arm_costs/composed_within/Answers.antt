@@ -10,8 +10,8 @@ use Rattle.proof_sizes.specs.Costs.{step_over}
 use Rattle.proof_sizes.proofs.CostRows.{cost-few, cost-poly}
 use Rattle.proof_sizes.proofs.arm_costs.composed_within.Goals as goal
 
-pub step_bound-step-requires-clause-few : goal.step_bound-step-requires-clause-few
-step_bound-step-requires-clause-few g c =
+pub step_bound-requires-clause-few : goal.step_bound-requires-clause-few
+step_bound-requires-clause-few g c =
     let k = c.args.costing.now in
     cost-few (program k.ground.now) k.rule k.prepared c.requires.rule.rows c.requires.rule.ground.valid c.bent_update-poly.result
     c.bent_update-poly.ensures
@@ -25,4 +25,4 @@ returns g c =
     (λ w h. h ∙ ap rewritten_within (c.in_ok-product.ensures
     ∙ (λ i. ProductOf (both_parts ((c.in_ok-time.ensures ∙ ap known c.time.ensures) i)
     ((c.in_ok-step.ensures ∙ ap (λ q. step_over q (arm_of c.args.arm.now) table.size c.args.before.now) poly) i)))))
-    c.rewrite_within.ensures
+    c.rewrite_within.ensures.outcome

@@ -35,8 +35,8 @@ returns-in-Some g c =
     ∙ ap (needed_at_cost (cost_setting k) k.rule arm) (c.pre-before.ensures p c.requires.rule.ground.graph)))
     c.in-Some.ensures)
 
-pub composed_within-composed-requires-clause-readable : goal.composed_within-composed-requires-clause-readable
-composed_within-composed-requires-clause-readable g c =
+pub composed_within-requires-clause-readable : goal.composed_within-requires-clause-readable
+composed_within-requires-clause-readable g c =
     let k = c.args.costing.now in
     cost-readable (program k.ground.now) k.rule k.prepared c.requires.rule.rows c.requires.rule.ground.valid c.args.arm.now
     c.requires.numbers
@@ -58,8 +58,8 @@ returns-in-Rewritten g c =
     ∙ (c.in_ok-composed.ensures
     ∙ ap (λ (rules : List ℕ). rewritten_within (cost_over ((cost_setting k).cost_poly k.rule) arm table k.rule rules)) es))
 
-pub returns-in-Large : goal.returns-in-Large
-returns-in-Large g c =
+pub returns : goal.returns
+returns g c =
     let k = c.args.costing.now in
     let p = program k.ground.now in
     let table = g.K.Known.table c.args.known.now in

@@ -8,8 +8,8 @@ use Rattle.proof_facts.proofs.Cuts.{done-more, each-at}
 use Rattle.proof_facts.proofs.NeededBounds.{has-all, lacks-here}
 use Rattle.proof_sizes.proofs.looping.first_off_low.Goals as goal
 
-pub accepts_low-fits-requires-clause-shape : goal.accepts_low-fits-requires-clause-shape
-accepts_low-fits-requires-clause-shape c =
+pub accepts_low-requires-clause-shape : goal.accepts_low-requires-clause-shape
+accepts_low-requires-clause-shape c =
     each-at member_of (HasMemberShape (setting c.args.ground.now)) c.args.members.now c.loop-member.member-index
     c.member-item.result c.loop-member-test.true c.member-item.is
     (recursion_from_All (HasMemberShape (setting c.args.ground.now)) (map member_of c.args.members.now) c.requires.shapes)

@@ -1,6 +1,5 @@
-use Rattle.std.proofs.Common.{arith}
-use Rattle.std.proofs.lemmas.List.{length-map}
-use Rattle.proof_tree.specs.Views.{member_of}
+use Rattle.std.proofs.Common.{◌∙◌, sym}
+use Rattle.proof_sizes.proofs.MemberShapes.{some-there}
 use Rattle.proof_sizes.proofs.looping.has_cycle_shape.Goals as goal
 
 pub returns-then-not-ascend : goal.returns-then-not-ascend
@@ -12,7 +11,7 @@ returns-then-not-ascend c = (
 pub returns : goal.returns
 returns c = (
   λ e. record {
-    some = omega (arith, length-map c.args.members.now member_of);
+    some = some-there c.args.members.now (sym c.is_empty.ensures ∙ c.if-is_empty.false);
     ascending = c.ascend.ensures.0 c.if-not-ascend.false;
     each = c.have_member_shapes.ensures.0 e;
   },
