@@ -55,4 +55,4 @@ returns g c =
       low = c.in_ok-has_low.ensures.0 c.if-not-has_low.false;
     }))
     (subst (λ (ms : List Member). MatchResult c.stated.result (λ facts. StatesSizes (map member_of ms) c.in_ok-sizing.sizing facts)
-    (λ fault. IsFaultOf c.in_ok-sizing.sizing fault)) c.from_ref.ensures c.stated.ensures)
+    (λ fault. IsFaultOf c.in_ok-sizing.sizing fault)) c.from_ref.ensures.value c.stated.ensures)
