@@ -9,7 +9,6 @@ ghost use Rattle.proof_facts.specs.NodeAnswers.{Refuses};
 ghost use Rattle.proof_facts.specs.Statements.{AreBased};
 ghost use Rattle.proof_tree.specs.Views.{fact_of, facts_of};
 ghost use Rattle.proof_tree.specs.proof_nodes.AcceptsPlain.{weakened};
-ghost use Rattle.proof_tree.specs.proof_nodes.Laws.{bound_in};
 ghost use Rattle.proof_tree.specs.proof_setting.Setting.{setting_of};
 
 use crate::unused::only;
@@ -17,7 +16,7 @@ use crate::writable::is_writable;
 use bound_expr::Bound;
 use bound_table::below;
 use its_model::Program;
-use proof_facts::{NodeFault, arity_at, one};
+use proof_facts::{NodeFault, arity_at, bound_at, one};
 use proof_tree::{Fact, Reason};
 use std::alloc::Global;
 

@@ -25,8 +25,8 @@ counted-returns t c =
     ≡ c.args.before + length (nodes_of (proof_of c.args.proof.now)) = omega (arith, n, same) in e)
     (count-more _ c.all_counted.result 1 c.one_more.result c.all_counted.ensures c.one_more.ensures)
 
-pub all_counted-counted-requires : goal.all_counted-counted-requires
-all_counted-counted-requires t c =
+pub all_counted-counted-count-requires : goal.all_counted-counted-count-requires
+all_counted-counted-count-requires t c =
     let all = cut-count c.args.proofs.now c.loop-proof.proof-index c.proof-item.result c.loop-proof-test.true c.proof-item.is in
     (omega (arith, all), count-within _ c.loop-proof.count c.loop-proof.invariant)
 
