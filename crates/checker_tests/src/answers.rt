@@ -69,11 +69,13 @@ fn verdict(alloc: Global, p: &Program, file: &ProofFile) -> Result<String, Memor
     }
     match check(alloc, p, file) {
         Ok(facts) => accepted(alloc, &facts),
-        Err(CheckError::No {
-            lemma,
-            node,
-            reason,
-        }) => format!(in alloc; "no lemma {lemma} node {node}: {reason:?}"),
+        Err(
+            CheckError::No {
+                lemma,
+                node,
+                reason,
+            },
+        ) => format!(in alloc; "no lemma {lemma} node {node}: {reason:?}"),
         Err(CheckError::NoGap { gap, fault }) => format!(in alloc; "no gap {gap}: {fault:?}"),
         Err(CheckError::Memory) => Err(AllocError),
     }

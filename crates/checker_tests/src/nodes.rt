@@ -6,8 +6,10 @@
 
 use crate::words::{first_and_rest, number, numbers, part, parts_of, signed, wide, wides};
 use model::Memory;
-use proof_tree::{Arm, CostBy, CostNode, CycleNode, EmptyNode, Form, LocalBound, Member, Proof};
-use proof_tree::{RankNode, Spot, SpreadNode};
+use proof_tree::{
+    Arm, CostBy, CostNode, CycleNode, EmptyNode, Form, LocalBound, Member, Proof, RankNode, Spot,
+    SpreadNode,
+};
 use std::alloc::Global;
 
 /// A rule without a point.
@@ -19,7 +21,11 @@ pub(crate) fn empty_node(alloc: Global, parts: &[&str]) -> Result<EmptyNode, Mem
 }
 
 /// A ranking function.
-pub(crate) fn rank_node(alloc: Global, parts: &[&str], uses: Vec<Proof>) -> Result<RankNode, Memory> {
+pub(crate) fn rank_node(
+    alloc: Global,
+    parts: &[&str],
+    uses: Vec<Proof>,
+) -> Result<RankNode, Memory> {
     Ok(RankNode {
         rule: number(part(parts, 0)),
         set: numbers(alloc, part(parts, 1))?,
@@ -88,13 +94,21 @@ fn member(alloc: Global, parts: &[&str]) -> Result<Member, Memory> {
 }
 
 /// The size of a place that doesn't loop.
-pub(crate) fn spread_node(alloc: Global, parts: &[&str], uses: Vec<Proof>) -> Result<SpreadNode, Memory> {
+pub(crate) fn spread_node(
+    alloc: Global,
+    parts: &[&str],
+    uses: Vec<Proof>,
+) -> Result<SpreadNode, Memory> {
     let Member { spot, local } = member(alloc, parts)?;
     Ok(SpreadNode { spot, local, uses })
 }
 
 /// The sizes of the members of a loop.
-pub(crate) fn cycle_node(alloc: Global, parts: &[&str], uses: Vec<Proof>) -> Result<CycleNode, Memory> {
+pub(crate) fn cycle_node(
+    alloc: Global,
+    parts: &[&str],
+    uses: Vec<Proof>,
+) -> Result<CycleNode, Memory> {
     let mut members = Vec::new(alloc);
     for text in part(parts, 0).split('+') {
         if !text.is_empty() {
@@ -105,11 +119,19 @@ pub(crate) fn cycle_node(alloc: Global, parts: &[&str], uses: Vec<Proof>) -> Res
 }
 
 /// The cost of a rule.
-pub(crate) fn cost_node(alloc: Global, parts: &[&str], uses: Vec<Proof>) -> Result<CostNode, Memory> {
+pub(crate) fn cost_node(
+    alloc: Global,
+    parts: &[&str],
+    uses: Vec<Proof>,
+) -> Result<CostNode, Memory> {
     let text = part(parts, 1);
     let by = match text.split_once('=') {
         Some((_, multipliers)) => CostBy::Empty(wides(alloc, multipliers)?),
-        None => if text == "never" { CostBy::Never } else { CostBy::Arm(arm(alloc, text)?) },
+        None => if text == "never" {
+            CostBy::Never
+        } else {
+            CostBy::Arm(arm(alloc, text)?)
+        },
     };
     Ok(CostNode {
         rule: number(part(parts, 0)),

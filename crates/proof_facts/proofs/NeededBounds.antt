@@ -33,8 +33,10 @@ pub lacks-first : {A B : Type 0} (f : A → B) (P : B → Type 0) (xs : List A) 
 lacks-first f P [] i d l h n = absurd (omega (arith, l))
 lacks-first f P (y ∷ xs) zero d l h n = inl (n, refl)
 lacks-first f P (y ∷ xs) (suc i) d l h n =
-    inr (All-head P (f y) (map f (take i xs)) h,
-    lacks-first f P xs i d (omega (arith, l)) (All-tail P (f y) (map f (take i xs)) h) n)
+    inr (
+      All-head P (f y) (map f (take i xs)) h,
+      lacks-first f P xs i d (omega (arith, l)) (All-tail P (f y) (map f (take i xs)) h) n,
+    )
 
 -- so where it is told by itself what stands there
 pub lacks-here : {A B : Type 0} (f : A → B) (P : B → Type 0) (xs : List A) (i : ℕ) (x : A) → i < length xs

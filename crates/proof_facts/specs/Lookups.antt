@@ -53,9 +53,9 @@ pub record EntersTime (old : BTreeMap ℕ ℕ) (fact : facts.Fact) (position : �
 
 -- the position of a fact that is a size was entered where its place had none
 pub record EntersSize (old : BTreeMap (ℕ × ℕ) ℕ) (fact : facts.Fact) (position : ℕ) (new : BTreeMap (ℕ × ℕ) ℕ) : Type 0
-    where
-  pub each : (t i : ℕ) → get pair_cmp new (t, i)
-      ≡ first_of (get pair_cmp old (t, i)) (cond (is_size_of t i fact) (Some position) None)
+  where
+    pub each : (t i : ℕ) → get pair_cmp new (t, i)
+        ≡ first_of (get pair_cmp old (t, i)) (cond (is_size_of t i fact) (Some position) None)
 
 -- of each rule the position of its first time among facts is kept
 pub record HasTimes (fs : List facts.Fact) (times : BTreeMap ℕ ℕ) : Type 0 where

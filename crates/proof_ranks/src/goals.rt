@@ -92,7 +92,10 @@ fn lost(before: Option<&Form>, after: Option<&Form>, news: &[Row], column: Colum
         -ℤ list_dot (map (number_in column) (map form_of news.now)) (at (form_found after.entry).coefs) }
     ensures size { unsigned_abs result ≤ 2 ^ 124 }
 {
-    difference(i128::from(number_of(before, column)), combined(news, coefs_of(after), column))
+    difference(
+        i128::from(number_of(before, column)),
+        combined(news, coefs_of(after), column),
+    )
 }
 
 /// What is lost by a rule, less the least, as a row: the form before the rule, less that after it at the new values.
@@ -188,7 +191,10 @@ fn floor_constant(form: Option<&Form>, least: u64) -> i128
     requires least { IsInLimit least }
     ensures { result ≡ (form_found form.entry).constant -ℤ pos least }
 {
-    difference(i128::from(number_of(form, Column::Constant)), i128::from(least))
+    difference(
+        i128::from(number_of(form, Column::Constant)),
+        i128::from(least),
+    )
 }
 
 // The coefficients of so many unknowns.

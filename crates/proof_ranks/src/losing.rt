@@ -48,7 +48,14 @@ fn is_losing(
     let before = rank_form(&node.forms, source_of(ground.program, rule));
     let after = rank_form(&node.forms, target_of(ground.program, rule));
     let least = least_of(node, rule);
-    let goal = loss_row(alloc, rows.unknowns as usize, before, after, &rows.news, least)?;
+    let goal = loss_row(
+        alloc,
+        rows.unknowns as usize,
+        before,
+        after,
+        &rows.news,
+        least,
+    )?;
     Ok(implies(&rows.rows, moves, &goal))
 }
 
@@ -65,7 +72,13 @@ fn loses_at(
     ensures { IfOk result (λ loses. IsTrue loses
         ↔ Loses (setting ground.now) (rank_of node.now) (slice_index_or node.now.set.items position 0)) }
 {
-    is_losing(alloc, ground, node, node.set[position], &node.moves[position])
+    is_losing(
+        alloc,
+        ground,
+        node,
+        node.set[position],
+        &node.moves[position],
+    )
 }
 
 /// The first rule of the set by which the function may lose less than it has to.

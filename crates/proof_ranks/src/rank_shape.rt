@@ -138,7 +138,11 @@ fn has_numbers(ground: &Ground, node: &RankNode) -> bool
 /// # Errors
 ///
 /// `Memory` where an allocation fails.
-pub(crate) fn has_rank_shape(alloc: Global, ground: &Ground, node: &RankNode) -> Result<bool, Memory>
+pub(crate) fn has_rank_shape(
+    alloc: Global,
+    ground: &Ground,
+    node: &RankNode,
+) -> Result<bool, Memory>
     requires { IsGround ground.now }
     ensures { IfOk result (λ is_right. IsTrue is_right ↔ HasRankShape (setting ground.now) (rank_of node.now)) }
 {

@@ -82,7 +82,15 @@ fn implies_arm(
     ensures { IfOk result (λ implied. IsTrue implied ↔ Implies (map form_of rows.now.rows.items) multipliers.now
         (arm_goal (side_of side) den (record { coefs = coefs.now; constant = constant }) (form_of value.now))) }
 {
-    let goal = arm_row(alloc, rows.unknowns as usize, side, den, coefs, constant, value)?;
+    let goal = arm_row(
+        alloc,
+        rows.unknowns as usize,
+        side,
+        den,
+        coefs,
+        constant,
+        value,
+    )?;
     Ok(implies(&rows.rows, multipliers, &goal))
 }
 
@@ -113,7 +121,16 @@ pub(crate) fn accepts_arm(
             multipliers,
         } => {
             let value = &rows.news[place as usize - 1];
-            implies_arm(alloc, rows, value, side, *den, coefs, *constant, multipliers)
+            implies_arm(
+                alloc,
+                rows,
+                value,
+                side,
+                *den,
+                coefs,
+                *constant,
+                multipliers,
+            )
         }
         Arm::Poly => Ok(is_left_alone(bent_update(rows, place as usize - 1), rows.left)),
     }

@@ -35,9 +35,9 @@ all_counted-loop-proof-preserved t c =
     let done = map proof_of (take c.loop-proof.proof-index c.args.proofs.now) in
     let q = proof_of c.proof-item.result in
     let more =
-        ap (λ (ps : List Proof). length (nodes_in ps))
-        (done-more proof_of c.args.proofs.now c.loop-proof.proof-index c.proof-item.result c.loop-proof-test.true c.proof-item.is)
-        ∙ (ap length (nodes-push done q) ∙ length-append (nodes_in done) (nodes_of q)) in
+    ap (λ (ps : List Proof). length (nodes_in ps))
+    (done-more proof_of c.args.proofs.now c.loop-proof.proof-index c.proof-item.result c.loop-proof-test.true c.proof-item.is)
+    ∙ (ap length (nodes-push done q) ∙ length-append (nodes_in done) (nodes_of q)) in
     count-same _ _ c.counted-count.result (omega (arith, more))
     (count-more _ c.loop-proof.count (length (nodes_of q)) c.counted-count.result c.loop-proof.invariant c.counted-count.ensures)
 

@@ -48,13 +48,13 @@ returns-in-Rewritten g c =
     let table = g.K.Known.table c.args.known.now in
     let es = c.in_ok-entering.ensures ∙ ap (entries p) c.deref.ensures.value in
     let w =
-        small p table n
-        (subst (AllByRecursion (HasTime table)) (c.deref-2.ensures.value ∙ es) c.in_default.ensures)
-        (subst (AllByRecursion (HasSize table))
-        (ap (map spot_of) c.deref-4.ensures.value
-        ∙ (c.in_ok-needed.ensures ∙ ap (needed_after_each (setting c.args.ground.now) n) (c.deref-3.ensures.value ∙ es)))
-        c.in_default-first_missing.ensures)
-        (bound_of c.in-Rewritten.bound) (ap answer_of (sym c.in-Rewritten.is) ∙ c.in_ok-bound.ensures) in
+    small p table n
+    (subst (AllByRecursion (HasTime table)) (c.deref-2.ensures.value ∙ es) c.in_default.ensures)
+    (subst (AllByRecursion (HasSize table))
+    (ap (map spot_of) c.deref-4.ensures.value
+    ∙ (c.in_ok-needed.ensures ∙ ap (needed_after_each (setting c.args.ground.now) n) (c.deref-3.ensures.value ∙ es)))
+    c.in_default-first_missing.ensures)
+    (bound_of c.in-Rewritten.bound) (ap answer_of (sym c.in-Rewritten.is) ∙ c.in_ok-bound.ensures) in
     record {
       passed = w.0;
       told = c.in_ok-one-in-Rewritten.ensures ∙ ap (λ (b : Bound). Time c.args.node.now.rule b ∷ []) w.1;

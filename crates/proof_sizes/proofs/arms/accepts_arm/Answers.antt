@@ -27,14 +27,14 @@ returns-in-Linear c =
     let m = c.args.rows.now in
     let side = side_of c.args.side in
     let here =
-        new-there m.news.items (c.args.place - 1) c.index-value.result.now (omega (arith, c.requires.least, c.requires.most))
-        c.index-value.ensures in
+    new-there m.news.items (c.args.place - 1) c.index-value.result.now (omega (arith, c.requires.least, c.requires.most))
+    c.index-value.ensures in
     let numbers : HasLinearNumbers (length m.rows.items) m.left c.in-Linear.den
-        (record { coefs = c.in-Linear.coefs.items; constant = c.in-Linear.constant }) c.in-Linear.multipliers.items =
-        subst (λ a. HasArmNumbers (length m.rows.items) m.left (arm_of a)) c.in-Linear.is c.requires.numbers in
+    (record { coefs = c.in-Linear.coefs.items; constant = c.in-Linear.constant }) c.in-Linear.multipliers.items =
+    subst (λ a. HasArmNumbers (length m.rows.items) m.left (arm_of a)) c.in-Linear.is c.requires.numbers in
     let whole =
-        to_z-of_z w64 c.in-Linear.constant
-        (fits_signed_from_abs w64 c.in-Linear.constant (omega (arith, ints, numbers.limit.constant))) in
+    to_z-of_z w64 c.in-Linear.constant
+    (fits_signed_from_abs w64 c.in-Linear.constant (omega (arith, ints, numbers.limit.constant))) in
     IfOk-weaker c.implies_arm.result _ _
     (λ b h. subst (λ (a : Arm). IsTrue b ↔ IsArmOver m c.args.place side a) (sym (ap arm_of c.in-Linear.is))
     (subst (λ (T : Type 0). IsTrue b ↔ T)

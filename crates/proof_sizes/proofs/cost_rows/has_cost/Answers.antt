@@ -12,7 +12,7 @@ returns-then-not-is_rule c = (
 pub returns : goal.returns
 returns c =
     let here =
-        rule-at c.args.p.now c.args.rule c.index.result.now (c.is_rule.ensures.0 c.if-not-is_rule.false) c.index.ensures in (
+    rule-at c.args.p.now c.args.rule c.index.result.now (c.is_rule.ensures.0 c.if-not-is_rule.false) c.index.ensures in (
       λ e. cost-there (program_of c.args.p.now) c.args.rule c.index.result.now here (c.is_written.ensures.0 e),
       λ h. c.is_written.ensures.1 (cost-written (program_of c.args.p.now) c.args.rule c.index.result.now here h),
     )
