@@ -1,5 +1,5 @@
 -- The components of the program that doubles, within 10 pivots.
-use Rattle.std.proofs.Common.{◌≡◌, inl, inr, ℕ, zero, suc, ◌<◌, ◌≤◌, ◌↔◌, Bool, true, false, List, [], ◌∷◌, Some, refl, sym, subst}
+use Rattle.std.proofs.Common.{◌≡◌, inl, inr, ℕ, zero, suc, ◌<◌, ◌≤◌, ◌↔◌, true, false, List, [], ◌∷◌, Some, refl, sym, subst}
 use Rattle.std.proofs.Common.{arith, All}
 use Rattle.std.specs.Prelude.{ℤ, pos, nat_abs, ◌≤ℤ◌}
 use Rattle.std.proofs.lemmas.Int.{ints}
@@ -17,21 +17,19 @@ use Rattle.farkas_cert.specs.declared.scaled.Scaled.{Scaled}
 use Rattle.proof_tree.specs.declared.answer.EmptyAnswer.TheVariants as empties
 use Rattle.proof_tree.specs.proof_nodes.AcceptsPlain.{IsRule}
 use Rattle.proof_tree.specs.proof_nodes.Gaps.{ScaledPoint}
-use Rattle.proof_tree.specs.proof_nodes.Nodes.{Member, LocalBound}
+use Rattle.proof_tree.specs.proof_nodes.Nodes.{Member}
 use Rattle.proof_tree.specs.proof_nodes.Worked.{entered_member, doubled_member, doubled}
 use Rattle.proof_tree.specs.proof_nodes.WorkedGaps.{one}
 use Rattle.proof_tree.specs.proof_nodes.WorkedSettings.{enter, doubling}
 use Rattle.proof_tree.specs.proof_setting.Setting.{setting_of}
 use Rattle.rank_search.specs.rule_questions.EmptyAnswers.{IsEmptyAnswer, IsNearPoint, IsDualPoint, empty_program}
-use Rattle.rank_search.specs.rule_questions.Programs.{NothingTrips}
-use Rattle.local_size.specs.LocalAnswers.{HasBound, HasArms}
+use Rattle.local_size.specs.LocalAnswers.{HasBound}
 use Rattle.rvg_components.specs.Flows.{Locals, live_spots}
 use Rattle.rvg_components.specs.Listing.{HasFlow, AreComponents}
 use Rattle.bound_rounds.specs.Components.{IsDead}
-use Rattle.bound_rounds.specs.Keys.{IsPlace, key}
+use Rattle.bound_rounds.specs.Keys.{IsPlace}
 use Rattle.bound_rounds.specs.Searches.{HasPoint}
 use Rattle.time_bounds.specs.ProgramRules.{IsEmptinessOf, IsEmptyRule}
-use Rattle.time_bounds.specs.ProgramSearches.{searches_of_program}
 use Rattle.time_bounds.specs.ProgramSizes.{AreLive, IsLocalOf, AreLocals}
 use Rattle.time_bounds.specs.SizeWhys.{IsComponentOf}
 use Rattle.time_bounds.proofs.OneProgram.{program_searches_one}

@@ -1,6 +1,6 @@
 -- What the simplex method comes to within 10 pivots, of k(A) -> l(A) and l(A) -> l(2 * A): that the rules have a point,
 -- and the local bounds of their places.
-use Rattle.std.proofs.Common.{◌≡◌, inl, inr, ℕ, List, [], ◌∷◌, refl, arith}
+use Rattle.std.proofs.Common.{inl, inr, List, [], ◌∷◌, refl}
 use Rattle.std.specs.Prelude.{ℤ, pos, negsuc}
 use Rattle.model.specs.Programs.{Rule}
 use Rattle.its_model.specs.linear_forms.Forms.{at}

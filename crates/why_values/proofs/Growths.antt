@@ -24,7 +24,7 @@ use Rattle.proof_tree.specs.proof_nodes.Nodes.{SymbolForm, RankNode}
 use Rattle.proof_tree.specs.proof_nodes.WorkedGaps.{one}
 use Rattle.bound_rounds.proofs.OneOrder.{sets_one, shut_one}
 use Rattle.proof_tree.specs.proof_nodes.AcceptsPlain.{AreMultipliers}
-use Rattle.proof_tree.specs.proof_nodes.AcceptsRank.{HasRankShape, Loses, HasFloor, moves_of, rank_time}
+use Rattle.proof_tree.specs.proof_nodes.AcceptsRank.{HasRankShape, Loses, moves_of, rank_time}
 use Rattle.proof_tree.specs.proof_nodes.AcceptsSizes.{HasLinearShape, HasMemberShape, HasCycleShape, AcceptsUp, AcceptsLow}
 use Rattle.proof_tree.specs.proof_nodes.Gaps.{SymbolPlace}
 use Rattle.proof_tree.specs.proof_nodes.Reasons as reasons

@@ -1,17 +1,17 @@
 -- The components of the program that squares, within no pivots: which they are, and that there are no others.
-use Rattle.std.proofs.Common.{◌≡◌, inl, inr, ℕ, zero, suc, ◌≤◌, ◌↔◌, Bool, true, false, List, [], ◌∷◌, map, Some, None, refl}
+use Rattle.std.proofs.Common.{◌≡◌, inl, inr, ℕ, zero, suc, ◌≤◌, ◌↔◌, true, false, List, [], ◌∷◌, map, Some, refl}
 use Rattle.std.proofs.Common.{sym, ◌∙◌, ap, subst, arith, All}
 use Rattle.std.proofs.lemmas.List.Elements.{All-nil, All-cons, All-head}
 use Rattle.model.specs.Paths.{Here}
 use Rattle.model.specs.Programs.{arity_of, rule_at}
-use Rattle.model.proofs.Cases.{none_some, some_none, some_same}
+use Rattle.model.proofs.Cases.{none_some, some_same}
 use Rattle.model.proofs.Membership.{no_is_not_yes}
 use Rattle.guard_prep.specs.Prepared.{prepared}
 use Rattle.proof_tree.specs.declared.answer.EmptyAnswer.TheVariants as empties
 use Rattle.proof_tree.specs.declared.answer.Question.TheVariants as asked
 use Rattle.proof_tree.specs.proof_nodes.AcceptsPlain.{IsRule}
 use Rattle.proof_tree.specs.proof_nodes.Nodes.{Spot, Member, LocalBound}
-use Rattle.local_size.specs.LocalAnswers.{HasBound, both_polynomial, IsLocal}
+use Rattle.local_size.specs.LocalAnswers.{HasBound, both_polynomial}
 use Rattle.local_size.specs.Places.{is_polynomial_at}
 use Rattle.bound_rounds.specs.Components.{IsDead, IsOneOf}
 use Rattle.bound_rounds.specs.Keys.{IsPlace, key, has_key}

@@ -3,7 +3,7 @@ use Rattle.std.proofs.Common.{◌≡◌, inl, inr, ℕ, zero, suc, ◌≤◌, tr
 use Rattle.std.proofs.Common.{subst, arith}
 use Rattle.model.specs.Bounds.{Input}
 use Rattle.model.specs.Entries.{is_in}
-use Rattle.model.specs.Paths.{IsInSet, LeadsBackTo, HasEdge, HasPath, Path, Here, Onward, target_of}
+use Rattle.model.specs.Paths.{IsInSet, LeadsBackTo, HasPath, Here, Onward}
 use Rattle.model.specs.Programs.{Rule, arity_of, rule_at}
 use Rattle.model.proofs.Cases.{none_some, some_none, some_same}
 use Rattle.model.proofs.Membership.{no_is_not_yes}
@@ -21,7 +21,7 @@ use Rattle.bound_rounds.specs.Keys.{IsPlace, is_untimed}
 use Rattle.bound_rounds.specs.Sets.{IsSetOfRule, IsShut, AreShutOf}
 use Rattle.bound_rounds.proofs.ListMembers.{contains-none}
 use Rattle.time_bounds.proofs.FreeValue.{of_rule}
-use Rattle.time_bounds.specs.TimeWhys.{IsSought, RankTripsSo}
+use Rattle.time_bounds.specs.TimeWhys.{RankTripsSo}
 use Rattle.why_values.specs.Programs.{tripped_at, squaring_to, squares}
 use Rattle.why_values.specs.Squares.{squares_said}
 use Rattle.why_values.proofs.Runs.{budget_run}

@@ -1,5 +1,5 @@
 -- Why places have no size in the program that squares.
-use Rattle.std.proofs.Common.{◌≡◌, inl, inr, ℕ, zero, suc, ◌<◌, ◌≤◌, true, List, [], ◌∷◌, length, Some, refl, sym, ◌∙◌}
+use Rattle.std.proofs.Common.{◌≡◌, inl, inr, ℕ, zero, suc, ◌<◌, true, List, [], ◌∷◌, Some, refl, sym, ◌∙◌}
 use Rattle.std.proofs.Common.{subst, arith, All}
 use Rattle.std.specs.Prelude.{pos}
 use Rattle.std.proofs.lemmas.List.Elements.{All-nil, All-cons}
@@ -8,7 +8,7 @@ use Rattle.model.specs.Polynomials.{Monomial}
 use Rattle.model.proofs.Cases.{some_none, none_some}
 use Rattle.model.proofs.Membership.{no_is_not_yes}
 use Rattle.proof_tree.specs.declared.answer.Question.TheVariants as asked
-use Rattle.proof_tree.specs.proof_nodes.AcceptsSizes.{IsSpot, IsPolynomialUpdate, HasMemberShape, HasCycleShape, left_of}
+use Rattle.proof_tree.specs.proof_nodes.AcceptsSizes.{IsPolynomialUpdate, HasMemberShape, HasCycleShape}
 use Rattle.proof_tree.specs.proof_nodes.Checks.{large_nodes}
 use Rattle.proof_tree.specs.proof_nodes.Nodes.{Member}
 use Rattle.proof_tree.specs.proof_nodes.Reasons as reasons

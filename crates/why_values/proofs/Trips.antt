@@ -10,7 +10,6 @@ use Rattle.simplex_core.specs.Bland.{tableau_at}
 use Rattle.simplex_core.specs.Tableau.{first_tableau, equation, cost, pivot}
 use Rattle.simplex_core.specs.Trips.{Trips}
 use Rattle.proof_tree.specs.declared.answer.Question.TheVariants as asked
-use Rattle.proof_tree.specs.declared.answer.Trip.{Trip}
 use Rattle.proof_tree.specs.proof_nodes.AcceptsSizes.{Up}
 use Rattle.proof_tree.specs.proof_nodes.Gaps.{SymbolPlace}
 use Rattle.proof_tree.specs.proof_setting.WorkedGaps.{looping_rule, looping}

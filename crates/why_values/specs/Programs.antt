@@ -1,6 +1,6 @@
 -- Small programs, and reports of them, as they were worked out by hand: of k(A) -> k(A * A) and k(A) -> l(A * A), both
 -- where A <= 0; and reports of k(A) -> l(A) with l(A) -> l(A - 1) where A >= 1, or with l(A) -> l(2 * A).
-use Rattle.std.specs.Prelude.{ℕ, zero, suc, Bool, true, false, List, [], ◌∷◌, pos, None}
+use Rattle.std.specs.Prelude.{ℕ, List, [], ◌∷◌, pos, None}
 use Rattle.model.specs.Bounds.{Constant, Input}
 use Rattle.model.specs.Polynomials.{Polynomial}
 use Rattle.model.specs.Programs.{AtMost, Compare, Rule, Program}

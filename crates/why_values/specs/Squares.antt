@@ -1,5 +1,5 @@
 -- Why places have no size in k(A) -> k(A * A) and k(A) -> l(A * A), both where A <= 0, as it was worked out by hand.
-use Rattle.std.specs.Prelude.{◌≡◌, ℕ, List, [], ◌∷◌}
+use Rattle.std.specs.Prelude.{◌≡◌, List, [], ◌∷◌}
 use Rattle.outcome.specs.Reports.{SizeMissing, SizeBent, SizeLarge}
 use Rattle.proof_tree.specs.proof_nodes.Nodes.{Member}
 use Rattle.bound_rounds.specs.Keys.{Bounds, key}

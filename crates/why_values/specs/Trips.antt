@@ -1,6 +1,5 @@
 -- Which linear programs pass a limit, as it was worked out by hand: of k(A) -> k(A); and of k(A) -> k(A * A) and
 -- k(A) -> l(A * A), both where A <= 0.
-use Rattle.std.specs.Prelude.{[]}
 use Rattle.outcome.specs.Reports.{TimeTripped, SizeTripped}
 use Rattle.proof_tree.specs.declared.answer.Question.TheVariants as asked
 use Rattle.proof_tree.specs.proof_setting.WorkedGaps.{looping}
