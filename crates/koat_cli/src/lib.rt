@@ -7,6 +7,7 @@ mod analysis;
 mod figures;
 mod generated;
 mod law;
+mod missing_files;
 mod preparation;
 mod program;
 mod program_file;
@@ -25,6 +26,7 @@ pub use law::{
     numbers_are_answered, replays_are_answered, worked_answers_hold, worked_ends_hold,
     worked_replay_texts_hold,
 };
+pub use missing_files::{missing_files_are_told, worked_missing_files_hold};
 pub use program::run_program;
 pub use report_text::print as print_report;
 pub use status::Status;
