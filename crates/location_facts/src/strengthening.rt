@@ -1,6 +1,6 @@
 //! Programs whose guards say, too, which facts hold at the sources of their rules.
 
-ghost use Rattle.std.specs.Prelude.{◌≡◌, ◌++◌, ◌&&◌, ◌↔◌, nat_eq, if◌then◌else◌, map, filter, IfOk, Option, None, Some};
+ghost use Rattle.std.specs.Prelude.{◌≡◌, ◌++◌, ◌&&◌, ◌↔◌, nat_eq, if◌then◌else◌, map, IfOk, Option, None, Some};
 ghost use Rattle.std.specs.Prelude.{List, ℤ};
 ghost use Rattle.std.specs.List.{range_with_len};
 ghost use Rattle.poly_terms.specs.Views.{term_of};
