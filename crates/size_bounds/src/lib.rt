@@ -15,7 +15,6 @@ pub use answer::SizeAnswer;
 pub use copies::{copied_member, copied_members};
 pub use looping::cycle;
 pub use outcome::Stored;
-pub use size_nodes::{Sizing, sized_cycle, sized_spread};
 pub use spreading::spread;
 pub use table::Table;
 pub use uses::{uses_of_lemmas, uses_of_needs};

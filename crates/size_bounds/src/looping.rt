@@ -66,5 +66,3 @@ fn cycle_node(alloc: Global, t: &Table, members: &[Member], needs: &[Spot]) -> R
     let members = copied_members(alloc, members)?;
     Ok(Proof::Cycle(Box::new(alloc, CycleNode { members, uses })?))
 }
-
-}
