@@ -1,7 +1,6 @@
 -- Positions of facts by key: what is entered, fact by fact, and the bound that is found.
-use Rattle.std.proofs.Common.{◌≡◌, ℕ, suc, ◌+◌, ◌==◌, ◌&&◌, ◌<◌, ◌≤◌, Bool, true, false, cond, List, [], ◌∷◌, ◌++◌, length, map, take, get_or}
+use Rattle.std.proofs.Common.{◌≡◌, ℕ, suc, ◌+◌, ◌==◌, ◌&&◌, ◌<◌, ◌≤◌, Bool, true, false, cond, List, [], ◌∷◌, ◌++◌, length, take, get_or}
 use Rattle.std.proofs.Common.{Option, Some, None, is_some, option_map, refl, sym, ap, ◌∙◌, subst, arith}
-use Rattle.std.specs.Prelude.{slice_get}
 use Rattle.std.specs.BTreeMap.{BTreeMap, get, is_at}
 use Rattle.std.specs.Cmp.{unsigned_tied}
 use Rattle.std.specs.declared.cmp.Ordering.{Ordering}
@@ -16,7 +15,6 @@ use Rattle.model.specs.Facts.{Time, Size, Cost}
 use Rattle.proof_tree.specs.Views.{fact_of}
 use Rattle.proof_tree.specs.declared.fact.Fact.{Fact}
 use Rattle.proof_tree.specs.proof_nodes.Known.{time_in, size_in}
-use Rattle.proof_tree.specs.proof_nodes.Laws.{bound_in}
 use Rattle.proof_facts.specs.Lookups.{pair_cmp, first_of, is_time_of, is_size_of, first_position, facts_at, bound_at}
 use Rattle.proof_facts.specs.Lookups.{EntersTime, EntersSize, HasTimes, HasSizes}
 use Rattle.proof_facts.proofs.Cuts.{done-more, done-all, done-count}

@@ -3,15 +3,15 @@
 use Rattle.std.proofs.Common.{◌≡◌, ◌↔◌, ℕ, ◌^◌, ◌<◌, ◌≤◌, Bool, List, [], ◌∷◌, length, map, get_or, All, Option, Some, None, Vec}
 use Rattle.std.proofs.Common.{refl, sym, ap, ◌∙◌, subst, arith}
 use Rattle.std.specs.declared.alloc.Global.{Global}
-use Rattle.std.specs.Prelude.{ℤ, pos}
+use Rattle.std.specs.Prelude.{pos}
 use Rattle.std.specs.Bool.{IsTrue}
 use Rattle.std.proofs.lemmas.List.{length-map}
 use Rattle.std.proofs.lemmas.List.Elements.{All-nil, All-cons, All-head, All-tail}
 use denote.Ref.{Bor}
 use Rattle.guard_prep.specs.declared.rule_rows.RuleRows.{RuleRows}
 use Rattle.its_model.specs.Valid.{IsValid}
-use Rattle.model.specs.Paths.{source_of, target_of}
-use Rattle.model.specs.Programs.{Program, arity_of}
+use Rattle.model.specs.Paths.{source_of}
+use Rattle.model.specs.Programs.{Program}
 use Rattle.poly_terms.specs.Views.{form_of}
 use Rattle.poly_terms.specs.declared.poly.Row.{Row}
 use Rattle.poly_terms.specs.linear_forms.Certificates.{Implies}
@@ -23,13 +23,12 @@ use Rattle.proof_tree.specs.Sizes.{form_found, IsShort}
 use Rattle.proof_tree.specs.Views.{form_of as form_at_symbol, rank_of}
 use Rattle.proof_tree.specs.declared.rank.Form as code
 use Rattle.proof_tree.specs.declared.rank.RankNode as code_node
-use Rattle.proof_tree.specs.proof_nodes.AcceptsPlain.{IsRule, AreMultipliers}
+use Rattle.proof_tree.specs.proof_nodes.AcceptsPlain.{IsRule}
 use Rattle.proof_tree.specs.proof_nodes.AcceptsRank.{HasFormShape, HasRankShape, HasFloor, Loses, at_source, at_target}
 use Rattle.proof_tree.specs.proof_nodes.AcceptsRank.{least_loss, moves_of}
 use Rattle.proof_tree.specs.proof_nodes.Composed.{rank_form}
 use Rattle.proof_tree.specs.proof_nodes.Limits.{IsFormInLimit, AreInLimit}
 use Rattle.proof_tree.specs.proof_nodes.Nodes.{SymbolForm}
-use Rattle.proof_tree.specs.proof_nodes.Setting.{Setting}
 use Rattle.proof_tree.specs.proof_setting.Setting.{setting_of}
 use Rattle.gap_checks.proofs.GapFaults.{in-list}
 use Rattle.proof_facts.specs.Columns.{IsAlike}

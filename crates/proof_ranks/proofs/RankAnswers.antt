@@ -1,5 +1,5 @@
 -- What is answered to a ranking node: its first check that fails, or that all pass.
-use Rattle.std.proofs.Common.{◌≡◌, inl, inr, ℕ, List, [], ◌∷◌, refl, sym, ap, subst}
+use Rattle.std.proofs.Common.{◌≡◌, inl, inr, ℕ, List, [], ◌∷◌, refl, sym, ap}
 use Rattle.std.proofs.Common.{Vec}
 use Rattle.std.specs.declared.alloc.Global.{Global}
 use Rattle.std.specs.Prelude.{Result, Ok, Err, MatchResult}
@@ -17,7 +17,7 @@ use Rattle.model.specs.Entries.{entries}
 use Rattle.model.specs.Programs.{Program}
 use Rattle.gap_checks.specs.GapTests.{IsFirstFailing}
 use Rattle.proof_tree.specs.proof_nodes.AcceptsRank.{HasRankShape, Loses, HasFloor, rank_time}
-use Rattle.proof_tree.specs.proof_nodes.Checks.{rank_checks, check_time, check_size, check_small, large_nodes}
+use Rattle.proof_tree.specs.proof_nodes.Checks.{rank_checks, check_time, check_size, check_small}
 use Rattle.proof_tree.specs.proof_nodes.Checks.{needed_after_each}
 use Rattle.proof_tree.specs.proof_nodes.Known.{Table}
 use Rattle.proof_tree.specs.proof_nodes.Nodes.{RankNode, Spot}

@@ -1,11 +1,10 @@
 -- The forms of a ranking function whose shape is right, and the rows and new values of a rule.
-use Rattle.std.proofs.Common.{◌≡◌, ℕ, suc, ◌+◌, ◌≤◌, ◌==◌, Bool, true, false, cond, List, [], ◌∷◌, length, All, Option, Some, None}
-use Rattle.std.proofs.Common.{map, refl, sym, ap, ◌∙◌, subst, arith}
+use Rattle.std.proofs.Common.{◌≡◌, ℕ, ◌≤◌, ◌==◌, Bool, true, false, cond, List, [], ◌∷◌, length, All, Option, Some, None}
+use Rattle.std.proofs.Common.{refl, ap, arith}
 use Rattle.std.specs.Prelude.{ℤ, pos, nat_abs}
 use Rattle.std.proofs.lemmas.List.Elements.{All-nil, All-head, All-tail}
-use Rattle.model.specs.Programs.{Program, Rule, rule_at, arity_of}
+use Rattle.model.specs.Programs.{Program, arity_of}
 use Rattle.model.proofs.Membership.{told_same}
-use Rattle.poly_terms.specs.linear_forms.Forms.{Form}
 use Rattle.poly_terms.specs.linear_forms.RuleQuestions.{constant_form}
 use Rattle.proof_tree.specs.proof_nodes.AcceptsRank.{HasFormShape}
 use Rattle.proof_tree.specs.proof_nodes.Composed.{rank_form}

@@ -1,5 +1,5 @@
 -- The parts of the shape of a ranking node, and the whole.
-use Rattle.std.proofs.Common.{◌≡◌, ◌≢◌, ◌↔◌, ℕ, zero, suc, ◌+◌, ◌<◌, ◌≤◌, true, Bool, cond, List, [], ◌∷◌, ◌++◌, length, map, take}
+use Rattle.std.proofs.Common.{◌≡◌, ◌≢◌, ℕ, zero, suc, ◌+◌, ◌<◌, Bool, cond, List, [], ◌∷◌, length, map, take}
 use Rattle.std.proofs.Common.{get_or, Vec, refl, sym, ap, ◌∙◌, subst, arith}
 use Rattle.std.specs.declared.alloc.Global.{Global}
 use Rattle.std.specs.List.{All, AllByRecursion}
@@ -21,7 +21,7 @@ use Rattle.gap_checks.proofs.GapFaults.{in-list}
 use Rattle.gap_checks.proofs.GapPositions.{each-at}
 use Rattle.proof_tree.proofs.proof_nodes.CheckLists.{each-in, in-each}
 use Rattle.proof_tree.proofs.proof_nodes.GapPoints.{first-least, rest-ascends}
-use Rattle.proof_ranks.specs.RankShapes.{symbol_in, IsRankSet, HasMoves, HasRankNumbers}
+use Rattle.proof_ranks.specs.RankShapes.{symbol_in, IsRankSet, HasRankNumbers}
 
 -- where a form has another symbol than stands at its position, the forms aren't those of these symbols
 pub symbol-breaks : (fs : List Form) (ns : List ℕ) (i : ℕ) (f : Form) (n : ℕ) → i < length fs → f ≡ get_or fs i f

@@ -1,5 +1,5 @@
 -- The places that are read after rules: what is done, and one more.
-use Rattle.std.proofs.Common.{◌≡◌, ◌≢◌, ℕ, zero, suc, ◌+◌, ◌<◌, ◌≤◌, not, true, false, List, [], ◌∷◌, ◌++◌, length, map, filter, get_or, take}
+use Rattle.std.proofs.Common.{◌≡◌, ◌≢◌, ℕ, suc, ◌+◌, ◌<◌, not, List, [], ◌∷◌, ◌++◌, length, map, filter, get_or, take}
 use Rattle.std.proofs.Common.{refl, sym, ap, ◌∙◌, arith}
 use Rattle.std.specs.Prelude.{ℤ, pos}
 use Rattle.std.specs.List.{range_with_len}
@@ -7,13 +7,10 @@ use Rattle.std.proofs.lemmas.List.{append-nil, append_assoc, map-append, get_or_
 use Rattle.poly_terms.proofs.linear_forms.int_laws.ZeroLaws.{not_zero-told}
 use Rattle.poly_terms.specs.linear_forms.Forms.{at}
 use Rattle.poly_terms.specs.linear_forms.int_laws.NormalForm.{is_zero}
-use Rattle.proof_tree.specs.Views.{spot_of}
-use Rattle.proof_tree.specs.declared.arm.Spot as code
 use Rattle.proof_tree.specs.proof_nodes.Checks.{spots_after, needed_after, needed_after_each}
 use Rattle.proof_tree.specs.proof_nodes.Nodes.{RankNode, Spot}
 use Rattle.proof_tree.specs.proof_nodes.Setting.{Setting}
 use Rattle.proof_facts.proofs.Cuts.{done-more}
-use Rattle.proof_ranks.specs.RankChecks.{read_after}
 use Rattle.proof_ranks.proofs.Marking.{filter-pushed, filter-passed}
 
 module _ (coefs : List ℤ) (e : ℕ) where

@@ -1,27 +1,22 @@
 -- What is answered to a node on a cost: what it states, or its first check that fails.
-use Rattle.std.proofs.Common.{◌≡◌, ◌↔◌, inl, inr, ℕ, Bool, true, false, List, [], ◌∷◌, Option, Some, None, refl, sym, ap, ◌∙◌, subst, Vec}
-use Rattle.std.specs.Bool.{IsTrue}
+use Rattle.std.proofs.Common.{◌≡◌, inl, inr, ℕ, true, false, List, [], ◌∷◌, Option, Some, None, refl, sym, ap, ◌∙◌, Vec}
 use Rattle.std.specs.List.{AllByRecursion}
 use Rattle.std.specs.declared.alloc.Global.{Global}
 use Rattle.bound_table.specs.Within.{Fits, TooLarge, rewritten_within}
-use Rattle.guard_prep.specs.declared.rule_rows.RuleRows.{RuleRows}
 use Rattle.model.specs.Bounds.{Bound, Constant}
-use Rattle.model.specs.Costs.{HasCost}
-use Rattle.model.specs.Facts as plain
 use Rattle.model.specs.Facts.{Cost}
 use Rattle.model.specs.Paths.{pre}
 use Rattle.model.specs.Programs.{Program}
-use Rattle.poly_terms.specs.Views.{form_of}
 use Rattle.poly_terms.specs.linear_forms.Certificates.{Implies, minus_one}
 use Rattle.gap_checks.specs.GapTests.{IsFirstFailing}
 use Rattle.proof_tree.specs.Views.{facts_of}
 use Rattle.proof_tree.specs.declared.fact.Fact.{Fact}
-use Rattle.proof_tree.specs.proof_nodes.AcceptsCosts.{AcceptsCostArm, HasCostNumbers, HasCostShape, arm_cost, node_cost}
+use Rattle.proof_tree.specs.proof_nodes.AcceptsCosts.{AcceptsCostArm, HasCostShape, arm_cost, node_cost}
 use Rattle.proof_tree.specs.proof_nodes.Checks.{check_size, cost_checks, cost_checks_by, needed_at_cost}
 use Rattle.proof_tree.specs.proof_nodes.Known.{IsKnown, Table, is_zero_bound, known}
-use Rattle.proof_tree.specs.proof_nodes.Nodes.{Arm, ArmCost, CostBy, CostNode, EmptyCost, NeverCost, Spot}
+use Rattle.proof_tree.specs.proof_nodes.Nodes.{Arm, ArmCost, CostNode, EmptyCost, NeverCost, Spot}
 use Rattle.proof_tree.specs.proof_nodes.Reasons.{ArmUp, IsFirstAmong, Large, MissingSize, MissingTime, NotEmpty, NotZero, Shape}
-use Rattle.proof_tree.specs.proof_nodes.Setting.{Setting, costs_of}
+use Rattle.proof_tree.specs.proof_nodes.Setting.{Setting}
 use Rattle.proof_tree.specs.proof_setting.Setting.{setting_of}
 use Rattle.gap_checks.proofs.GapFaults.{first-of-each, behind-each}
 use Rattle.proof_tree.proofs.proof_nodes.CheckLists.{passes_each}

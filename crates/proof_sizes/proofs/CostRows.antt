@@ -33,7 +33,6 @@ use Rattle.model.specs.Polynomials.{Polynomial}
 use Rattle.model.specs.Programs.{Program, Rule, rule_at}
 use Rattle.poly_terms.specs.Expanding.{expanded, variable_form}
 use Rattle.poly_terms.specs.Rows.{HasVariablesBelow, linear_form}
-use Rattle.poly_terms.specs.linear_forms.Forms.{Form}
 use Rattle.proof_tree.specs.proof_nodes.AcceptsSizes.{left_in, left_of}
 use Rattle.proof_tree.specs.proof_nodes.Combined.{form_at}
 use Rattle.proof_tree.specs.proof_nodes.Setting.{Setting, costs_of, only_place}

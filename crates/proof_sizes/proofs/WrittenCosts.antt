@@ -1,5 +1,5 @@
 -- Costs that are written in rules, and the rule of a program that has one alone.
-use Rattle.std.proofs.Common.{◌≡◌, ℕ, zero, suc, ◌-◌, ◌<◌, ◌≤◌, List, [], ◌∷◌, length, map, get_or, Option, Some, None, sym, ap, ◌∙◌, arith}
+use Rattle.std.proofs.Common.{◌≡◌, ℕ, zero, suc, ◌-◌, ◌<◌, ◌≤◌, List, [], ◌∷◌, length, map, get_or, Some, None, sym, ap, ◌∙◌, arith}
 use Rattle.std.proofs.lemmas.List.{length-map}
 use Rattle.std.proofs.lemmas.Option.{slice_get_within}
 use Rattle.its_model.specs.Views.{program_of, rule_of}
@@ -7,7 +7,6 @@ use Rattle.its_model.specs.declared.program.Program as code
 use Rattle.its_model.specs.declared.program.Rule as code_rule
 use Rattle.model.specs.Costs.{HasCost}
 use Rattle.model.specs.Programs.{Program, Rule, rule_at}
-use Rattle.model.specs.Terms.{Term}
 use Rattle.model.proofs.Cases.{some_same as some-same}
 use Rattle.proof_tree.proofs.Rules.{rule_here}
 use Rattle.proof_tree.specs.proof_nodes.AcceptsPlain.{IsRule}

@@ -1,4 +1,4 @@
-use Rattle.std.proofs.Common.{List, [], ◌∷◌, map, subst}
+use Rattle.std.proofs.Common.{List, [], ◌∷◌, subst}
 use Rattle.model.specs.Facts as plain
 use Rattle.model.specs.Facts.{Cost}
 use Rattle.proof_sizes.specs.Costs.{cost_node}

@@ -1,4 +1,4 @@
-use Rattle.std.proofs.Common.{List, [], ◌∷◌, map, subst}
+use Rattle.std.proofs.Common.{List, map, subst}
 use Rattle.model.specs.Facts as plain
 use Rattle.proof_tree.specs.Views.{member_of}
 use Rattle.proof_tree.specs.proof_nodes.AcceptsSizes.{cycle_facts, cycle_size}

@@ -1,4 +1,4 @@
-use Rattle.std.proofs.Common.{map, refl, sym, subst, arith}
+use Rattle.std.proofs.Common.{refl, sym, subst, arith}
 use Rattle.std.specs.List.{All}
 use Rattle.std.proofs.lemmas.List.Elements.{All-push}
 use Rattle.proof_tree.specs.Views.{proof_of}

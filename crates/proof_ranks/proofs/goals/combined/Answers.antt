@@ -6,7 +6,6 @@ use Rattle.std.proofs.lemmas.List.Elements.{All-get_or}
 use Rattle.poly_terms.specs.linear_forms.Limits.{certificate_limit}
 use Rattle.poly_terms.specs.Views.{form_of}
 use Rattle.proof_tree.specs.proof_nodes.Limits.{IsInLimit}
-use Rattle.farkas_cert.specs.Sizes.{row_limit}
 use Rattle.farkas_cert.proofs.Products.{read_sum, sum-le, moved, all_done, one_ends}
 use Rattle.farkas_cert.proofs.Sums.{zip_dot, zip_dot-next, zip_dot-end, zip_dot-list_dot}
 use Rattle.proof_facts.specs.Columns.{number_in}

@@ -1,4 +1,4 @@
-use Rattle.std.proofs.Common.{◌≡◌, ◌∙◌, ℕ, List, subst, sym, get_or}
+use Rattle.std.proofs.Common.{◌≡◌, ◌∙◌, subst, sym, get_or}
 use Rattle.std.proofs.lemmas.List.{get_or_default}
 use Rattle.std.proofs.lemmas.Result.{IfOk-weaker}
 use Rattle.proof_tree.specs.proof_nodes.AcceptsPlain.{IsRule}

@@ -1,4 +1,4 @@
-use Rattle.std.proofs.Common.{◌≡◌, ℕ, List, ◌∙◌, map, length, get_or, refl, sym, subst, arith}
+use Rattle.std.proofs.Common.{◌≡◌, ◌∙◌, map, length, get_or, refl, sym, subst, arith}
 use Rattle.std.proofs.lemmas.List.{length-map}
 use Rattle.gap_checks.proofs.GapPositions.{all-done}
 use Rattle.proof_tree.specs.proof_nodes.AcceptsPlain.{AreMultipliers}

@@ -1,4 +1,4 @@
-use Rattle.std.proofs.Common.{get_or, refl}
+use Rattle.std.proofs.Common.{refl}
 use Rattle.std.proofs.lemmas.List.Elements.{All-more}
 use Rattle.its_model.specs.Views.{program_of}
 use Rattle.proof_tree.specs.proof_nodes.AcceptsPlain.{IsRule}

@@ -1,4 +1,4 @@
-use Rattle.std.proofs.Common.{◌≡◌, ◌∙◌, ℕ, List, map, sym, ap, subst}
+use Rattle.std.proofs.Common.{◌∙◌, List, map, sym, ap, subst}
 use Rattle.std.specs.List.{All}
 use Rattle.proof_tree.specs.Views.{form_of}
 use Rattle.proof_tree.specs.declared.rank.Form.{Form}

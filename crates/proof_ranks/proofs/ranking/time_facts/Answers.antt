@@ -1,4 +1,4 @@
-use Rattle.std.proofs.Common.{◌≡◌, ◌∙◌, ℕ, List, [], ◌∷◌, map, ap, subst, sym}
+use Rattle.std.proofs.Common.{◌∙◌, ℕ, List, [], ◌∷◌, map, ap, subst, sym}
 use Rattle.std.specs.List.{AllByRecursion}
 use Rattle.bound_table.specs.Within.{answer_of}
 use Rattle.bound_table.specs.bound_expr.Views.{bound_of}

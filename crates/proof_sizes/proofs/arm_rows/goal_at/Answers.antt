@@ -1,7 +1,7 @@
-use Rattle.std.proofs.Common.{◌∙◌, ap, arith, to_z, of_z}
+use Rattle.std.proofs.Common.{◌∙◌, ap, arith}
 use Rattle.std.specs.Int.{w64, w128}
-use Rattle.std.specs.Prelude.{pos, nat_abs, unsigned_abs}
-use Rattle.std.proofs.lemmas.Int.{ints, to_z-of_z}
+use Rattle.std.specs.Prelude.{pos, unsigned_abs}
+use Rattle.std.proofs.lemmas.Int.{to_z-of_z}
 use Rattle.poly_terms.specs.Views.{form_of}
 use Rattle.proof_facts.specs.declared.columns.Column.TheVariants.{Unknown}
 use Rattle.proof_facts.proofs.FormColumns.{form-small, number-small}

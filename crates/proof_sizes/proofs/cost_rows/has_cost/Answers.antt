@@ -1,4 +1,3 @@
-use Rattle.std.proofs.Common.{arith}
 use Rattle.its_model.specs.Views.{program_of}
 use Rattle.proof_sizes.proofs.WrittenCosts.{cost-there, cost-written, rule-at}
 use Rattle.proof_sizes.proofs.cost_rows.has_cost.Goals as goal

@@ -1,5 +1,4 @@
 use Rattle.proof_tree.specs.Views.{cost_by_of}
-use Rattle.proof_tree.specs.proof_nodes.AcceptsCosts.{HasCostShape}
 use Rattle.proof_facts.specs.Grounds.{program, setting}
 use Rattle.bound_expr.specs.Views.{bound_of}
 use Rattle.proof_sizes.specs.Costs.{cost_node}

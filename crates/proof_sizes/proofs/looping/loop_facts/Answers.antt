@@ -10,7 +10,6 @@ use Rattle.proof_tree.specs.declared.arm.Member.{Member}
 use Rattle.proof_tree.specs.proof_nodes.Nodes as plain
 use Rattle.proof_tree.specs.proof_nodes.AcceptsSizes.{AcceptsLow, AcceptsUp}
 use Rattle.proof_tree.specs.Composing.{AreRowsOf}
-use Rattle.size_nodes.specs.Members.{AreMembersOfProgram}
 use Rattle.proof_facts.specs.Grounds.{program, setting}
 use Rattle.proof_sizes.proofs.SizedNodes.{cycle-answer, cycle-low, cycle-shape, cycle-up}
 use Rattle.proof_sizes.proofs.looping.loop_facts.Goals as goal

@@ -1,4 +1,4 @@
-use Rattle.std.proofs.Common.{◌≤◌, ℕ, ap, subst, sym}
+use Rattle.std.proofs.Common.{◌≤◌, ℕ, subst, sym}
 use Rattle.its_model.specs.Views.{program_of}
 use Rattle.proof_tree.specs.Views.{spot_of}
 use Rattle.proof_sizes.proofs.MemberShapes.{no-target, spot-at, spot-of-target, spot-rule}

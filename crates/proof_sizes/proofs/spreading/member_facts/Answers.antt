@@ -1,10 +1,9 @@
-use Rattle.std.proofs.Common.{List, [], ◌∷◌, map, subst, sym}
+use Rattle.std.proofs.Common.{List, map, subst, sym}
 use Rattle.std.specs.Prelude.{MatchResult}
 use Rattle.guard_prep.specs.declared.rule_rows.RuleRows.{RuleRows}
 use Rattle.proof_tree.specs.Composing.{AreRowsOf}
 use Rattle.proof_tree.specs.Views.{member_of}
 use Rattle.proof_tree.specs.declared.arm.Member.{Member}
-use Rattle.size_nodes.specs.Members.{IsMemberOfProgram}
 use Rattle.proof_facts.specs.Grounds.{program, setting}
 use Rattle.proof_sizes.specs.SizeAnswers.{IsFaultOf, StatesSizes}
 use Rattle.proof_sizes.proofs.SizedNodes.{spread-answer, spread-low, spread-shape, spread-up}
