@@ -1,0 +1,3 @@
+-- small files worked out by hand
+pub mod WorkedTexts
+pub mod WorkedLimits

@@ -1,0 +1,6 @@
+-- what the contracts of this crate, and of those above it, cite
+pub mod Lists
+pub mod Texts
+pub mod Listed
+pub mod Spelled
+pub mod Worked
