@@ -1,3 +1,7 @@
+-- the first line
+pub mod CostLines
 -- small files worked out by hand
 pub mod WorkedTexts
 pub mod WorkedLimits
+pub mod WorkedBreaks
+pub mod TokenTextLaws

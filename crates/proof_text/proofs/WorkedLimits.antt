@@ -141,7 +141,7 @@ past n limit h k = omega (arith, h, k)
 pub limits_told : LimitsAreTold
 limits_told = record {
   loop = record {
-    lemmas = (enter_within, loop_within, size_enter_within, size_loop_within, tt);
+    lemmas = (enter_within, (loop_within, (size_enter_within, (size_loop_within, tt))));
     few_lemmas = omega arith;
     gaps = All-nil (IsGapWithin counting);
     few_gaps = omega arith;
@@ -158,7 +158,7 @@ limits_told = record {
   too_large = λ h. past (2 ^ 55 + 1) certificate_limit (omega arith) (All-head IsInLimit (2 ^ 55 + 1) [] h.1.1);
   negative = (omega arith, small_form (negsuc (2 ^ 55 - 1)) (pos 0) (omega arith) (omega arith), no_multipliers);
   too_negative = λ h. past (2 ^ 55 + 1) certificate_limit (omega arith)
-      (All-head (λ (c : ℤ). IsInLimit (nat_abs c)) (negsuc (2 ^ 55)) [] h.1.0.coefs);
+      (All-head (λ (c : ℤ). IsInLimit (nat_abs c)) (negsuc (2 ^ 55)) [] h.1.coefs);
   large_point = record {
     parts = All-cons (λ (x : ℤ). nat_abs x ≤ point_limit) (pos (2 ^ 45)) [] (omega arith)
         (All-nil (λ (x : ℤ). nat_abs x ≤ point_limit));

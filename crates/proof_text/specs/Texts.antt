@@ -54,12 +54,20 @@ cost_by_text (EmptyCost multipliers) = codes "empty " ++ numbers_text multiplier
 cost_by_text NeverCost = codes "never"
 cost_by_text (ArmCost arm) = arm_text arm
 
+-- the rule, the set and the denominator of a ranking node
+abbrev pub rank_head : RankNode → List ℕ
+rank_head n =
+    codes "rank " ++ (decimal n.rule ++ (codes " set " ++ (numbers_text n.set ++ (codes " den " ++ decimal n.den))))
+
+-- its forms and its multipliers
+abbrev pub rank_rest : Program → RankNode → List ℕ
+rank_rest p n =
+    codes " forms " ++ (listed (map (form_text p) n.forms) ++ (codes " moves " ++ (listed (map numbers_text n.moves)
+    ++ (codes " floor " ++ numbers_text n.floor))))
+
 -- what a ranking node holds beside its uses
 abbrev pub rank_text : Program → RankNode → List ℕ
-rank_text p n =
-    codes "rank " ++ (decimal n.rule ++ (codes " set " ++ (numbers_text n.set ++ (codes " den " ++ (decimal n.den
-    ++ (codes " forms " ++ (listed (map (form_text p) n.forms) ++ (codes " moves "
-    ++ (listed (map numbers_text n.moves) ++ (codes " floor " ++ numbers_text n.floor))))))))))
+rank_text p n = rank_head n ++ rank_rest p n
 
 abbrev mutual
   -- a node with all that it rests on
@@ -123,13 +131,21 @@ point_text z = ending_in z.parts (decimal z.den)
 abbrev pub place_text : Program → SymbolPlace → List ℕ
 place_text p s = name_at p s.symbol ++ (codes "." ++ decimal s.place)
 
+-- the rule, the set and the shut places of a gap
+abbrev pub gap_head : Program → Gap → List ℕ
+gap_head p g =
+    decimal g.rule ++ (codes " set " ++ (numbers_text g.set
+    ++ (codes " shut " ++ bracketed (joined (codes " ") (map (place_text p) g.shut)))))
+
+-- its points
+abbrev pub gap_points : Gap → List ℕ
+gap_points g =
+    codes " moves " ++ (listed (map point_text g.moves) ++ (codes " floor " ++ (point_text g.floor
+    ++ (codes " kept " ++ listed (map point_text g.kept)))))
+
 -- what a gap holds
 abbrev pub gap_text : Program → Gap → List ℕ
-gap_text p g =
-    decimal g.rule ++ (codes " set " ++ (numbers_text g.set
-    ++ (codes " shut " ++ (bracketed (joined (codes " ") (map (place_text p) g.shut))
-    ++ (codes " moves " ++ (listed (map point_text g.moves) ++ (codes " floor " ++ (point_text g.floor
-    ++ (codes " kept " ++ listed (map point_text g.kept))))))))))
+gap_text p g = gap_head p g ++ gap_points g
 
 -- a line for each gap
 abbrev pub gap_lines : Program → List Gap → List ℕ

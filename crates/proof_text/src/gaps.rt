@@ -4,7 +4,7 @@ ghost use Rattle.std.specs.Prelude.{◌≡◌, ◌++◌, map, codes, OnOk};
 ghost use Rattle.its_model.specs.Views.{program_of};
 ghost use Rattle.proof_tree.specs.AnswerViews.{gap_of, scaled_of, shut_of, symbol_place};
 ghost use Rattle.proof_text.specs.Lists.{bracketed, each_behind, joined, listed};
-ghost use Rattle.proof_text.specs.Texts.{gap_text, place_text, point_text};
+ghost use Rattle.proof_text.specs.Texts.{gap_head, gap_points, gap_text, place_text, point_text};
 
 use crate::nodes::push_name;
 use crate::numbers::{push_each_before, push_number, push_rules};
@@ -17,11 +17,25 @@ use proof_tree::Gap;
 pub(crate) fn push_gap(text: &mut Vec<u8>, p: &Program, gap: &Gap) -> Result<(), Memory>
     ensures { OnOk result (text.new.items ≡ text.old.items ++ gap_text (program_of p.now) (gap_of gap.now)) }
 {
+    push_gap_head(text, p, gap)?;
+    push_gap_points(text, gap)
+}
+
+// The rule, the set and the shut places.
+fn push_gap_head(text: &mut Vec<u8>, p: &Program, gap: &Gap) -> Result<(), Memory>
+    ensures { OnOk result (text.new.items ≡ text.old.items ++ gap_head (program_of p.now) (gap_of gap.now)) }
+{
     push_number(text, u64::from(gap.rule))?;
     text.extend_from_slice(b" set ")?;
     push_rules(text, &gap.set)?;
     text.extend_from_slice(b" shut ")?;
-    push_shut(text, p, &gap.shut)?;
+    push_shut(text, p, &gap.shut)
+}
+
+// The points.
+fn push_gap_points(text: &mut Vec<u8>, gap: &Gap) -> Result<(), Memory>
+    ensures { OnOk result (text.new.items ≡ text.old.items ++ gap_points (gap_of gap.now)) }
+{
     text.extend_from_slice(b" moves ")?;
     push_points(text, &gap.moves)?;
     text.extend_from_slice(b" floor ")?;

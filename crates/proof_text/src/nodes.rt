@@ -5,7 +5,7 @@ ghost use Rattle.its_model.specs.Views.{program_of, symbol_of};
 ghost use Rattle.proof_tree.specs.Views.{arm_of, cost_by_of, form_of, local_of, member_of, rank_of, spot_of};
 ghost use Rattle.proof_text.specs.Lists.{each_behind, joined, listed, numbers_text};
 ghost use Rattle.proof_text.specs.Texts.{arm_text, cost_by_text, form_numbers, form_text, local_text, member_text};
-ghost use Rattle.proof_text.specs.Texts.{name_in, rank_text, spot_text};
+ghost use Rattle.proof_text.specs.Texts.{name_in, rank_head, rank_rest, rank_text, spot_text};
 
 use crate::numbers::{push_each_before, push_number, push_numbers, push_rules, push_signed};
 use its_model::{Program, Symbol};
@@ -184,12 +184,25 @@ fn push_cost_by(text: &mut Vec<u8>, by: &CostBy) -> Result<(), Memory>
 pub(crate) fn push_rank(text: &mut Vec<u8>, p: &Program, node: &RankNode) -> Result<(), Memory>
     ensures { OnOk result (text.new.items ≡ text.old.items ++ rank_text (program_of p.now) (rank_of node.now)) }
 {
-    text.extend_from_slice(b"rank ")?;
-    push_number(text, u64::from(node.rule))?;
+    push_rank_head(text, node)?;
+    push_rank_rest(text, p, node)
+}
+
+// The rule, the set and the denominator.
+fn push_rank_head(text: &mut Vec<u8>, node: &RankNode) -> Result<(), Memory>
+    ensures { OnOk result (text.new.items ≡ text.old.items ++ rank_head (rank_of node.now)) }
+{
+    push_named(text, b"rank ", node.rule)?;
     text.extend_from_slice(b" set ")?;
     push_rules(text, &node.set)?;
     text.extend_from_slice(b" den ")?;
-    push_number(text, node.den)?;
+    push_number(text, node.den)
+}
+
+// The forms and the multipliers.
+fn push_rank_rest(text: &mut Vec<u8>, p: &Program, node: &RankNode) -> Result<(), Memory>
+    ensures { OnOk result (text.new.items ≡ text.old.items ++ rank_rest (program_of p.now) (rank_of node.now)) }
+{
     text.extend_from_slice(b" forms ")?;
     push_forms(text, p, &node.forms)?;
     text.extend_from_slice(b" moves ")?;

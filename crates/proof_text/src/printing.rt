@@ -21,6 +21,7 @@ use std::alloc::Global;
 /// # Errors
 ///
 /// `Memory` where an allocation fails.
+#[tactic(auto, unfolding(crate::specs::Texts::text_of))]
 pub fn print(alloc: Global, p: &Program, f: &ProofFile) -> Result<Vec<u8>, Memory>
     requires { All (λ lemma. IsListed (length p.now.start_names.items) (proof_of lemma)) f.now.lemmas.items }
     ensures { IfOk result (λ text. text.items ≡ text_of (program_of p.now) (file_of f.now)) }
@@ -34,6 +35,7 @@ pub fn print(alloc: Global, p: &Program, f: &ProofFile) -> Result<Vec<u8>, Memor
 }
 
 // The first line.
+#[tactic(auto, using(crate::proofs::CostLines::any_cost))]
 fn push_first_line(text: &mut Vec<u8>, lemmas: &[Proof]) -> Result<(), Memory>
     ensures { OnOk result (text.new.items ≡ text.old.items ++ first_line (map proof_of lemmas.now)) }
 {

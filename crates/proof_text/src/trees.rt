@@ -7,7 +7,7 @@ ghost use Rattle.proof_tree.specs.bound_expr.Numbers.{ReadsBelow};
 ghost use Rattle.proof_tree.specs.bound_expr.Views.{bound_of};
 ghost use Rattle.proof_tree.specs.proof_nodes.Nodes.{Never, Weaken};
 ghost use Rattle.proof_text.specs.Listed.{AreListed, IsListed};
-ghost use Rattle.proof_text.specs.Texts.{has_cost as has_cost_node, have_cost, more_uses_text, node_text, uses_text};
+ghost use Rattle.proof_text.specs.Texts.{has_cost as has_cost_node, have_cost, node_text, uses_text};
 
 use crate::nodes::{push_cost, push_cycle, push_empty, push_named, push_rank, push_spread};
 use bound_expr::Bound;
@@ -95,22 +95,11 @@ fn push_uses(text: &mut Vec<u8>, p: &Program, uses: &[Proof]) -> Result<(), Memo
     };
     text.extend_from_slice(b" uses {")?;
     push_proof(text, p, first)?;
-    push_more_uses(text, p, others)?;
-    text.extend_from_slice(b"}")
-}
-
-// A semicolon and a blank before each node.
-#[cycle(write_proof)]
-fn push_more_uses(text: &mut Vec<u8>, p: &Program, uses: &[Proof]) -> Result<(), Memory>
-    requires { AreListed (length p.now.start_names.items) (uses_of (map proof_of uses.now)) }
-    ensures { OnOk result
-        (text.new.items ≡ text.old.items ++ more_uses_text (program_of p.now) (uses_of (map proof_of uses.now))) }
-{
-    for proof in uses {
+    for proof in others {
         text.extend_from_slice(b"; ")?;
         push_proof(text, p, proof)?;
     }
-    Ok(())
+    text.extend_from_slice(b"}")
 }
 
 /// Whether some node of a proof is on a cost. The call goes as deep as the proof.

@@ -19,6 +19,5 @@ pub mod ByteLaws
 pub mod ByteDerivations
 pub mod ResultLaws
 pub mod WorkedGrammars
-pub mod TokenTextLaws
 -- the crate below, of which those above cite lemmas through this one
 pub use Rattle.text_core.proofs as text_core

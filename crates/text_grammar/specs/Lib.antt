@@ -15,6 +15,5 @@ pub mod Tabled
 pub mod Worked
 pub mod Marks
 pub mod Following
-pub mod TokenTexts
 -- the crate below, which callers name through this one
 pub use Rattle.text_core.specs as text_core

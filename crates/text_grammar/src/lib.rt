@@ -3,7 +3,6 @@
 //! reader that answers exactly the tree or exactly the first fault (`specs/Texts`), and `read` is its code.
 #![tactic(auto)]
 
-mod apart;
 mod byte_text;
 mod bytes;
 mod cut;
@@ -18,7 +17,6 @@ mod tables;
 mod text;
 mod token;
 
-pub use apart::tokens_are_texts;
 pub use byte_text::{ByteText, Spelling};
 pub use bytes::{
     Bytes, DIGITS, MINUS, MORE, NATURAL, NATURAL_READ, NUMBER, NUMBER_BEGINS, ONE, POSITIVE, VALUE,

@@ -1,8 +1,8 @@
 -- Pieces that are cut apart are the pieces of their bytes, and the other way round.
 use Rattle.std.proofs.Common.{◌≡◌, ℕ, zero, suc, ◌+◌, ◌-◌, List, [], ◌∷◌, ◌++◌, length, take, drop, Option, Some, refl, ap}
 use Rattle.std.proofs.Common.{sym, subst, ◌∙◌, arith}
-use Rattle.text_core.specs.Tokens.{Lexeme, Lexer, Token, pieces, tokens_in, token_then}
-use Rattle.text_grammar.specs.TokenTexts.{spelled_all, IsCut, AreCut, SpellsBack, AllSpellBack, TokensAreTexts}
+use Rattle.text_grammar.specs.text_core.Tokens.{Lexeme, Lexer, Token, pieces, tokens_in, token_then}
+use Rattle.proof_text.specs.TokenTexts.{spelled_all, IsCut, AreCut, SpellsBack, AllSpellBack, TokensAreTexts}
 
 -- the first of some bytes, and the rest behind those that are passed over
 taken_and_rest : (n : ℕ) (bytes : List ℕ) → take n bytes ++ drop n bytes ≡ bytes
@@ -36,11 +36,13 @@ module _ {P M : Type 0} (lexer : Lexer P M) (spelled : P → List ℕ) where
   cut_apart mode at (p ∷ ps) (c, cs) =
       let behind = lexer.mode_behind mode (Some p) in
       let rest = spelled_all lexer spelled ps in
+      let less : suc (length c.others) - 1 ≡ length c.others = omega arith in
       let bytes : spelled_all lexer spelled (p ∷ ps) ≡ c.first ∷ (c.others ++ rest) = ap (λ (bs : List ℕ). bs ++ rest) c.bytes in
       ap (λ (bs : List ℕ). pieces (tokens_in lexer mode at 0 bs)) bytes
       ∙ (ap (λ (ts : List (Token P)). pieces ts) (tokens_with mode at c.first (c.others ++ rest)
       (record { piece = Some p; len = suc (length c.others) }) c.cut)
-      ∙ ap (λ (qs : List P). p ∷ qs) (ap (λ (ts : List (Token P)). pieces ts) (passed_over behind (at + 1) c.others rest)
+      ∙ ap (λ (qs : List P). p ∷ qs) (ap (λ (n : ℕ). pieces (tokens_in lexer behind (at + 1) n (c.others ++ rest))) less
+      ∙ ap (λ (ts : List (Token P)). pieces ts) (passed_over behind (at + 1) c.others rest)
       ∙ cut_apart behind (at + 1 + length c.others) ps cs))
 
   -- bytes that are spelled back, behind those that are passed over
@@ -51,7 +53,7 @@ module _ {P M : Type 0} (lexer : Lexer P M) (spelled : P → List ℕ) where
   spelled_back mode at (suc skip) (b ∷ bytes) h = spelled_back mode (at + 1) skip bytes h
   spelled_back mode at zero (b ∷ bytes) (s, h) =
       let l = lexer.lexeme_in mode b bytes in
-      let left : l.len - 1 ≡ s.some = ap (λ (n : ℕ). n - 1) s.len in
+      let left : l.len - 1 ≡ s.some = ap (λ (n : ℕ). n - 1) s.len ∙ omega arith in
       let rest = tokens_in lexer (lexer.mode_behind mode l.piece) (at + 1) (l.len - 1) bytes in
       let tail : spelled_all lexer spelled (pieces rest) ≡ drop s.some bytes =
           spelled_back (lexer.mode_behind mode l.piece) (at + 1) (l.len - 1) bytes h

@@ -1,6 +1,6 @@
 -- Texts of pieces that are written one behind the other: when they are cut apart again.
 use Rattle.std.specs.Prelude.{◌≡◌, ℕ, zero, suc, ◌-◌, List, [], ◌∷◌, ◌++◌, length, take, Some, ⊤}
-use Rattle.text_core.specs.Tokens.{Lexer, pieces, tokens_in}
+use Rattle.text_grammar.specs.text_core.Tokens.{Lexer, pieces, tokens_in}
 
 -- how texts are cut, and the bytes of each piece
 module _ {P M : Type 0} (lexer : Lexer P M) (spelled : P → List ℕ) where
