@@ -1,5 +1,3 @@
--- the first line
-pub mod CostLines
 -- small files worked out by hand
 pub mod WorkedTexts
 pub mod WorkedLimits

@@ -1,8 +1,8 @@
 -- Pieces that are cut apart are the pieces of their bytes, and the other way round.
 use Rattle.std.proofs.Common.{◌≡◌, ℕ, zero, suc, ◌+◌, ◌-◌, List, [], ◌∷◌, ◌++◌, length, take, drop, Option, Some, refl, ap}
-use Rattle.std.proofs.Common.{sym, subst, ◌∙◌, arith}
+use Rattle.std.proofs.Common.{subst, ◌∙◌, arith}
 use Rattle.text_grammar.specs.text_core.Tokens.{Lexeme, Lexer, Token, pieces, tokens_in, token_then}
-use Rattle.proof_text.specs.TokenTexts.{spelled_all, IsCut, AreCut, SpellsBack, AllSpellBack, TokensAreTexts}
+use Rattle.proof_text.specs.TokenTexts.{spelled_all, AreCut, AllSpellBack, TokensAreTexts}
 
 -- the first of some bytes, and the rest behind those that are passed over
 taken_and_rest : (n : ℕ) (bytes : List ℕ) → take n bytes ++ drop n bytes ≡ bytes
@@ -56,8 +56,8 @@ module _ {P M : Type 0} (lexer : Lexer P M) (spelled : P → List ℕ) where
       let left : l.len - 1 ≡ s.some = ap (λ (n : ℕ). n - 1) s.len ∙ omega arith in
       let rest = tokens_in lexer (lexer.mode_behind mode l.piece) (at + 1) (l.len - 1) bytes in
       let tail : spelled_all lexer spelled (pieces rest) ≡ drop s.some bytes =
-          spelled_back (lexer.mode_behind mode l.piece) (at + 1) (l.len - 1) bytes h
-          ∙ ap (λ (n : ℕ). drop n bytes) left in
+      spelled_back (lexer.mode_behind mode l.piece) (at + 1) (l.len - 1) bytes h
+      ∙ ap (λ (n : ℕ). drop n bytes) left in
       ap (λ (o : Option P). spelled_all lexer spelled (pieces (token_then at l.len o rest))) s.begins
       ∙ (ap (λ (bs : List ℕ). bs ++ spelled_all lexer spelled (pieces rest)) s.spells
       ∙ ap (λ (bs : List ℕ). b ∷ bs) (ap (λ (bs : List ℕ). take s.some bytes ++ bs) tail ∙ taken_and_rest s.some bytes))

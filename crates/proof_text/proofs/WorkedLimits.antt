@@ -80,8 +80,10 @@ second_spot = record { rule = counting_rule; numbered = refl; least = omega arit
 
 -- the four lemmas of the loop
 enter_within : IsProofWithin counting 0 1 rank_enter
-enter_within =
-    ((omega arith, record {
+enter_within = (
+  (
+    omega arith,
+    record {
       rule = first_rule;
       set = All-cons (IsRule counting) 1 [] first_rule (All-nil (IsRule counting));
       den = omega arith;
@@ -91,11 +93,16 @@ enter_within =
       some_move = omega arith;
       moves = All-cons AreInLimit [] [] no_multipliers (All-nil AreInLimit);
       floor = no_multipliers;
-    }), ((omega arith, tt), tt))
+    },
+  ),
+  ((omega arith, tt), tt),
+)
 
 loop_within : IsProofWithin counting 1 1 rank_loop
-loop_within =
-    ((omega arith, record {
+loop_within = (
+  (
+    omega arith,
+    record {
       rule = second_rule;
       set = All-cons (IsRule counting) 1 (2 ∷ []) first_rule
           (All-cons (IsRule counting) 2 [] second_rule (All-nil (IsRule counting)));
@@ -107,22 +114,38 @@ loop_within =
       moves = All-cons AreInLimit [] ((0 ∷ []) ∷ []) no_multipliers
           (All-cons AreInLimit (0 ∷ []) [] (one_multiplier 0 (omega arith)) (All-nil AreInLimit));
       floor = one_multiplier 1 (omega arith);
-    }), ((omega arith, tt), tt))
+    },
+  ),
+  ((omega arith, tt), tt),
+)
 
 size_enter_within : IsProofWithin counting 2 1 size_enter
-size_enter_within =
-    ((omega arith, small_member 1 first_spot (pos 1) (pos 0) (negsuc 0) (pos 0) [] []
-    (small_form (pos 1) (pos 0) (omega arith) (omega arith)) no_multipliers
-    (small_form (negsuc 0) (pos 0) (omega arith) (omega arith)) no_multipliers), ((omega arith, tt), tt))
+size_enter_within = (
+  (
+    omega arith,
+    small_member 1 first_spot (pos 1) (pos 0) (negsuc 0) (pos 0) [] []
+        (small_form (pos 1) (pos 0) (omega arith) (omega arith)) no_multipliers
+        (small_form (negsuc 0) (pos 0) (omega arith) (omega arith)) no_multipliers,
+  ),
+  ((omega arith, tt), tt),
+)
 
 size_loop_within : IsProofWithin counting 3 1 size_loop
-size_loop_within =
-    ((omega arith, (omega arith, All-cons (IsMemberWithin counting)
-    (member 2 (form (pos 1) (pos 0)) (0 ∷ []) (form (pos 0) (pos 0)) (1 ∷ [])) []
-    (small_member 2 second_spot (pos 1) (pos 0) (pos 0) (pos 0) (0 ∷ []) (1 ∷ [])
-    (small_form (pos 1) (pos 0) (omega arith) (omega arith)) (one_multiplier 0 (omega arith))
-    (small_form (pos 0) (pos 0) (omega arith) (omega arith)) (one_multiplier 1 (omega arith)))
-    (All-nil (IsMemberWithin counting)))), ((omega arith, (omega arith, omega arith)), tt))
+size_loop_within = (
+  (
+    omega arith,
+    (
+      omega arith,
+      All-cons (IsMemberWithin counting)
+          (member 2 (form (pos 1) (pos 0)) (0 ∷ []) (form (pos 0) (pos 0)) (1 ∷ [])) []
+          (small_member 2 second_spot (pos 1) (pos 0) (pos 0) (pos 0) (0 ∷ []) (1 ∷ [])
+          (small_form (pos 1) (pos 0) (omega arith) (omega arith)) (one_multiplier 0 (omega arith))
+          (small_form (pos 0) (pos 0) (omega arith) (omega arith)) (one_multiplier 1 (omega arith)))
+          (All-nil (IsMemberWithin counting)),
+    ),
+  ),
+  ((omega arith, (omega arith, omega arith)), tt),
+)
 
 -- nested nodes are within 64 levels, and not beyond
 nested_within : (n level : ℕ) → level + n ≤ level_limit → IsProofWithin counting 0 level (nested n)
@@ -172,11 +195,17 @@ limits_told = record {
   place_behind = λ h. past 2 1 (omega arith) h.most;
   no_symbol = λ h. past 3 2 (omega arith) h.symbol;
   no_member = λ h. past 1 0 (omega arith) h.0.1.0;
-  bound = ((omega arith, record {
-    tidy = (omega arith, tt);
-    listed = (tt, omega arith);
-    within = record { levels = omega arith; nodes = omega arith; bases = (omega arith, tt) };
-  }), (omega arith, tt));
+  bound = (
+    (
+      omega arith,
+      record {
+        tidy = (omega arith, tt);
+        listed = (tt, omega arith);
+        within = record { levels = omega arith; nodes = omega arith; bases = (omega arith, tt) };
+      },
+    ),
+    (omega arith, tt),
+  );
   small_base = λ h. past 2 1 (omega arith) h.0.1.tidy.0;
   no_input = λ h. past 2 1 (omega arith) h.0.1.listed;
 }

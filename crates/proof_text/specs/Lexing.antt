@@ -15,7 +15,6 @@ use Rattle.text_grammar.specs.text_core.Bytes.{has_leading_zero, value_up_to}
 use Rattle.text_grammar.specs.text_core.Tokens.{Token, Lexeme, Lexer, tokens_in}
 use Rattle.proof_text.specs.declared.piece.Word.{Word}
 use Rattle.proof_text.specs.declared.piece.Word.TheVariants as word
-use Rattle.proof_text.specs.declared.piece.Sign.{Sign}
 use Rattle.proof_text.specs.declared.piece.Sign.TheVariants as sign
 use Rattle.proof_text.specs.declared.piece.Behind.{Behind}
 use Rattle.proof_text.specs.declared.piece.Behind.TheVariants as behind

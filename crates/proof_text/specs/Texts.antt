@@ -1,7 +1,6 @@
 -- The text of a proof file: one line for each lemma and for each gap, between a first line and a last one.
 use Rattle.std.specs.Prelude.{ℕ, Bool, true, false, ◌||◌, if◌then◌else◌, List, [], ◌∷◌, ◌++◌, map, Option, Some, None}
 use Rattle.std.specs.Prelude.{slice_get, codes, decimal}
-use Rattle.std.specs.List.{list_any}
 use Rattle.std.specs.Fmt.{signed_decimal}
 use Rattle.bound_text.specs.Texts.{text_of as text_of_bound}
 use Rattle.proof_tree.specs.rule_forms.linear_forms.Forms.{Form}
@@ -114,9 +113,14 @@ abbrev mutual
   have_cost NoProof = false
   have_cost (AndProof proof uses) = has_cost proof || have_cost uses
 
+-- of one of these lemmas
+abbrev pub some_has_cost : List Proof → Bool
+some_has_cost [] = false
+some_has_cost (lemma ∷ lemmas) = has_cost lemma || some_has_cost lemmas
+
 -- the first line says whether there are nodes on costs
 abbrev pub first_line : List Proof → List ℕ
-first_line lemmas = if list_any has_cost lemmas then codes "koat-proof 2\n" else codes "koat-proof 1\n"
+first_line lemmas = if some_has_cost lemmas then codes "koat-proof 2\n" else codes "koat-proof 1\n"
 
 -- a line for each lemma
 abbrev pub lemma_lines : Program → List Proof → List ℕ

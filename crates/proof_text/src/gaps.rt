@@ -99,11 +99,7 @@ fn push_shut(text: &mut Vec<u8>, p: &Program, shut: &[(u32, u32)]) -> Result<(),
 }
 
 // The places, with a blank between them.
-fn push_joined_places(
-    text: &mut Vec<u8>,
-    p: &Program,
-    places: &[(u32, u32)],
-) -> Result<(), Memory>
+fn push_joined_places(text: &mut Vec<u8>, p: &Program, places: &[(u32, u32)]) -> Result<(), Memory>
     ensures { OnOk result (text.new.items ≡ text.old.items
         ++ joined (codes " ") (map (place_text (program_of p.now)) (map shut_of places.now))) }
 {

@@ -3,11 +3,11 @@
 use class::{
     BLANK, CITE, CLOSE, CLOSE_BRACE, CLOSE_SQUARE, COST, CYCLE, DEN, DOT, EMPTY, END, FLOOR, FORMS,
     GAP, IN_BOUND, KEPT, KOAT, LEMMA, LIN, LINE_FEED, LOW, MINUS, MORE, MOVES, NEVER, ONE, OPEN,
-    OPEN_BRACE, OPEN_SQUARE, OTHER, PLACE, POLY, RANK, SEMICOLON, SET, SHUT, SPREAD, START, TO, TWO,
-    UNREACHED, UP, USES, WEAKEN, ZERO,
+    OPEN_BRACE, OPEN_SQUARE, OTHER, PLACE, POLY, RANK, SEMICOLON, SET, SHUT, SPREAD, START, TO,
+    TWO, UNREACHED, UP, USES, WEAKEN, ZERO,
 };
 use made::{
-    ARM, BEHIND_NUMBER, BOUND, BY, FORM, FORM_LIST, GAPS, GAP_PARTS, INTEGER, INTEGERS, LEMMAS,
+    ARM, BEHIND_NUMBER, BOUND, BY, FORM, FORM_LIST, GAP_PARTS, GAPS, INTEGER, INTEGERS, LEMMAS,
     LIST_NUMBER, MEMBER, MEMBERS, MORE_FORMS, MORE_INTEGERS, MORE_MOVES, MORE_NUMBERS, MORE_PLACES,
     MORE_POINTS, MORE_RULES, MORE_USED, MOVE_LIST, NAME, NUMBER, NUMBERS, PARTS, PLAIN, POINT,
     POINTS, POSITIVE, PROOF, RESTS, RULE, RULES, SET_RULE, SOME_NUMBERS, SOME_PLACES, SOME_RULES,
@@ -18,7 +18,7 @@ use text_grammar::Item::{self, AMade, AMark, APiece, End, Or};
 /// How many classes of pieces there are.
 pub const CLASSES: u32 = 46;
 /// After how many rounds the table is whole.
-pub const ROUNDS: u32 = 16;
+pub const ROUNDS: u32 = 6;
 
 // The classes of pieces: the first word, the other words, other names, numbers, blanks and line feeds, brackets and
 // what stands between, places of symbols, the pieces of bounds, and, behind

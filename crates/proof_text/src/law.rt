@@ -9,9 +9,8 @@ pub fn worked_texts_hold()
     ensures { WorkedTexts }
 {}
 
-/// The grammar of proof files can be read from front to back with one piece ahead and its texts are lawful; how small
-/// beginnings are cut into pieces, and where they break off, is what was worked out by hand. It has no code: its
-/// contract is the law.
+/// Each piece of a proof file has a class of the grammar, and how small beginnings are cut into pieces, and where they
+/// break off, is what was worked out by hand. It has no code: its contract is the law.
 pub fn worked_breaks_hold()
     ensures { ReadingIsTold }
 {}

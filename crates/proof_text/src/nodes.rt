@@ -11,15 +11,11 @@ use crate::numbers::{push_each_before, push_number, push_numbers, push_rules, pu
 use its_model::{Program, Symbol};
 use model::Memory;
 use proof_tree::{
-    Arm, CostBy, CostNode, EmptyNode, Form, LocalBound, Member, RankNode, SpreadNode, Spot,
+    Arm, CostBy, CostNode, EmptyNode, Form, LocalBound, Member, RankNode, Spot, SpreadNode,
 };
 
 /// The name of a symbol.
-pub(crate) fn push_name(
-    text: &mut Vec<u8>,
-    symbols: &[Symbol],
-    symbol: u32,
-) -> Result<(), Memory>
+pub(crate) fn push_name(text: &mut Vec<u8>, symbols: &[Symbol], symbol: u32) -> Result<(), Memory>
     ensures { OnOk result
         (text.new.items ≡ text.old.items ++ name_in (slice_get (map symbol_of symbols.now) symbol)) }
 {
@@ -100,11 +96,7 @@ fn push_local(text: &mut Vec<u8>, local: &LocalBound) -> Result<(), Memory>
 }
 
 // A rule and a place with their local bound.
-fn push_member(
-    text: &mut Vec<u8>,
-    spot: Spot,
-    local: &LocalBound,
-) -> Result<(), Memory>
+fn push_member(text: &mut Vec<u8>, spot: Spot, local: &LocalBound) -> Result<(), Memory>
     ensures { OnOk result (text.new.items ≡ text.old.items
         ++ member_text (record { spot = spot_of spot; local = local_of local.now })) }
 {

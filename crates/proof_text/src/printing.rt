@@ -9,7 +9,7 @@ ghost use Rattle.proof_text.specs.Listed.{IsListed};
 ghost use Rattle.proof_text.specs.Texts.{first_line, gap_lines, lemma_lines, text_of};
 
 use crate::gaps::push_gap;
-use crate::trees::{push_proof, some_has_cost};
+use crate::trees::{any_has_cost, push_proof};
 use its_model::Program;
 use model::Memory;
 use proof_tree::{Gap, Proof, ProofFile};
@@ -35,11 +35,10 @@ pub fn print(alloc: Global, p: &Program, f: &ProofFile) -> Result<Vec<u8>, Memor
 }
 
 // The first line.
-#[tactic(auto, using(crate::proofs::CostLines::any_cost))]
 fn push_first_line(text: &mut Vec<u8>, lemmas: &[Proof]) -> Result<(), Memory>
     ensures { OnOk result (text.new.items ≡ text.old.items ++ first_line (map proof_of lemmas.now)) }
 {
-    if some_has_cost(lemmas) {
+    if any_has_cost(lemmas) {
         text.extend_from_slice(b"koat-proof 2\n")
     } else {
         text.extend_from_slice(b"koat-proof 1\n")

@@ -8,6 +8,7 @@ ghost use Rattle.proof_tree.specs.bound_expr.Views.{bound_of};
 ghost use Rattle.proof_tree.specs.proof_nodes.Nodes.{Never, Weaken};
 ghost use Rattle.proof_text.specs.Listed.{AreListed, IsListed};
 ghost use Rattle.proof_text.specs.Texts.{has_cost as has_cost_node, have_cost, node_text, uses_text};
+ghost use Rattle.proof_text.specs.Texts.{some_has_cost as some_has_cost_of};
 
 use crate::nodes::{push_cost, push_cycle, push_empty, push_named, push_rank, push_spread};
 use bound_expr::Bound;
@@ -66,12 +67,7 @@ fn push_never(text: &mut Vec<u8>, p: &Program, child: &Proof) -> Result<(), Memo
 
 // A fact with another bound.
 #[cycle(write_proof)]
-fn push_weaken(
-    text: &mut Vec<u8>,
-    p: &Program,
-    child: &Proof,
-    bound: &Bound,
-) -> Result<(), Memory>
+fn push_weaken(text: &mut Vec<u8>, p: &Program, child: &Proof, bound: &Bound) -> Result<(), Memory>
     requires child { IsListed (length p.now.start_names.items) (proof_of child.now) }
     requires bound { ReadsBelow (length p.now.start_names.items) (bound_of bound.now) }
     ensures { OnOk result (text.new.items ≡ text.old.items
@@ -118,13 +114,25 @@ pub(crate) fn has_cost(proof: &Proof) -> bool
     }
 }
 
-/// Whether one of these has such a node.
+// Whether one of these has such a node.
 #[cycle(search_costs)]
-pub(crate) fn some_has_cost(proofs: &[Proof]) -> bool
+fn some_has_cost(proofs: &[Proof]) -> bool
     ensures { result ≡ have_cost (uses_of (map proof_of proofs.now)) }
 {
     for proof in proofs {
         if has_cost(proof) {
+            return true;
+        }
+    }
+    false
+}
+
+/// Whether one of these lemmas has such a node.
+pub(crate) fn any_has_cost(lemmas: &[Proof]) -> bool
+    ensures { result ≡ some_has_cost_of (map proof_of lemmas.now) }
+{
+    for lemma in lemmas {
+        if has_cost(lemma) {
             return true;
         }
     }

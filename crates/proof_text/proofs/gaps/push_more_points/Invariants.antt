@@ -1,4 +1,4 @@
-use Rattle.std.proofs.Common.{◌≡◌, ◌+◌, ◌++◌, map, drop, codes}
+use Rattle.std.proofs.Common.{◌≡◌, ◌++◌, map, drop, codes}
 use Rattle.proof_tree.specs.AnswerViews.{scaled_of}
 use Rattle.proof_text.specs.Lists.{each_behind}
 use Rattle.proof_text.specs.Texts.{point_text}

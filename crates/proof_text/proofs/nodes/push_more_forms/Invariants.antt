@@ -1,4 +1,4 @@
-use Rattle.std.proofs.Common.{◌≡◌, ◌+◌, ◌++◌, map, drop, codes}
+use Rattle.std.proofs.Common.{◌≡◌, ◌++◌, map, drop, codes}
 use Rattle.its_model.specs.Views.{program_of}
 use Rattle.proof_tree.specs.Views.{form_of}
 use Rattle.proof_text.specs.Lists.{each_behind}

@@ -1,4 +1,4 @@
-use Rattle.std.proofs.Common.{◌≡◌, ◌+◌, ◌++◌, map, drop, codes}
+use Rattle.std.proofs.Common.{◌≡◌, ◌++◌, map, drop, codes}
 use Rattle.proof_text.specs.Lists.{each_behind, numbers_text}
 use Rattle.proof_text.proofs.nodes.push_more_moves.Given as goal
 

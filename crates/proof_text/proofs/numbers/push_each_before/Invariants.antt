@@ -1,4 +1,4 @@
-use Rattle.std.proofs.Common.{◌≡◌, ◌+◌, ◌++◌, map, drop, codes}
+use Rattle.std.proofs.Common.{◌≡◌, ◌++◌, drop}
 use Rattle.proof_text.specs.Lists.{each_before}
 use Rattle.proof_text.proofs.numbers.push_each_before.Given as goal
 

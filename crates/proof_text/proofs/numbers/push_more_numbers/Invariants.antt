@@ -1,4 +1,4 @@
-use Rattle.std.proofs.Common.{◌≡◌, ◌+◌, ◌++◌, map, drop, codes}
+use Rattle.std.proofs.Common.{◌≡◌, ◌++◌, map, drop, codes}
 use Rattle.std.specs.Prelude.{decimal}
 use Rattle.proof_text.specs.Lists.{each_behind}
 use Rattle.proof_text.proofs.numbers.push_more_numbers.Given as goal

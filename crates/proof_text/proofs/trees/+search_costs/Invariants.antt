@@ -1,4 +1,4 @@
-use Rattle.std.proofs.Common.{◌≡◌, ◌+◌, map, drop}
+use Rattle.std.proofs.Common.{◌≡◌, map, drop}
 use Rattle.proof_tree.specs.Views.{proof_of, uses_of}
 use Rattle.proof_text.specs.Texts.{have_cost}
 use Rattle.proof_text.proofs.trees.+search_costs.Given as goal

@@ -1,4 +1,4 @@
-use Rattle.std.proofs.Common.{◌≡◌, ◌+◌, ◌++◌, length, map, drop, codes}
+use Rattle.std.proofs.Common.{◌≡◌, ◌++◌, length, map, drop, codes}
 use Rattle.its_model.specs.Views.{program_of}
 use Rattle.proof_tree.specs.Views.{proof_of, uses_of}
 use Rattle.proof_text.specs.Listed.{AreListed}
