@@ -1,5 +1,6 @@
 -- small files worked out by hand
 pub mod WorkedTexts
 pub mod WorkedLimits
+pub mod ReadableGrammar
 pub mod WorkedBreaks
 pub mod TokenTextLaws

@@ -1,5 +1,5 @@
 -- How small beginnings of proof files are cut, and where they break off.
-use Rattle.std.proofs.Common.{ℕ, ◌<◌, Bool, true, false, cond, refl, lit<}
+use Rattle.std.proofs.Common.{ℕ, ◌<◌, Bool, true, false, cond, refl, arith, lit<}
 use Rattle.std.specs.Prelude.{◌==◌}
 use Rattle.proof_text.specs.declared.piece.Word.{Word}
 use Rattle.proof_text.specs.declared.piece.Word.TheVariants as word
@@ -8,7 +8,9 @@ use Rattle.proof_text.specs.declared.piece.Sign.TheVariants as sign
 use Rattle.proof_text.specs.declared.piece.Piece.{Piece}
 use Rattle.proof_text.specs.declared.piece.Piece.TheVariants.{First, Name, Number, Sign as ASign, Place, InBound, Wrong}
 use Rattle.proof_text.specs.Grammar.{class_of, class_of_word, class_of_sign, class_of_number}
-use Rattle.proof_text.specs.WorkedReading.{CutsAreTold, BreaksAreTold, ReadingIsTold}
+use Rattle.text_grammar.specs.Texts.{IsLawful}
+use Rattle.proof_text.specs.WorkedReading.{bare, CutsAreTold, BreaksAreTold, ReadingIsTold}
+use Rattle.proof_text.proofs.ReadableGrammar.{readable}
 
 -- each piece has one of the classes
 word_classed : (w : Word) → class_of_word w < 46
@@ -71,6 +73,18 @@ classed (Place symbol b) = lit< tt
 classed (InBound piece) = lit< tt
 classed Wrong = lit< tt
 
+-- texts of the grammar are lawful
+lawful : IsLawful bare
+lawful = record {
+  readable = readable;
+  classed = classed;
+  differ = λ a b e. e;
+  floor_next = λ es at. omega arith;
+  floor_shown = λ es t y a. absurd a;
+  floor_did = λ es m at. omega arith;
+  floor_read = λ es t at some behind. omega (arith, some, behind);
+}
+
 -- what bytes are cut into
 cuts : CutsAreTold
 cuts = record {
@@ -113,4 +127,4 @@ breaks = record {
 
 -- all of it
 pub reading_told : ReadingIsTold
-reading_told = record { classed = classed; cuts = cuts; breaks = breaks }
+reading_told = record { readable = readable; lawful = lawful; cuts = cuts; breaks = breaks }

@@ -1,8 +1,9 @@
 -- Where proof files break off, worked out by hand on both sides; references and limits aside.
-use Rattle.std.specs.Prelude.{◌≡◌, ℕ, ◌<◌, List, [], ◌∷◌, length, codes, ⊤}
+use Rattle.std.specs.Prelude.{◌≡◌, ℕ, true, List, [], ◌∷◌, length, codes, ⊤}
 use Rattle.text_grammar.specs.text_core.Tokens.{pieces}
 use Rattle.text_grammar.specs.text_core.Reading.{Answer, Stands, Refused, answer}
-use Rattle.text_grammar.specs.Texts.{Text, reader}
+use Rattle.text_grammar.specs.Sounding.{is_readable}
+use Rattle.text_grammar.specs.Texts.{Text, IsLawful, reader}
 use Rattle.bound_text.specs.declared.piece.Piece.TheVariants as bound
 use Rattle.proof_text.specs.declared.piece.Word.TheVariants as word
 use Rattle.proof_text.specs.declared.piece.Sign.TheVariants as sign
@@ -92,8 +93,9 @@ pub record BreaksAreTold : Type 0 where
   pub minus_zero : BreaksOffAt (codes "koat-proof 1\nlemma spread 1.1 up lin 1 [-0]") 41
   pub no_constant : BreaksOffAt (codes "koat-proof 1\nlemma spread 1.1 up lin 1 []") 40
 
--- each piece has a class, and this is how texts are cut and where they break off
+-- the grammar can be read, texts of it are lawful, and this is how they are cut and where they break off
 pub record ReadingIsTold : Type 0 where
-  pub classed : (piece : Piece) → proof_grammar.class_of piece < proof_grammar.classes
+  pub readable : is_readable proof_grammar ≡ true
+  pub lawful : IsLawful bare
   pub cuts : CutsAreTold
   pub breaks : BreaksAreTold

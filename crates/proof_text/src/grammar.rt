@@ -18,7 +18,7 @@ use text_grammar::Item::{self, AMade, AMark, APiece, End, Or};
 /// How many classes of pieces there are.
 pub const CLASSES: u32 = 46;
 /// After how many rounds the table is whole.
-pub const ROUNDS: u32 = 6;
+pub const ROUNDS: u32 = 5;
 
 // The classes of pieces: the first word, the other words, other names, numbers, blanks and line feeds, brackets and
 // what stands between, places of symbols, the pieces of bounds, and, behind
