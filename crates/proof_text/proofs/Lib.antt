@@ -3,4 +3,6 @@ pub mod WorkedTexts
 pub mod WorkedLimits
 pub mod ReadableGrammar
 pub mod WorkedBreaks
+pub mod WorkedFaults
+pub mod Lawful
 pub mod TokenTextLaws

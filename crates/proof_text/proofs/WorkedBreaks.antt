@@ -64,13 +64,13 @@ number_classed n = go (n == 0) (n == 1) (n == 2)
     go false false true = lit< tt
     go false false false = lit< tt
 
-classed : (piece : Piece) → class_of piece < 46
+pub classed : (piece : Piece) → class_of piece < 46
 classed First = lit< tt
 classed (Name w symbol) = word_classed w
 classed (Number n) = number_classed n
 classed (ASign s) = sign_classed s
 classed (Place symbol b) = lit< tt
-classed (InBound piece) = lit< tt
+classed (InBound piece len last) = lit< tt
 classed Wrong = lit< tt
 
 -- texts of the grammar are lawful
@@ -98,6 +98,8 @@ cuts = record {
   places = refl;
   closed = refl;
   behind_bound = refl;
+  ended = refl;
+  open_end = refl;
   to_alone = refl;
 }
 

@@ -174,6 +174,15 @@ limits_told = record {
   lemma_zero = λ h. past 1 0 (omega arith) h.1.0;
   levels = nested_within 63 1 (omega arith);
   one_deeper = nested_beyond 64 1 (omega arith);
+  lemmas = λ lemmas within few. record {
+    lemmas = within;
+    few_lemmas = few;
+    gaps = All-nil (IsGapWithin counting);
+    few_gaps = omega arith;
+  };
+  too_many_lemmas = λ lemmas many h. let few = h.few_lemmas in past 100001 100000 (omega arith) (omega (arith, many, few));
+  gaps = λ gaps within few. record { lemmas = tt; few_lemmas = omega arith; gaps = within; few_gaps = few };
+  too_many_gaps = λ gaps many h. let few = h.few_gaps in past 1001 1000 (omega arith) (omega (arith, many, few));
   rule_zero = λ h. no_rule_zero h.0.1;
   last_rule = ((omega arith, second_rule), tt);
   rule_behind = λ h. no_third_rule h.0.1;
@@ -207,5 +216,7 @@ limits_told = record {
     (omega arith, tt),
   );
   small_base = λ h. past 2 1 (omega arith) h.0.1.tidy.0;
+  too_many_nodes = λ b many h. let few = h.within.nodes in past 4097 4096 (omega arith) (omega (arith, many, few));
+  too_many_levels = λ b many h. let few = h.within.levels in past 201 200 (omega arith) (omega (arith, many, few));
   no_input = λ h. past 2 1 (omega arith) h.0.1.listed;
 }

@@ -1,5 +1,5 @@
 -- The grammar of proof files, and the classes of their pieces.
-use Rattle.std.specs.Prelude.{ℕ, ◌==◌, if◌then◌else◌, List, [], ◌∷◌, ◌++◌, slice_index_or, map}
+use Rattle.std.specs.Prelude.{ℕ, false, ◌==◌, if◌then◌else◌, List, [], ◌∷◌, ◌++◌, slice_index_or, map}
 use Rattle.bound_text.specs.declared.piece.Piece.TheVariants as bound
 use Rattle.text_grammar.specs.Grammars.{Grammar, rules_of}
 use Rattle.proof_text.specs.declared.piece.Word.{Word}
@@ -66,7 +66,7 @@ class_of (Name w symbol) = class_of_word w
 class_of (Number n) = class_of_number n
 class_of (ASign s) = class_of_sign s
 class_of (Place symbol b) = 43
-class_of (InBound piece) = 44
+class_of (InBound piece len last) = 44
 class_of Wrong = 45
 
 -- the words, and the bytes that stand alone
@@ -86,7 +86,7 @@ signs =
 abbrev pub samples : List Piece
 samples =
     First ∷ (map (λ w. Name w 0) words ++ (Number 0 ∷ Number 1 ∷ Number 2 ∷ Number 3 ∷ (map ASign signs
-    ++ (Place 0 behind.Nothing ∷ InBound bound.Plus ∷ Wrong ∷ []))))
+    ++ (Place 0 behind.Nothing ∷ InBound bound.Plus 1 false ∷ Wrong ∷ []))))
 
 -- the grammar
 abbrev pub proof_grammar : Grammar Piece

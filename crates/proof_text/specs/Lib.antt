@@ -5,7 +5,14 @@ pub mod Listed
 pub mod Spelled
 pub mod Grammar
 pub mod Lexing
+pub mod Found
+pub mod Within
+pub mod Remembered
+pub mod Against
+pub mod Reading
+pub mod Told
 -- values that were worked out by hand
 pub mod Worked
 pub mod WorkedReading
+pub mod WorkedFaults
 pub mod TokenTexts

@@ -1,8 +1,10 @@
 -- Small proof files and their texts, and what is within the limits, worked out by hand on both sides.
-use Rattle.std.specs.Prelude.{◌≡◌, ℕ, zero, suc, ◌+◌, ◌^◌, ◌-◌, List, [], ◌∷◌, ◌++◌, ℤ, pos, negsuc, None, codes}
+use Rattle.std.specs.Prelude.{◌≡◌, ℕ, zero, suc, ◌+◌, ◌^◌, ◌-◌, ◌≤◌, List, [], ◌∷◌, ◌++◌, length, All, ℤ, pos, negsuc}
+use Rattle.std.specs.Prelude.{None, codes}
 use Rattle.its_model.specs.model.Terms.{Term, Literal, Variable, Subtraction}
 use Rattle.its_model.specs.model.Programs.{AtLeast, Atom, Compare, Rule, Program}
 use Rattle.its_model.specs.model.Bounds.{Bound, Constant, Input, SumOf, ProductOf, PowerOf, Parts, NoParts, Part}
+use Rattle.proof_tree.specs.bound_expr.Measure.{node_count, depth_of}
 use Rattle.proof_tree.specs.rule_forms.linear_forms.Forms.{Form}
 use Rattle.proof_tree.specs.proof_nodes.Nodes.{Linear, Poly, Member, SymbolForm}
 use Rattle.proof_tree.specs.proof_nodes.Nodes.{EmptyCost, NeverCost, ArmCost}
@@ -10,7 +12,8 @@ use Rattle.proof_tree.specs.proof_nodes.Nodes.{Proof, Cite, Start, Empty, Unreac
 use Rattle.proof_tree.specs.proof_nodes.Nodes.{Weaken, Charge, Proofs, NoProof, AndProof}
 use Rattle.proof_tree.specs.proof_nodes.Gaps.{ScaledPoint, SymbolPlace, Gap, ProofFile}
 use Rattle.proof_text.specs.Texts.{text_of}
-use Rattle.proof_text.specs.Spelled.{IsFileWithin, IsProofWithin, IsArmWithin, IsPointWithin, IsPlaceOf}
+use Rattle.proof_text.specs.Spelled.{IsFileWithin, AreLemmasWithin, IsProofWithin, IsArmWithin, IsPointWithin}
+use Rattle.proof_text.specs.Spelled.{IsPlaceOf, IsGapWithin, IsBoundWithin}
 
 -- a rule from a symbol to l1 with one variable A
 abbrev pub rule_from : ℕ → Term → List Atom → Rule
@@ -209,6 +212,15 @@ pub record LimitsAreTold : Type 0 where
   -- 64 levels, and one more
   pub levels : IsLemma 0 (nested 63)
   pub one_deeper : ¬ (IsLemma 0 (nested 64))
+  -- 100,000 lemmas and 1,000 gaps, and one more
+  pub lemmas : (lemmas : List Proof) → AreLemmasWithin counting 0 lemmas → length lemmas ≤ 100000
+      → IsFileWithin counting (file_of_lemmas lemmas)
+  pub too_many_lemmas : (lemmas : List Proof) → length lemmas ≡ 100001
+      → ¬ (IsFileWithin counting (file_of_lemmas lemmas))
+  pub gaps : (gaps : List Gap) → All (IsGapWithin counting) gaps → length gaps ≤ 1000
+      → IsFileWithin counting (record { lemmas = []; gaps = gaps })
+  pub too_many_gaps : (gaps : List Gap) → length gaps ≡ 1001
+      → ¬ (IsFileWithin counting (record { lemmas = []; gaps = gaps }))
   -- rules are numbered from 1
   pub rule_zero : ¬ (IsLemma 0 (Unreached 0 NoProof))
   pub last_rule : IsLemma 0 (Unreached 2 NoProof)
@@ -231,6 +243,9 @@ pub record LimitsAreTold : Type 0 where
   -- bounds are tidy, and over the start arguments
   pub bound : IsLemma 0 (Weaken Start (power 2))
   pub small_base : ¬ (IsLemma 0 (Weaken Start (power 1)))
+  -- a bound has at most 4,096 nodes and 200 levels
+  pub too_many_nodes : (b : Bound) → node_count b ≡ 4097 → ¬ (IsBoundWithin counting b)
+  pub too_many_levels : (b : Bound) → depth_of b ≡ 201 → ¬ (IsBoundWithin counting b)
   pub no_input : ¬ (IsLemma 0 (Weaken Start (Input 1)))
 
 -- both

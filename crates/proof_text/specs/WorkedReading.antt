@@ -1,5 +1,5 @@
 -- Where proof files break off, worked out by hand on both sides; references and limits aside.
-use Rattle.std.specs.Prelude.{◌≡◌, ℕ, true, List, [], ◌∷◌, length, codes, ⊤}
+use Rattle.std.specs.Prelude.{◌≡◌, ℕ, true, false, List, [], ◌∷◌, length, codes, ⊤}
 use Rattle.text_grammar.specs.text_core.Tokens.{pieces}
 use Rattle.text_grammar.specs.text_core.Reading.{Answer, Stands, Refused, answer}
 use Rattle.text_grammar.specs.Sounding.{is_readable}
@@ -62,13 +62,20 @@ pub record CutsAreTold : Type 0 where
   -- a bound behind `) to `, up to a bracket that closes none of its own
   pub closed : IsCutInto (codes ") to 2^(A))")
       (ASign sign.Close ∷ ASign sign.Blank ∷ Name word.To 2 ∷ ASign sign.Blank
-      ∷ InBound (bound.Number 2) ∷ InBound bound.Caret ∷ InBound bound.Open ∷ InBound (bound.Variable 0)
-      ∷ InBound bound.Close ∷ ASign sign.Close ∷ [])
+      ∷ InBound (bound.Number 2) 1 false ∷ InBound bound.Caret 1 false ∷ InBound bound.Open 1 false
+      ∷ InBound (bound.Variable 0) 1 false ∷ InBound bound.Close 1 true ∷ ASign sign.Close ∷ [])
   pub behind_bound : IsCutInto (codes ") to max(A, 1); A")
       (ASign sign.Close ∷ ASign sign.Blank ∷ Name word.To 2 ∷ ASign sign.Blank
-      ∷ InBound bound.Maximum ∷ InBound (bound.Variable 0) ∷ InBound bound.Comma ∷ InBound bound.Blank
-      ∷ InBound (bound.Number 1) ∷ InBound bound.Close ∷ ASign sign.Semicolon ∷ ASign sign.Blank
+      ∷ InBound bound.Maximum 4 false ∷ InBound (bound.Variable 0) 1 false ∷ InBound bound.Comma 1 false
+      ∷ InBound bound.Blank 1 false ∷ InBound (bound.Number 1) 1 false ∷ InBound bound.Close 1 true ∷ ASign sign.Semicolon ∷ ASign sign.Blank
       ∷ Name word.Other 2 ∷ [])
+  -- the end of the text ends it too
+  pub ended : IsCutInto (codes ") to A)")
+      (ASign sign.Close ∷ ASign sign.Blank ∷ Name word.To 2 ∷ ASign sign.Blank
+      ∷ InBound (bound.Variable 0) 1 true ∷ ASign sign.Close ∷ [])
+  pub open_end : IsCutInto (codes ") to (A")
+      (ASign sign.Close ∷ ASign sign.Blank ∷ Name word.To 2 ∷ ASign sign.Blank
+      ∷ InBound bound.Open 1 false ∷ InBound (bound.Variable 0) 1 true ∷ [])
   pub to_alone : IsCutInto (codes "to A") (Name word.To 2 ∷ ASign sign.Blank ∷ Name word.Other 2 ∷ [])
 
 -- where texts break off; the first byte behind `koat-proof 1` and its line feed is byte 13, and `lemma ` ends at 19

@@ -24,7 +24,7 @@ pub const ROUNDS: u32 = 5;
 // what stands between, places of symbols, the pieces of bounds, and, behind
 // all, what is no piece of a proof file.
 #[rattlefmt::skip]
-mod class {
+pub mod class {
     pub const KOAT: u32 = 0; pub const LEMMA: u32 = 1; pub const GAP: u32 = 2; pub const END: u32 = 3;
     pub const CITE: u32 = 4; pub const START: u32 = 5; pub const EMPTY: u32 = 6; pub const UNREACHED: u32 = 7;
     pub const NEVER: u32 = 8; pub const RANK: u32 = 9; pub const SPREAD: u32 = 10; pub const CYCLE: u32 = 11;
@@ -37,7 +37,7 @@ mod class {
     pub const CLOSE_SQUARE: u32 = 35; pub const OPEN_BRACE: u32 = 36; pub const CLOSE_BRACE: u32 = 37;
     pub const OPEN: u32 = 38; pub const CLOSE: u32 = 39; pub const SEMICOLON: u32 = 40;
     pub const DOT: u32 = 41; pub const MINUS: u32 = 42; pub const PLACE: u32 = 43;
-    pub const IN_BOUND: u32 = 44;
+    pub const IN_BOUND: u32 = 44; pub const WRONG: u32 = 45;
 }
 
 // The nonterminals.
@@ -58,94 +58,25 @@ mod made {
     pub const BEHIND_NUMBER: u32 = 39; pub const BOUND: u32 = 40; pub const NAME: u32 = 41;
 }
 
-/// The first line has a 1.
-pub const FIRST_VERSION: u32 = 0;
-/// The first line has a 2.
-pub const SECOND_VERSION: u32 = 1;
-/// A lemma was read.
-pub const LEMMA_READ: u32 = 2;
-/// A gap was read.
-pub const GAP_READ: u32 = 3;
-/// A node begins, one level deeper than what is open.
-pub const NODE_BEGINS: u32 = 4;
-/// The number of a lemma comes next.
-pub const LEMMA_COMES: u32 = 5;
-/// A node `cite` was read.
-pub const CITE_READ: u32 = 6;
-/// A node `start` was read.
-pub const START_READ: u32 = 7;
-/// A node `empty` was read.
-pub const EMPTY_READ: u32 = 8;
-/// A node `unreached` was read.
-pub const UNREACHED_READ: u32 = 9;
-/// A node `never` was read.
-pub const NEVER_READ: u32 = 10;
-/// A node `rank` was read.
-pub const RANK_READ: u32 = 11;
-/// A node `spread` was read.
-pub const SPREAD_READ: u32 = 12;
-/// A node `cycle` was read.
-pub const CYCLE_READ: u32 = 13;
-/// A node `weaken` was read.
-pub const WEAKEN_READ: u32 = 14;
-/// A node `cost` was read.
-pub const COST_READ: u32 = 15;
-/// What a node rests on begins.
-pub const USES_BEGIN: u32 = 16;
-/// What a node rests on was read.
-pub const USES_READ: u32 = 17;
-/// The number of a rule comes next.
-pub const RULE_COMES: u32 = 18;
-/// It is that of a node or of a place.
-pub const RULE_READ: u32 = 19;
-/// A natural number comes next.
-pub const NUMBER_COMES: u32 = 20;
-/// It is a denominator.
-pub const NUMBER_READ: u32 = 21;
-/// A list of numbers begins.
-pub const LIST_BEGINS: u32 = 22;
-/// The number is one of the list.
-pub const LISTED: u32 = 23;
-/// A number that may have a sign comes next.
-pub const INTEGER_COMES: u32 = 24;
-/// It is one of the list.
-pub const INTEGER_READ: u32 = 25;
-/// The name of a symbol was read.
-pub const NAME_READ: u32 = 26;
-/// The form of a symbol was read.
-pub const FORM_READ: u32 = 27;
-/// A list of multipliers was read.
-pub const MOVE_READ: u32 = 28;
-/// The number of a place comes next.
-pub const PLACE_COMES: u32 = 29;
-/// A rule and a place were read.
-pub const SPOT_READ: u32 = 30;
-/// An up arm was read.
-pub const UP_READ: u32 = 31;
-/// A low arm was read.
-pub const LOW_READ: u32 = 32;
-/// The arm is a polynomial.
-pub const POLY_READ: u32 = 33;
-/// The form of an arm was read.
-pub const ARM_FORM_READ: u32 = 34;
-/// The arm is linear.
-pub const ARM_READ: u32 = 35;
-/// A cost is shown by multipliers.
-pub const BY_EMPTY_READ: u32 = 36;
-/// A cost is shown by a rule that never runs.
-pub const BY_NEVER_READ: u32 = 37;
-/// A cost is shown by an arm.
-pub const BY_ARM_READ: u32 = 38;
-/// A gap begins.
-pub const GAP_BEGINS: u32 = 39;
-/// The set of a gap was read.
-pub const GAP_SET_READ: u32 = 40;
-/// The moves of a gap were read.
-pub const GAP_MOVES_READ: u32 = 41;
-/// The floor of a gap was read.
-pub const GAP_FLOOR_READ: u32 = 42;
-/// A scaled point was read.
-pub const POINT_READ: u32 = 43;
+// The marks: places of what is done in `ACTIONS`.
+#[rattlefmt::skip]
+mod mark {
+    pub const FIRST_VERSION: u32 = 0; pub const SECOND_VERSION: u32 = 1; pub const LEMMA_READ: u32 = 2;
+    pub const GAP_READ: u32 = 3; pub const NODE_BEGINS: u32 = 4; pub const LEMMA_COMES: u32 = 5;
+    pub const CITE_READ: u32 = 6; pub const START_READ: u32 = 7; pub const EMPTY_READ: u32 = 8;
+    pub const UNREACHED_READ: u32 = 9; pub const NEVER_READ: u32 = 10; pub const RANK_READ: u32 = 11;
+    pub const SPREAD_READ: u32 = 12; pub const CYCLE_READ: u32 = 13; pub const WEAKEN_READ: u32 = 14;
+    pub const COST_READ: u32 = 15; pub const USES_BEGIN: u32 = 16; pub const USED_READ: u32 = 17;
+    pub const USES_READ: u32 = 18; pub const RULE_COMES: u32 = 19; pub const RULE_READ: u32 = 20;
+    pub const RULE_LISTED: u32 = 21; pub const NUMBER_COMES: u32 = 22; pub const NUMBER_READ: u32 = 23;
+    pub const LIST_BEGINS: u32 = 24; pub const LISTED: u32 = 25; pub const INTEGER_COMES: u32 = 26;
+    pub const INTEGER_READ: u32 = 27; pub const NAME_COMES: u32 = 28; pub const FORM_READ: u32 = 29;
+    pub const MOVE_READ: u32 = 30; pub const PLACE_COMES: u32 = 31; pub const SPOT_READ: u32 = 32;
+    pub const UP_READ: u32 = 33; pub const LOW_READ: u32 = 34; pub const POLY_READ: u32 = 35;
+    pub const ARM_FORM_READ: u32 = 36; pub const ARM_READ: u32 = 37; pub const BY_EMPTY_READ: u32 = 38;
+    pub const BY_NEVER_READ: u32 = 39; pub const BY_ARM_READ: u32 = 40; pub const GAP_BEGINS: u32 = 41;
+    pub const GAP_MOVES_READ: u32 = 42; pub const GAP_FLOOR_READ: u32 = 43; pub const POINT_READ: u32 = 44;
+}
 
 /// The rules, in the order of the nonterminals, the text first.
 #[rattlefmt::skip]
@@ -153,94 +84,96 @@ pub const PROOF_GRAMMAR: [Item; 436] = [
     // text
     APiece(KOAT), APiece(BLANK), AMade(VERSION), APiece(LINE_FEED), AMade(LEMMAS), End,
     // version
-    APiece(ONE), AMark(FIRST_VERSION), Or, APiece(TWO), AMark(SECOND_VERSION), End,
+    APiece(ONE), AMark(mark::FIRST_VERSION), Or, APiece(TWO), AMark(mark::SECOND_VERSION), End,
     // lemmas
-    APiece(LEMMA), APiece(BLANK), AMade(PROOF), APiece(LINE_FEED), AMark(LEMMA_READ), AMade(LEMMAS), Or, AMade(GAPS),
-    End,
+    APiece(LEMMA), APiece(BLANK), AMade(PROOF), APiece(LINE_FEED), AMark(mark::LEMMA_READ), AMade(LEMMAS), Or,
+    AMade(GAPS), End,
     // gaps
-    APiece(GAP), APiece(BLANK), AMade(GAP_PARTS), APiece(LINE_FEED), AMark(GAP_READ), AMade(GAPS), Or, APiece(END),
-    APiece(LINE_FEED), End,
+    APiece(GAP), APiece(BLANK), AMade(GAP_PARTS), APiece(LINE_FEED), AMark(mark::GAP_READ), AMade(GAPS), Or,
+    APiece(END), APiece(LINE_FEED), End,
     // proof
-    AMark(NODE_BEGINS), APiece(CITE), APiece(BLANK), AMark(LEMMA_COMES), AMade(NUMBER), AMark(CITE_READ), Or,
-    AMark(NODE_BEGINS), APiece(START), AMark(START_READ), Or, AMark(NODE_BEGINS), APiece(EMPTY), APiece(BLANK),
-    AMade(RULE), APiece(BLANK), AMade(NUMBERS), AMark(EMPTY_READ), Or, AMark(NODE_BEGINS), APiece(UNREACHED),
-    APiece(BLANK), AMade(RULE), AMade(RESTS), AMark(UNREACHED_READ), Or, AMark(NODE_BEGINS), APiece(NEVER),
-    APiece(BLANK), APiece(OPEN), AMade(PROOF), APiece(CLOSE), AMark(NEVER_READ), Or, AMark(NODE_BEGINS), APiece(RANK),
+    AMark(mark::NODE_BEGINS), APiece(CITE), APiece(BLANK), AMark(mark::LEMMA_COMES), AMade(NUMBER),
+    AMark(mark::CITE_READ), Or, AMark(mark::NODE_BEGINS), APiece(START), AMark(mark::START_READ), Or,
+    AMark(mark::NODE_BEGINS), APiece(EMPTY), APiece(BLANK), AMade(RULE), APiece(BLANK), AMade(NUMBERS),
+    AMark(mark::EMPTY_READ), Or, AMark(mark::NODE_BEGINS), APiece(UNREACHED), APiece(BLANK), AMade(RULE),
+    AMade(RESTS), AMark(mark::UNREACHED_READ), Or, AMark(mark::NODE_BEGINS), APiece(NEVER), APiece(BLANK),
+    APiece(OPEN), AMade(PROOF), APiece(CLOSE), AMark(mark::NEVER_READ), Or, AMark(mark::NODE_BEGINS), APiece(RANK),
     APiece(BLANK), AMade(RULE), APiece(BLANK), APiece(SET), APiece(BLANK), AMade(RULES), APiece(BLANK), APiece(DEN),
     APiece(BLANK), AMade(PLAIN), APiece(BLANK), APiece(FORMS), APiece(BLANK), AMade(FORM_LIST), APiece(BLANK),
     APiece(MOVES), APiece(BLANK), AMade(MOVE_LIST), APiece(BLANK), APiece(FLOOR), APiece(BLANK), AMade(NUMBERS),
-    AMade(RESTS), AMark(RANK_READ), Or, AMark(NODE_BEGINS), APiece(SPREAD), APiece(BLANK), AMade(MEMBER),
-    AMade(RESTS), AMark(SPREAD_READ), Or, AMark(NODE_BEGINS), APiece(CYCLE), APiece(BLANK), APiece(OPEN_SQUARE),
-    AMade(MEMBER), AMade(MEMBERS), AMade(RESTS), AMark(CYCLE_READ), Or, AMark(NODE_BEGINS), APiece(WEAKEN),
-    APiece(BLANK), APiece(OPEN), AMade(PROOF), APiece(CLOSE), APiece(BLANK), APiece(TO), APiece(BLANK),
-    APiece(IN_BOUND), AMade(BOUND), AMark(WEAKEN_READ), Or, AMark(NODE_BEGINS), APiece(COST), APiece(BLANK),
-    AMade(RULE), APiece(BLANK), AMade(BY), AMade(RESTS), AMark(COST_READ), End,
+    AMade(RESTS), AMark(mark::RANK_READ), Or, AMark(mark::NODE_BEGINS), APiece(SPREAD), APiece(BLANK), AMade(MEMBER),
+    AMade(RESTS), AMark(mark::SPREAD_READ), Or, AMark(mark::NODE_BEGINS), APiece(CYCLE), APiece(BLANK),
+    APiece(OPEN_SQUARE), AMade(MEMBER), AMade(MEMBERS), AMade(RESTS), AMark(mark::CYCLE_READ), Or,
+    AMark(mark::NODE_BEGINS), APiece(WEAKEN), APiece(BLANK), APiece(OPEN), AMade(PROOF), APiece(CLOSE), APiece(BLANK),
+    APiece(TO), APiece(BLANK), APiece(IN_BOUND), AMade(BOUND), AMark(mark::WEAKEN_READ), Or, AMark(mark::NODE_BEGINS),
+    APiece(COST), APiece(BLANK), AMade(RULE), APiece(BLANK), AMade(BY), AMade(RESTS), AMark(mark::COST_READ), End,
     // rests
-    APiece(BLANK), APiece(USES), APiece(BLANK), APiece(OPEN_BRACE), AMark(USES_BEGIN), AMade(USED), AMark(USES_READ),
-    End,
+    APiece(BLANK), APiece(USES), APiece(BLANK), APiece(OPEN_BRACE), AMark(mark::USES_BEGIN), AMade(USED),
+    AMark(mark::USES_READ), End,
     // used
-    APiece(CLOSE_BRACE), Or, AMade(PROOF), AMade(MORE_USED), End,
+    APiece(CLOSE_BRACE), Or, AMade(PROOF), AMark(mark::USED_READ), AMade(MORE_USED), End,
     // more used
-    APiece(CLOSE_BRACE), Or, APiece(SEMICOLON), APiece(BLANK), AMade(PROOF), AMade(MORE_USED), End,
+    APiece(CLOSE_BRACE), Or, APiece(SEMICOLON), APiece(BLANK), AMade(PROOF), AMark(mark::USED_READ), AMade(MORE_USED),
+    End,
     // number
     APiece(ZERO), Or, APiece(ONE), Or, APiece(TWO), Or, APiece(MORE), End,
     // rule
-    AMark(RULE_COMES), AMade(NUMBER), AMark(RULE_READ), End,
+    AMark(mark::RULE_COMES), AMade(NUMBER), AMark(mark::RULE_READ), End,
     // plain
-    AMark(NUMBER_COMES), AMade(NUMBER), AMark(NUMBER_READ), End,
+    AMark(mark::NUMBER_COMES), AMade(NUMBER), AMark(mark::NUMBER_READ), End,
     // rules
-    APiece(OPEN_SQUARE), AMark(LIST_BEGINS), AMade(SOME_RULES), End,
+    APiece(OPEN_SQUARE), AMade(SOME_RULES), End,
     // some rules
     APiece(CLOSE_SQUARE), Or, AMade(SET_RULE), AMade(MORE_RULES), End,
     // set rule
-    AMark(RULE_COMES), AMade(NUMBER), AMark(LISTED), End,
+    AMark(mark::RULE_COMES), AMade(NUMBER), AMark(mark::RULE_LISTED), End,
     // more rules
     APiece(CLOSE_SQUARE), Or, APiece(BLANK), AMade(SET_RULE), AMade(MORE_RULES), End,
     // numbers
-    APiece(OPEN_SQUARE), AMark(LIST_BEGINS), AMade(SOME_NUMBERS), End,
+    APiece(OPEN_SQUARE), AMark(mark::LIST_BEGINS), AMade(SOME_NUMBERS), End,
     // some numbers
     APiece(CLOSE_SQUARE), Or, AMade(LIST_NUMBER), AMade(MORE_NUMBERS), End,
     // list number
-    AMark(NUMBER_COMES), AMade(NUMBER), AMark(LISTED), End,
+    AMark(mark::NUMBER_COMES), AMade(NUMBER), AMark(mark::LISTED), End,
     // more numbers
     APiece(CLOSE_SQUARE), Or, APiece(BLANK), AMade(LIST_NUMBER), AMade(MORE_NUMBERS), End,
     // integer
-    AMark(INTEGER_COMES), AMade(NUMBER), AMark(INTEGER_READ), Or, AMark(INTEGER_COMES), APiece(MINUS),
-    AMade(POSITIVE), AMark(INTEGER_READ), End,
+    AMark(mark::INTEGER_COMES), AMade(NUMBER), AMark(mark::INTEGER_READ), Or, AMark(mark::INTEGER_COMES),
+    APiece(MINUS), AMade(POSITIVE), AMark(mark::INTEGER_READ), End,
     // positive
     APiece(ONE), Or, APiece(TWO), Or, APiece(MORE), End,
     // integers
-    APiece(OPEN_SQUARE), AMark(LIST_BEGINS), AMade(INTEGER), AMade(MORE_INTEGERS), End,
+    APiece(OPEN_SQUARE), AMark(mark::LIST_BEGINS), AMade(INTEGER), AMade(MORE_INTEGERS), End,
     // more integers
     APiece(CLOSE_SQUARE), Or, APiece(BLANK), AMade(INTEGER), AMade(MORE_INTEGERS), End,
     // form list
     APiece(OPEN_SQUARE), AMade(FORM), AMade(MORE_FORMS), End,
     // form
-    AMade(NAME), AMark(NAME_READ), APiece(BLANK), AMade(INTEGERS), AMark(FORM_READ), End,
+    AMark(mark::NAME_COMES), AMade(NAME), APiece(BLANK), AMade(INTEGERS), AMark(mark::FORM_READ), End,
     // more forms
     APiece(CLOSE_SQUARE), Or, APiece(SEMICOLON), APiece(BLANK), AMade(FORM), AMade(MORE_FORMS), End,
     // move list
-    APiece(OPEN_SQUARE), AMade(NUMBERS), AMark(MOVE_READ), AMade(MORE_MOVES), End,
+    APiece(OPEN_SQUARE), AMade(NUMBERS), AMark(mark::MOVE_READ), AMade(MORE_MOVES), End,
     // more moves
-    APiece(CLOSE_SQUARE), Or, APiece(SEMICOLON), APiece(BLANK), AMade(NUMBERS), AMark(MOVE_READ), AMade(MORE_MOVES),
-    End,
+    APiece(CLOSE_SQUARE), Or, APiece(SEMICOLON), APiece(BLANK), AMade(NUMBERS), AMark(mark::MOVE_READ),
+    AMade(MORE_MOVES), End,
     // member
-    AMade(RULE), APiece(DOT), AMark(PLACE_COMES), AMade(NUMBER), AMark(SPOT_READ), APiece(BLANK), APiece(UP),
-    APiece(BLANK), AMade(ARM), AMark(UP_READ), APiece(BLANK), APiece(LOW), APiece(BLANK), AMade(ARM), AMark(LOW_READ),
-    End,
+    AMade(RULE), APiece(DOT), AMark(mark::PLACE_COMES), AMade(NUMBER), AMark(mark::SPOT_READ), APiece(BLANK),
+    APiece(UP), APiece(BLANK), AMade(ARM), AMark(mark::UP_READ), APiece(BLANK), APiece(LOW), APiece(BLANK),
+    AMade(ARM), AMark(mark::LOW_READ), End,
     // members
     APiece(CLOSE_SQUARE), Or, APiece(SEMICOLON), APiece(BLANK), AMade(MEMBER), AMade(MEMBERS), End,
     // arm
-    APiece(POLY), AMark(POLY_READ), Or, APiece(LIN), APiece(BLANK), AMade(PLAIN), APiece(BLANK), AMade(INTEGERS),
-    AMark(ARM_FORM_READ), APiece(BLANK), AMade(NUMBERS), AMark(ARM_READ), End,
+    APiece(POLY), AMark(mark::POLY_READ), Or, APiece(LIN), APiece(BLANK), AMade(PLAIN), APiece(BLANK),
+    AMade(INTEGERS), AMark(mark::ARM_FORM_READ), APiece(BLANK), AMade(NUMBERS), AMark(mark::ARM_READ), End,
     // by
-    APiece(EMPTY), APiece(BLANK), AMade(NUMBERS), AMark(BY_EMPTY_READ), Or, APiece(NEVER), AMark(BY_NEVER_READ), Or,
-    AMade(ARM), AMark(BY_ARM_READ), End,
+    APiece(EMPTY), APiece(BLANK), AMade(NUMBERS), AMark(mark::BY_EMPTY_READ), Or, APiece(NEVER),
+    AMark(mark::BY_NEVER_READ), Or, AMade(ARM), AMark(mark::BY_ARM_READ), End,
     // gap parts
-    AMark(GAP_BEGINS), AMade(RULE), APiece(BLANK), APiece(SET), APiece(BLANK), AMade(RULES), AMark(GAP_SET_READ),
-    APiece(BLANK), APiece(SHUT), APiece(BLANK), APiece(OPEN_SQUARE), AMade(SOME_PLACES), APiece(BLANK), APiece(MOVES),
-    APiece(BLANK), AMade(POINTS), AMark(GAP_MOVES_READ), APiece(BLANK), APiece(FLOOR), APiece(BLANK), AMade(POINT),
-    AMark(GAP_FLOOR_READ), APiece(BLANK), APiece(KEPT), APiece(BLANK), AMade(POINTS), End,
+    AMark(mark::GAP_BEGINS), AMade(RULE), APiece(BLANK), APiece(SET), APiece(BLANK), AMade(RULES), APiece(BLANK),
+    APiece(SHUT), APiece(BLANK), APiece(OPEN_SQUARE), AMade(SOME_PLACES), APiece(BLANK), APiece(MOVES), APiece(BLANK),
+    AMade(POINTS), AMark(mark::GAP_MOVES_READ), APiece(BLANK), APiece(FLOOR), APiece(BLANK), AMade(POINT),
+    AMark(mark::GAP_FLOOR_READ), APiece(BLANK), APiece(KEPT), APiece(BLANK), AMade(POINTS), End,
     // some places
     APiece(CLOSE_SQUARE), Or, APiece(PLACE), AMade(MORE_PLACES), End,
     // more places
@@ -250,10 +183,11 @@ pub const PROOF_GRAMMAR: [Item; 436] = [
     // more points
     APiece(CLOSE_SQUARE), Or, APiece(SEMICOLON), APiece(BLANK), AMade(POINT), AMade(MORE_POINTS), End,
     // point
-    APiece(OPEN_SQUARE), AMark(LIST_BEGINS), AMade(PARTS), AMark(POINT_READ), End,
+    APiece(OPEN_SQUARE), AMark(mark::LIST_BEGINS), AMade(PARTS), AMark(mark::POINT_READ), End,
     // parts
-    AMark(INTEGER_COMES), AMade(NUMBER), AMark(INTEGER_READ), AMade(BEHIND_NUMBER), Or, AMark(INTEGER_COMES),
-    APiece(MINUS), AMade(POSITIVE), AMark(INTEGER_READ), APiece(BLANK), AMade(PARTS), End,
+    AMark(mark::INTEGER_COMES), AMade(NUMBER), AMark(mark::INTEGER_READ), AMade(BEHIND_NUMBER), Or,
+    AMark(mark::INTEGER_COMES), APiece(MINUS), AMade(POSITIVE), AMark(mark::INTEGER_READ), APiece(BLANK),
+    AMade(PARTS), End,
     // behind number
     APiece(CLOSE_SQUARE), Or, APiece(BLANK), AMade(PARTS), End,
     // bound

@@ -1,4 +1,4 @@
-//! The pieces of a proof file, and how it is cut into them.
+//! The pieces of a proof file, and what those before them leave open.
 
 use bound_text::Piece as BoundPiece;
 
@@ -75,7 +75,8 @@ pub enum Behind {
     Number(u128),
 }
 
-/// A piece of a proof file. A name that no symbol has stands for the symbol behind the last one.
+/// A piece of a proof file. A name that no symbol has stands for the symbol behind the last one, and symbols from
+/// 2^32-1 on count as that one.
 #[derive(Clone, Copy, Debug, PartialEq, Eq)]
 pub enum Piece {
     /// `koat-proof`, with which a file begins.
@@ -88,8 +89,8 @@ pub enum Piece {
     Sign(Sign),
     /// A place among those that are shut: a symbol, and what stands behind the dot.
     Place(u32, Behind),
-    /// A piece of a bound.
-    InBound(BoundPiece),
+    /// A piece of a bound, how many bytes it has, and whether the bound ends behind it.
+    InBound(BoundPiece, u64, bool),
     /// What is no piece of any proof file.
     Wrong,
 }
