@@ -1,5 +1,5 @@
 -- The proof files of a program are lawful texts.
-use Rattle.std.proofs.Common.{◌≡◌, ℕ, ◌<◌, ◌≤◌, Bool, true, false, cond, ◌||◌, Option, None, refl, arith}
+use Rattle.std.proofs.Common.{◌≡◌, ℕ, ◌≤◌, Bool, true, false, cond, ◌||◌, Option, None, refl, arith}
 use Rattle.std.specs.Prelude.{is_some}
 use Rattle.its_model.specs.model.Programs.{Program}
 use Rattle.text_grammar.specs.text_core.Faults.{Among}

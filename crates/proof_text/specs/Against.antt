@@ -1,10 +1,9 @@
 -- What stands against the pieces of a proof file, and where.
-use Rattle.std.specs.Prelude.{ℕ, suc, ◌+◌, ◌-◌, ◌^◌, Bool, true, false, not, ◌||◌, ◌&&◌, ◌==◌, nat_lt, nat_le, is_some}
+use Rattle.std.specs.Prelude.{ℕ, ◌+◌, ◌-◌, Bool, true, false, not, ◌||◌, ◌&&◌, ◌==◌, nat_lt, nat_le, is_some}
 use Rattle.std.specs.Prelude.{List, [], ◌∷◌, ◌++◌, length, Option, Some, None, if◌then◌else◌}
 use Rattle.its_model.specs.model.Programs.{Program, Rule, rule_at, arity_of}
 use Rattle.its_model.specs.model.Bounds.{Bound, Constant}
 use Rattle.proof_tree.specs.rule_forms.linear_forms.Limits.{certificate_limit, point_limit}
-use Rattle.proof_tree.specs.proof_nodes.Gaps.{ProofFile}
 use Rattle.bound_text.specs.Pieces as inner
 use Rattle.bound_text.specs.Printing.{piece_of}
 use Rattle.bound_text.specs.Kinds.{Kind}
@@ -13,11 +12,10 @@ use Rattle.bound_text.specs.Fronts.{Front}
 use Rattle.bound_text.specs.Inside.{inner_bounds}
 use Rattle.text_grammar.specs.text_core.Choices.{when}
 use Rattle.text_grammar.specs.text_core.Tokens.{Token}
-use Rattle.text_grammar.specs.text_core.Readers.{Fault, Reader}
+use Rattle.text_grammar.specs.text_core.Readers.{Reader}
 use Rattle.text_grammar.specs.text_core.Reading.{Answer, Stands, Refused, answer}
 use Rattle.proof_text.specs.declared.piece.Word.{Word}
 use Rattle.proof_text.specs.declared.piece.Word.TheVariants as word
-use Rattle.proof_text.specs.declared.piece.Sign.TheVariants as sign
 use Rattle.proof_text.specs.declared.piece.Behind.{Behind}
 use Rattle.proof_text.specs.declared.piece.Behind.TheVariants as behind
 use Rattle.proof_text.specs.declared.piece.Piece.{Piece}
@@ -28,7 +26,7 @@ use Rattle.proof_text.specs.declared.phase.ProofKind.{ProofKind}
 use Rattle.proof_text.specs.declared.phase.ProofKind.TheVariants as kind
 use Rattle.proof_text.specs.Spelled.{level_limit, lemma_limit, gap_limit}
 use Rattle.proof_text.specs.Texts.{name_at}
-use Rattle.proof_text.specs.Remembered.{State, Inner, in_32}
+use Rattle.proof_text.specs.Remembered.{State, Inner}
 
 -- the number of a kind: of two at one position the one with the lesser number comes first
 abbrev pub number_of : ProofKind → ℕ

@@ -1,5 +1,5 @@
 -- The proof files of a program as texts of their grammar.
-use Rattle.std.specs.Prelude.{ℕ, true, false, is_some, ◌||◌, if◌then◌else◌, List, [], ◌∷◌, ◌++◌}
+use Rattle.std.specs.Prelude.{ℕ, true, false, is_some, ◌||◌, if◌then◌else◌, [], ◌∷◌, ◌++◌}
 use Rattle.its_model.specs.model.Programs.{Program}
 use Rattle.proof_tree.specs.proof_nodes.Gaps.{ProofFile}
 use Rattle.text_grammar.specs.Texts.{Text}

@@ -1,13 +1,13 @@
 -- What is remembered of a proof file while it is read, and what marks do to it.
-use Rattle.std.specs.Prelude.{ℕ, suc, ◌+◌, ◌-◌, ◌^◌, min, nat_abs, Bool, true, false, if◌then◌else◌, ◌||◌, ℤ, pos, neg_ℤ}
+use Rattle.std.specs.Prelude.{ℕ, ◌+◌, ◌-◌, ◌^◌, min, nat_abs, Bool, true, false, if◌then◌else◌, ℤ, pos, neg_ℤ}
 use Rattle.std.specs.Prelude.{List, [], ◌∷◌, ◌++◌, Option, Some, None, slice_get}
 use Rattle.its_model.specs.model.Bounds.{Bound, Constant}
 use Rattle.proof_tree.specs.Views.{uses_of}
 use Rattle.proof_tree.specs.rule_forms.linear_forms.Forms.{Form}
-use Rattle.proof_tree.specs.proof_nodes.Nodes.{Spot, Arm, Linear, Poly, LocalBound, Member, SymbolForm}
+use Rattle.proof_tree.specs.proof_nodes.Nodes.{Spot, Arm, Linear, Poly, Member, SymbolForm}
 use Rattle.proof_tree.specs.proof_nodes.Nodes.{CostBy, EmptyCost, NeverCost, ArmCost}
 use Rattle.proof_tree.specs.proof_nodes.Nodes.{Proof, Cite, Start, Empty, Unreached, Never, Rank, Spread, Cycle}
-use Rattle.proof_tree.specs.proof_nodes.Nodes.{Weaken, Charge, Proofs, NoProof}
+use Rattle.proof_tree.specs.proof_nodes.Nodes.{Weaken, Charge}
 use Rattle.proof_tree.specs.proof_nodes.Gaps.{ScaledPoint, SymbolPlace, Gap}
 use Rattle.bound_text.specs.declared.piece.Piece.{Piece as BoundPiece}
 use Rattle.proof_text.specs.declared.phase.Next.{Next}

@@ -1,5 +1,5 @@
 -- Each piece of a proof file has a byte at least, and no more than there are.
-use Rattle.std.proofs.Common.{◌≡◌, ℕ, suc, ◌<◌, ◌≤◌, Bool, true, false, cond, List, ◌∷◌, length, length-append, refl, ap, arith}
+use Rattle.std.proofs.Common.{◌≡◌, ℕ, ◌<◌, ◌≤◌, Bool, true, false, cond, List, ◌∷◌, length, length-append, refl, ap, arith}
 use Rattle.std.specs.Prelude.{◌&&◌, not, nat_le, take, drop, codes, Option}
 use Rattle.std.specs.Char.{is_ascii_digit}
 use Rattle.std.proofs.lemmas.Bool.{leb-true}

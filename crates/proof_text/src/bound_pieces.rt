@@ -79,7 +79,8 @@ fn mark(byte: u8) -> BoundPiece
     }
 }
 
-/// The piece of a bound that bytes begin with, of which the first one stands apart too, over arguments with these names.
+/// The piece of a bound that bytes begin with, of which the first one stands apart too, over arguments with these
+/// names.
 pub fn bound_lexeme(names: &Listed<'_>, bytes: &[u8], first: u8, others: &[u8]) -> BoundLexeme
     requires { bytes.now ≡ first ∷ others.now }
     ensures piece { result.piece ≡ bound_piece (lexeme_at (names_in names.now) first others.now).piece }

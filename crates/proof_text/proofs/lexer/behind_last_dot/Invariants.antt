@@ -1,4 +1,4 @@
-use Rattle.std.proofs.Common.{◌≡◌, ℕ, ◌<◌, ◌≤◌, List, length, map, Option, Some, None}
+use Rattle.std.proofs.Common.{◌≡◌, ◌<◌, ◌≤◌, length, None}
 use Rattle.std.specs.Prelude.{IfSome, option_map}
 use Rattle.proof_text.specs.Lexing.{behind_last_dot}
 use Rattle.proof_text.proofs.lexer.behind_last_dot.Given as goal

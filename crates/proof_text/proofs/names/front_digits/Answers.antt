@@ -1,4 +1,3 @@
-use Rattle.std.proofs.Common.{sym, ◌∙◌}
 use Rattle.std.specs.Char.{is_ascii_digit}
 use Rattle.bound_text.proofs.LexingLaws.{take_with_first, all_digits}
 use Rattle.proof_text.proofs.names.front_digits.Goals as goal

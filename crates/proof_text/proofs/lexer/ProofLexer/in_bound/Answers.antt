@@ -1,4 +1,4 @@
-use Rattle.std.proofs.Common.{ℕ, ◌≤◌, length, ap, sym, subst, arith}
+use Rattle.std.proofs.Common.{ℕ, length, ap, arith}
 use Rattle.text_grammar.specs.text_core.Listed.{names_in}
 use Rattle.bound_text.proofs.TextLexing.{lexes_within}
 use Rattle.proof_text.proofs.lexer.ProofLexer.in_bound.Goals as goal
