@@ -162,6 +162,32 @@ impl<X: ByteText> Spelling<X> {
             _ => self.text.against_byte(byte),
         }
     }
+
+    // What stands against a byte that can follow.
+    fn against(&self, token: Token<u8>) -> Option<Fault<X::Kind>>
+        ensures { (es : List (Event ℕ))
+            → record {
+              own = X.own_of self.now.text;
+              numeral = numeral_of self.now.numeral;
+              within = self.now.within;
+              values = self.now.values.items;
+            } ≡ state (fold_of (X.bytes_of self.now.text)) es
+            → fault_of result ≡ first_shown (texts_of (X.bytes_of self.now.text)) None
+            ((texts_of (X.bytes_of self.now.text)).faults es (token_of token)) }
+    {
+        if token.piece.is_ascii_digit() {
+            let number = self.numeral.more(token.piece);
+            let at = self.numeral.begins_at(token.at);
+            return match self.against_number(number) {
+                Some(kind) => Some(Fault { kind, at }),
+                None => None,
+            };
+        }
+        match self.against_other(token.piece) {
+            Some(kind) => Some(Fault { kind, at: token.at }),
+            None => None,
+        }
+    }
 }
 
 impl<X: ByteText> Text for Spelling<X> {
@@ -222,34 +248,10 @@ impl<X: ByteText> Text for Spelling<X> {
         Ok(())
     }
 
-    fn take(&mut self, piece: u8) -> Result<(), AllocError> {
-        self.numeral.take(piece);
-        Ok(())
-    }
-
-    fn fault(&self, token: Token<u8>) -> Option<Fault<X::Kind>>
-        ensures { (es : List (Event ℕ))
-            → record {
-              own = X.own_of self.now.text;
-              numeral = numeral_of self.now.numeral;
-              within = self.now.within;
-              values = self.now.values.items;
-            } ≡ state (fold_of (X.bytes_of self.now.text)) es
-            → fault_of result ≡ first_shown (texts_of (X.bytes_of self.now.text)) None
-            ((texts_of (X.bytes_of self.now.text)).faults es (token_of token)) }
-    {
-        if token.piece.is_ascii_digit() {
-            let number = self.numeral.more(token.piece);
-            let at = self.numeral.begins_at(token.at);
-            return match self.against_number(number) {
-                Some(kind) => Some(Fault { kind, at }),
-                None => None,
-            };
-        }
-        match self.against_other(token.piece) {
-            Some(kind) => Some(Fault { kind, at: token.at }),
-            None => None,
-        }
+    fn take(&mut self, token: Token<u8>) -> Result<Option<Fault<X::Kind>>, AllocError> {
+        let shown = self.against(token);
+        self.numeral.take(token.piece);
+        Ok(shown)
     }
 
     fn floor(&self, at: u64) -> u64 {

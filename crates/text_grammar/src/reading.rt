@@ -117,9 +117,7 @@ fn follow<X: Text>(
     match meet(expected, marks, &rows[class as usize], class)? {
         Meeting::Matched => {
             do_all(text, marks)?;
-            let shown = text.fault(token);
-            text.take(token.piece)?;
-            Ok(Followed::Led(shown))
+            Ok(Followed::Led(text.take(token)?))
         }
         _ => Ok(Followed::Off),
     }

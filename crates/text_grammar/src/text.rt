@@ -54,20 +54,17 @@ pub trait Text {
         ensures known { OnOk result ((es : List (Event Self.Piece)) → Knows self.old es
             → Knows self.new (Did mark ∷ es)) };
 
-    /// Reads a piece.
+    /// Reads a token that can follow, and tells the first of what stands against it.
     ///
     /// # Errors
     ///
     /// `AllocError` where an allocation fails.
-    fn take(&mut self, piece: Self::Piece) -> Result<(), AllocError>
+    fn take(&mut self, token: Token<Self::Piece>) -> Result<Option<Fault<Self::Kind>>, AllocError>
         ensures same { text_of self.new ≡ text_of self.old }
         ensures known { OnOk result ((es : List (Event Self.Piece)) → Knows self.old es
-            → Knows self.new (Read piece ∷ es)) };
-
-    /// The first of what stands against a token that can follow.
-    fn fault(&self, token: Token<Self::Piece>) -> Option<Fault<Self::Kind>>
-        ensures { (es : List (Event Self.Piece)) → Knows self.now es
-            → fault_of result ≡ first_shown (text_of self.now) None ((text_of self.now).faults es (token_of token)) };
+            → Knows self.new (Read token.piece ∷ es)) }
+        ensures shown { IfOk result (λ shown. (es : List (Event Self.Piece)) → Knows self.old es
+            → fault_of shown ≡ first_shown (text_of self.old) None ((text_of self.old).faults es (token_of token))) };
 
     /// The position before which nothing is shown any more, where the next token is at this one.
     fn floor(&self, at: u64) -> u64
