@@ -1,13 +1,13 @@
 //! Texts in bytes: what one brings of its own, and how its numbers are spelled for it.
 
-ghost use Rattle.std.specs.Prelude.{◌≡◌, ℕ, List, [], length, IfOk, OnOk};
+ghost use Rattle.std.specs.Prelude.{◌≡◌, ℕ, List, [], ◌∷◌, length, IfOk, OnOk};
 ghost use Rattle.text_grammar.specs.ByteTexts.{ByteText as ByteTextOf, class_of as class_at, fold_of, fresh, texts_of};
 ghost use Rattle.text_grammar.specs.ByteTexts.{against_in, against_feed as against_feed_in};
 ghost use Rattle.text_grammar.specs.ByteTexts.{against_other as against_other_in};
 ghost use Rattle.text_grammar.specs.declared.numeral.Within.TheVariants.{Words};
 ghost use Rattle.text_grammar.specs.CodeBytes.{numeral_of};
 ghost use Rattle.text_grammar.specs.Folds.{state};
-ghost use Rattle.text_grammar.specs.Grammars.{Event};
+ghost use Rattle.text_grammar.specs.Grammars.{Event, Read};
 ghost use Rattle.text_grammar.specs.Marks.{fault_of, token_of};
 ghost use Rattle.text_grammar.specs.Texts.{first_shown};
 
@@ -248,7 +248,31 @@ impl<X: ByteText> Text for Spelling<X> {
         Ok(())
     }
 
-    fn take(&mut self, token: Token<u8>) -> Result<Option<Fault<X::Kind>>, AllocError> {
+    fn take(&mut self, token: Token<u8>) -> Result<Option<Fault<X::Kind>>, AllocError>
+        ensures same { texts_of (X.bytes_of self.new.text) ≡ texts_of (X.bytes_of self.old.text) }
+        ensures known { OnOk result ((es : List (Event ℕ))
+            → record {
+              own = X.own_of self.old.text;
+              numeral = numeral_of self.old.numeral;
+              within = self.old.within;
+              values = self.old.values.items;
+            } ≡ state (fold_of (X.bytes_of self.old.text)) es
+            → record {
+              own = X.own_of self.new.text;
+              numeral = numeral_of self.new.numeral;
+              within = self.new.within;
+              values = self.new.values.items;
+            } ≡ state (fold_of (X.bytes_of self.new.text)) (Read token.piece ∷ es)) }
+        ensures shown { IfOk result (λ shown. (es : List (Event ℕ))
+            → record {
+              own = X.own_of self.old.text;
+              numeral = numeral_of self.old.numeral;
+              within = self.old.within;
+              values = self.old.values.items;
+            } ≡ state (fold_of (X.bytes_of self.old.text)) es
+            → fault_of shown ≡ first_shown (texts_of (X.bytes_of self.old.text)) None
+            ((texts_of (X.bytes_of self.old.text)).faults es (token_of token))) }
+    {
         let shown = self.against(token);
         self.numeral.take(token.piece);
         Ok(shown)
