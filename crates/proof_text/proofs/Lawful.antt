@@ -7,12 +7,13 @@ use Rattle.text_grammar.specs.text_core.Readers.{Fault}
 use Rattle.text_grammar.specs.Folds.{refusals, state}
 use Rattle.text_grammar.specs.Texts.{IsLawful}
 use Rattle.text_grammar.proofs.WorkedGrammars.{texts_read}
-use Rattle.proof_text.specs.declared.phase.ProofKind.{ProofKind}
-use Rattle.proof_text.specs.declared.phase.ProofKind.TheVariants.{Syntax, NumberTooLarge, TooDeep, BadReference, Limit}
-use Rattle.proof_text.specs.Against.{number_of, against_piece, place_of}
+use Rattle.proof_pieces.specs.declared.kind.ProofKind.{ProofKind}
+use Rattle.proof_pieces.specs.declared.kind.ProofKind.TheVariants.{Syntax, NumberTooLarge, TooDeep, BadReference, Limit}
+use Rattle.proof_pieces.specs.Bounds.{number_of}
+use Rattle.proof_text.specs.Against.{against_piece, position_of}
 use Rattle.proof_text.specs.Reading.{proof_fold, proofs_of}
 use Rattle.proof_text.specs.WorkedFaults.{ProofTextsAreRead}
-use Rattle.proof_text.proofs.ReadableGrammar.{readable}
+use Rattle.proof_pieces.proofs.ReadableGrammar.{readable}
 use Rattle.proof_text.proofs.WorkedBreaks.{classed}
 
 -- kinds with one number are one
@@ -52,10 +53,10 @@ lawful p = record {
   differ = differ;
   floor_next = λ es at. floor_near (state (proof_fold p) es).broken at;
   floor_shown = λ es t y a. shown_behind (state (proof_fold p) es).broken
-      (against_piece p (state (proof_fold p) es) t.piece) t.at (place_of p (state (proof_fold p) es) t t.piece) y a;
+      (against_piece p (state (proof_fold p) es).kept t.piece) t.at (position_of p (state (proof_fold p) es).kept t.piece t.at) y a;
   floor_did = λ es m at. floor_stays (state (proof_fold p) es).broken at;
   floor_read = λ es t at some behind. floor_rises (state (proof_fold p) es).broken
-      (is_some (against_piece p (state (proof_fold p) es) t.piece)) t.at at (omega (arith, some, behind));
+      (is_some (against_piece p (state (proof_fold p) es).kept t.piece)) t.at at (omega (arith, some, behind));
 }
 
 -- so they are read as the laws have it

@@ -1,16 +1,16 @@
 -- How small beginnings of proof files are cut, and where they break off.
 use Rattle.std.proofs.Common.{ℕ, ◌<◌, Bool, true, false, cond, refl, arith, lit<}
 use Rattle.std.specs.Prelude.{◌==◌}
-use Rattle.proof_text.specs.declared.piece.Word.{Word}
-use Rattle.proof_text.specs.declared.piece.Word.TheVariants as word
-use Rattle.proof_text.specs.declared.piece.Sign.{Sign}
-use Rattle.proof_text.specs.declared.piece.Sign.TheVariants as sign
-use Rattle.proof_text.specs.declared.piece.Piece.{Piece}
-use Rattle.proof_text.specs.declared.piece.Piece.TheVariants.{First, Name, Number, Sign as ASign, Place, InBound, Wrong}
-use Rattle.proof_text.specs.Grammar.{class_of, class_of_word, class_of_sign, class_of_number}
+use Rattle.proof_pieces.specs.declared.piece.Word.{Word}
+use Rattle.proof_pieces.specs.declared.piece.Word.TheVariants as word
+use Rattle.proof_pieces.specs.declared.piece.Sign.{Sign}
+use Rattle.proof_pieces.specs.declared.piece.Sign.TheVariants as sign
+use Rattle.proof_pieces.specs.declared.piece.Piece.{Piece}
+use Rattle.proof_pieces.specs.declared.piece.Piece.TheVariants.{First, Name, Number, Sign as ASign, Place, InBound, Wrong}
+use Rattle.proof_pieces.specs.Grammar.{class_of, class_of_word, class_of_sign, class_of_number}
 use Rattle.text_grammar.specs.Texts.{IsLawful}
 use Rattle.proof_text.specs.WorkedReading.{bare, CutsAreTold, BreaksAreTold, ReadingIsTold}
-use Rattle.proof_text.proofs.ReadableGrammar.{readable}
+use Rattle.proof_pieces.proofs.ReadableGrammar.{readable}
 
 -- each piece has one of the classes
 word_classed : (w : Word) → class_of_word w < 46

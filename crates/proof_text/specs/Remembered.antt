@@ -4,12 +4,12 @@ use Rattle.std.specs.Prelude.{List, [], ◌∷◌, ◌++◌, Option, Some, None,
 use Rattle.its_model.specs.model.Bounds.{Bound, Constant}
 use Rattle.proof_tree.specs.Views.{uses_of}
 use Rattle.proof_tree.specs.rule_forms.linear_forms.Forms.{Form}
-use Rattle.proof_tree.specs.proof_nodes.Nodes.{Spot, Arm, Linear, Poly, Member, SymbolForm}
+use Rattle.proof_tree.specs.proof_nodes.Nodes.{Spot, Arm, Linear, Poly, Member, SymbolForm, RankNode}
 use Rattle.proof_tree.specs.proof_nodes.Nodes.{CostBy, EmptyCost, NeverCost, ArmCost}
 use Rattle.proof_tree.specs.proof_nodes.Nodes.{Proof, Cite, Start, Empty, Unreached, Never, Rank, Spread, Cycle}
 use Rattle.proof_tree.specs.proof_nodes.Nodes.{Weaken, Charge}
 use Rattle.proof_tree.specs.proof_nodes.Gaps.{ScaledPoint, SymbolPlace, Gap}
-use Rattle.bound_text.specs.declared.piece.Piece.{Piece as BoundPiece}
+use Rattle.proof_pieces.specs.declared.inner.Inner.{Inner}
 use Rattle.proof_text.specs.declared.phase.Next.{Next}
 use Rattle.proof_text.specs.declared.phase.Next.TheVariants as next
 use Rattle.proof_text.specs.declared.action.Action.{Action}
@@ -46,15 +46,10 @@ pub data Outer : Type 0 where
   Whole : Outer
   Inside : Draft → List Proof → Outer → Outer
 
--- a piece of a bound and the number of its bytes
-pub record Inner : Type 0 where
-  pub piece : BoundPiece
-  pub len : ℕ
-
 -- what is remembered: what comes next; whether the first line has a 2, and whether a node on costs was read; whether a
 -- gap is open; lemmas and gaps in order; how many nodes are open; the node that was read last, the uses that are open
--- and what is round them, and what the last node or gap holds; the last number, its sign and the last symbol; the
--- pieces of a bound that is open, and the last bound; and whether something stood against what was read
+-- and what is round them, and what the last node or gap holds; the last number, its sign and the last symbol; and the
+-- pieces of a bound that is open, and the last bound
 pub record State : Type 0 where
   pub coming : Next
   pub priced : Bool
@@ -72,7 +67,6 @@ pub record State : Type 0 where
   pub symbol : ℕ
   pub pieces : List Inner
   pub bound : Bound
-  pub broken : Bool
 
 -- no number at all
 abbrev pub no_form : Form
@@ -129,7 +123,6 @@ begun = record {
   symbol = 0;
   pieces = [];
   bound = Constant 0;
-  broken = false;
 }
 
 -- numbers as their types hold them; those that are read are far below
@@ -170,54 +163,77 @@ first_or d (x ∷ xs) = x
 abbrev pub member_in : Draft → Member
 member_in d = record { spot = d.spot; local = record { up = d.up; low = d.arm } }
 
--- what an action does to what a node or a gap holds, by the last number, its sign and the last symbol; what is taken
--- is gone
-abbrev pub drafted : ℕ → Bool → ℕ → Action → Draft → Draft
-drafted n negative symbol action.RuleRead d = record d { rule = in_32 n }
-drafted n negative symbol action.RuleListed d = record d { set = d.set ++ in_32 n ∷ [] }
-drafted n negative symbol action.NumberRead d = record d { den = in_64 n }
-drafted n negative symbol action.ListBegins d = record d { numbers = []; integers = [] }
-drafted n negative symbol action.Listed d = record d { numbers = d.numbers ++ in_64 n ∷ [] }
-drafted n negative symbol action.IntegerRead d = record d { integers = d.integers ++ signed negative n ∷ [] }
-drafted n negative symbol action.FormRead d =
+-- what an action does to the numbers that a node or a gap holds, by the last number, its sign and the last symbol; what
+-- is taken is gone
+abbrev pub numbered : ℕ → Bool → ℕ → Action → Draft → Draft
+numbered n negative symbol action.RuleRead d = record d { rule = in_32 n }
+numbered n negative symbol action.RuleListed d = record d { set = d.set ++ in_32 n ∷ [] }
+numbered n negative symbol action.NumberRead d = record d { den = in_64 n }
+numbered n negative symbol action.ListBegins d = record d { numbers = []; integers = [] }
+numbered n negative symbol action.Listed d = record d { numbers = d.numbers ++ in_64 n ∷ [] }
+numbered n negative symbol action.IntegerRead d = record d { integers = d.integers ++ signed negative n ∷ [] }
+numbered n negative symbol action.FormRead d =
     record d { forms = d.forms ++ record { symbol = symbol; form = form_in d.integers } ∷ []; integers = [] }
-drafted n negative symbol action.MoveRead d = record d { moves = d.moves ++ d.numbers ∷ []; numbers = [] }
-drafted n negative symbol action.SpotRead d = record d { spot = record { rule = d.rule; place = in_32 n } }
-drafted n negative symbol action.UpRead d = record d { up = d.arm; arm = Poly }
-drafted n negative symbol action.LowRead d =
-    record d { members = d.members ++ member_in d ∷ []; up = Poly; arm = Poly }
-drafted n negative symbol action.PolyRead d = record d { arm = Poly }
-drafted n negative symbol action.ArmFormRead d = record d { form = form_in d.integers; integers = [] }
-drafted n negative symbol action.ArmRead d = record d { arm = Linear d.den d.form d.numbers; form = no_form; numbers = [] }
-drafted n negative symbol action.ByEmptyRead d = record d { by = EmptyCost d.numbers; numbers = [] }
-drafted n negative symbol action.ByNeverRead d = record d { by = NeverCost }
-drafted n negative symbol action.ByArmRead d = record d { by = ArmCost d.arm; arm = Poly }
-drafted n negative symbol action.PointRead d = record d { points = d.points ++ point_in d.integers ∷ []; integers = [] }
-drafted n negative symbol action.GapMovesRead d = record d { gap_moves = d.points; points = [] }
-drafted n negative symbol action.GapFloorRead d = record d { floor = first_or no_point d.points; points = [] }
-drafted n negative symbol a d = d
+numbered n negative symbol action.MoveRead d = record d { moves = d.moves ++ d.numbers ∷ []; numbers = [] }
+numbered n negative symbol action.SpotRead d = record d { spot = record { rule = d.rule; place = in_32 n } }
+numbered n negative symbol a d = d
+
+-- what one does to arms, to how a cost is shown and to scaled points
+abbrev pub shaped : Action → Draft → Draft
+shaped action.UpRead d = record d { up = d.arm; arm = Poly }
+shaped action.LowRead d = record d { members = d.members ++ member_in d ∷ []; up = Poly; arm = Poly }
+shaped action.PolyRead d = record d { arm = Poly }
+shaped action.ArmFormRead d = record d { form = form_in d.integers; integers = [] }
+shaped action.ArmRead d = record d { arm = Linear d.den d.form d.numbers; form = no_form; numbers = [] }
+shaped action.ByEmptyRead d = record d { by = EmptyCost d.numbers; numbers = [] }
+shaped action.ByNeverRead d = record d { by = NeverCost }
+shaped action.ByArmRead d = record d { by = ArmCost d.arm; arm = Poly }
+shaped action.PointRead d = record d { points = d.points ++ point_in d.integers ∷ []; integers = [] }
+shaped action.GapMovesRead d = record d { gap_moves = d.points; points = [] }
+shaped action.GapFloorRead d = record d { floor = first_or no_point d.points; points = [] }
+shaped a d = d
+
+-- what one does to what a node or a gap holds
+abbrev pub drafted : ℕ → Bool → ℕ → Action → Draft → Draft
+drafted n negative symbol a d = shaped a (numbered n negative symbol a d)
+
+-- whether a node was read
+abbrev pub ends_node : Action → Bool
+ends_node action.CiteRead = true
+ends_node action.StartRead = true
+ends_node action.EmptyRead = true
+ends_node action.UnreachedRead = true
+ends_node action.NeverRead = true
+ends_node action.RankRead = true
+ends_node action.SpreadRead = true
+ends_node action.CycleRead = true
+ends_node action.WeakenRead = true
+ends_node action.CostRead = true
+ends_node a = false
+
+-- the ranking node that parts make
+abbrev pub rank_in : Draft → RankNode
+rank_in d = record {
+  rule = d.rule;
+  set = d.set;
+  den = d.den;
+  forms = d.forms;
+  moves = d.moves;
+  floor = d.numbers;
+}
 
 -- the node that was read, by what it holds, the node inside it and the bound that were read last
-abbrev pub node_read : Action → ℕ → Draft → Proof → Bound → Option Proof
-node_read action.CiteRead n d child b = Some (Cite (in_32 n))
-node_read action.StartRead n d child b = Some Start
-node_read action.EmptyRead n d child b = Some (Empty d.rule d.numbers)
-node_read action.UnreachedRead n d child b = Some (Unreached d.rule (uses_of d.uses))
-node_read action.NeverRead n d child b = Some (Never child)
-node_read action.RankRead n d child b =
-    Some (Rank (record {
-      rule = d.rule;
-      set = d.set;
-      den = d.den;
-      forms = d.forms;
-      moves = d.moves;
-      floor = d.numbers;
-    }) (uses_of d.uses))
-node_read action.SpreadRead n d child b = Some (Spread (first_or no_member d.members) (uses_of d.uses))
-node_read action.CycleRead n d child b = Some (Cycle d.members (uses_of d.uses))
-node_read action.WeakenRead n d child b = Some (Weaken child b)
-node_read action.CostRead n d child b = Some (Charge (record { rule = d.rule; by = d.by }) (uses_of d.uses))
-node_read a n d child b = None
+abbrev pub node_in : Action → ℕ → Draft → Proof → Bound → Proof
+node_in action.CiteRead n d child b = Cite (in_32 n)
+node_in action.EmptyRead n d child b = Empty d.rule d.numbers
+node_in action.UnreachedRead n d child b = Unreached d.rule (uses_of d.uses)
+node_in action.NeverRead n d child b = Never child
+node_in action.RankRead n d child b = Rank (rank_in d) (uses_of d.uses)
+node_in action.SpreadRead n d child b = Spread (first_or no_member d.members) (uses_of d.uses)
+node_in action.CycleRead n d child b = Cycle d.members (uses_of d.uses)
+node_in action.WeakenRead n d child b = Weaken child b
+node_in action.CostRead n d child b = Charge (record { rule = d.rule; by = d.by }) (uses_of d.uses)
+node_in a n d child b = Start
 
 -- the gap that was read
 abbrev pub gap_read : Draft → Gap
@@ -230,10 +246,16 @@ gap_read d = record {
   kept = d.points;
 }
 
--- a node was read, if one was, and its parts are taken
-abbrev pub with_node : Option Proof → State → State
-with_node None s = s
-with_node (Some proof) s = record s { node = proof; levels = s.levels - 1; draft = no_draft }
+-- where a node was read, its parts are taken
+abbrev pub node_ended : Action → State → State
+node_ended a s =
+    if ends_node a then record s {
+      node = node_in a s.number s.draft s.node s.bound;
+      levels = s.levels - 1;
+      draft = no_draft;
+      bound = Constant 0;
+    }
+    else s
 
 -- the uses that are open end: they are those of the node round them
 abbrev pub uses_read : Outer → State → State
@@ -253,25 +275,24 @@ announced action.NameComes coming = next.Symbol
 announced a coming = coming
 
 -- what an action does to lines, levels and uses; what is taken is gone
-abbrev pub placed : Action → State → State
-placed action.SecondVersion s = record s { priced = true }
-placed action.LemmaRead s = record s { lemmas = s.lemmas ++ s.node ∷ []; node = Start }
-placed action.GapRead s = record s { gaps = s.gaps ++ gap_read s.draft ∷ []; in_gap = false; draft = no_draft }
-placed action.NodeBegins s = record s { levels = s.levels + 1; draft = no_draft }
-placed action.CostRead s = record s { paid = true }
-placed action.UsesBegin s = record s { outer = Inside s.draft s.used s.outer; used = []; draft = no_draft }
-placed action.WeakenRead s = record s { bound = Constant 0 }
-placed action.UsedRead s = record s { used = s.used ++ s.node ∷ []; node = Start }
-placed action.UsesRead s = uses_read s.outer s
-placed action.IntegerComes s = record s { negative = false }
-placed action.GapBegins s = record s { in_gap = true; draft = no_draft }
-placed a s = s
+abbrev pub arranged : Action → State → State
+arranged action.SecondVersion s = record s { priced = true }
+arranged action.LemmaRead s = record s { lemmas = s.lemmas ++ s.node ∷ []; node = Start }
+arranged action.GapRead s = record s { gaps = s.gaps ++ gap_read s.draft ∷ []; in_gap = false; draft = no_draft }
+arranged action.NodeBegins s = record s { levels = in_64 (s.levels + 1); draft = no_draft }
+arranged action.CostRead s = record s { paid = true }
+arranged action.UsesBegin s = record s { outer = Inside s.draft s.used s.outer; used = []; draft = no_draft }
+arranged action.UsedRead s = record s { used = s.used ++ s.node ∷ []; node = Start }
+arranged action.UsesRead s = uses_read s.outer s
+arranged action.IntegerComes s = record s { negative = false }
+arranged action.GapBegins s = record s { in_gap = true; draft = no_draft }
+arranged a s = s
 
 -- an action is done: a node that was read takes its parts, lines and levels change, then the parts, and something is
 -- announced
 abbrev pub acted : Action → State → State
 acted a s =
-    let t = placed a (with_node (node_read a s.number s.draft s.node s.bound) s) in
+    let t = arranged a (node_ended a s) in
     record t { draft = drafted s.number s.negative s.symbol a t.draft; coming = announced a s.coming }
 
 -- what a mark stands for is done
@@ -280,4 +301,4 @@ done_by None s = s
 done_by (Some a) s = acted a s
 
 abbrev pub done : ℕ → State → State
-done m s = record (done_by (slice_get ACTIONS m) s) { broken = s.broken }
+done m s = done_by (slice_get ACTIONS m) s

@@ -1,8 +1,8 @@
 -- The refusals that errors stand for.
 use Rattle.std.specs.Prelude.{Option, Some, None}
 use Rattle.text_grammar.specs.text_core.Readers.{Fault}
-use Rattle.proof_text.specs.declared.phase.ProofKind.{ProofKind}
-use Rattle.proof_text.specs.declared.phase.ProofKind.TheVariants as kind
+use Rattle.proof_pieces.specs.declared.kind.ProofKind.{ProofKind}
+use Rattle.proof_pieces.specs.declared.kind.ProofKind.TheVariants as kind
 use Rattle.proof_text.specs.declared.error.ProofTextError.{ProofTextError}
 use Rattle.proof_text.specs.declared.error.ProofTextError.TheVariants.{Syntax, NumberTooLarge, TooDeep, BadReference}
 use Rattle.proof_text.specs.declared.error.ProofTextError.TheVariants.{Limit, Memory}

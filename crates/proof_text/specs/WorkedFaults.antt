@@ -3,16 +3,17 @@ use Rattle.std.specs.Prelude.{◌≡◌, ℕ, List, [], ◌∷◌, ◌++◌, len
 use Rattle.its_model.specs.model.Programs.{Program}
 use Rattle.its_model.specs.model.Bounds.{Constant, Input, SumOf, ProductOf, PowerOf}
 use Rattle.proof_tree.specs.proof_nodes.Nodes.{Linear, Poly, EmptyCost, NeverCost, ArmCost}
-use Rattle.proof_tree.specs.proof_nodes.Nodes.{Proof, Cite, Start, Empty, Unreached, Never, Spread, Cycle, Weaken, Charge}
+use Rattle.proof_tree.specs.proof_nodes.Nodes.{Proof, Cite, Start, Empty, Unreached, Never, Spread, Cycle, Weaken}
+use Rattle.proof_tree.specs.proof_nodes.Nodes.{Charge}
 use Rattle.proof_tree.specs.proof_nodes.Nodes.{NoProof, AndProof}
 use Rattle.proof_tree.specs.proof_nodes.Gaps.{ProofFile}
 use Rattle.text_grammar.specs.text_core.Reading.{Answer, Stands, Refused, answer}
 use Rattle.text_grammar.specs.Texts.{reader}
 use Rattle.text_grammar.specs.Worked.{TextsAreRead}
-use Rattle.proof_text.specs.declared.piece.Word.TheVariants as word
-use Rattle.proof_text.specs.declared.phase.ProofKind.{ProofKind}
-use Rattle.proof_text.specs.declared.phase.ProofKind.TheVariants.{Syntax, NumberTooLarge, TooDeep, BadReference}
-use Rattle.proof_text.specs.Lexing.{tokens}
+use Rattle.proof_pieces.specs.declared.piece.Word.TheVariants as word
+use Rattle.proof_pieces.specs.declared.kind.ProofKind.{ProofKind}
+use Rattle.proof_pieces.specs.declared.kind.ProofKind.TheVariants.{Syntax, NumberTooLarge, TooDeep, BadReference}
+use Rattle.proof_pieces.specs.Lexing.{tokens}
 use Rattle.proof_text.specs.Remembered.{begun}
 use Rattle.proof_text.specs.Against.{against_node}
 use Rattle.proof_text.specs.Reading.{proofs_of}

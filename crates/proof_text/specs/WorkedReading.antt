@@ -5,13 +5,13 @@ use Rattle.text_grammar.specs.text_core.Reading.{Answer, Stands, Refused, answer
 use Rattle.text_grammar.specs.Sounding.{is_readable}
 use Rattle.text_grammar.specs.Texts.{Text, IsLawful, reader}
 use Rattle.bound_text.specs.declared.piece.Piece.TheVariants as bound
-use Rattle.proof_text.specs.declared.piece.Word.TheVariants as word
-use Rattle.proof_text.specs.declared.piece.Sign.TheVariants as sign
-use Rattle.proof_text.specs.declared.piece.Behind.TheVariants as behind
-use Rattle.proof_text.specs.declared.piece.Piece.{Piece}
-use Rattle.proof_text.specs.declared.piece.Piece.TheVariants.{First, Name, Number, Sign as ASign, Place, InBound, Wrong}
-use Rattle.proof_text.specs.Grammar.{proof_grammar}
-use Rattle.proof_text.specs.Lexing.{tokens}
+use Rattle.proof_pieces.specs.declared.piece.Word.TheVariants as word
+use Rattle.proof_pieces.specs.declared.piece.Sign.TheVariants as sign
+use Rattle.proof_pieces.specs.declared.piece.Behind.TheVariants as behind
+use Rattle.proof_pieces.specs.declared.piece.Piece.{Piece}
+use Rattle.proof_pieces.specs.declared.piece.Piece.TheVariants.{First, Name, Number, Sign as ASign, Place, InBound, Wrong}
+use Rattle.proof_pieces.specs.Grammar.{proof_grammar}
+use Rattle.proof_pieces.specs.Lexing.{tokens}
 use Rattle.proof_text.specs.Worked.{counting}
 
 -- texts of the grammar, with nothing against their tokens, which all stand for the same
@@ -67,7 +67,8 @@ pub record CutsAreTold : Type 0 where
   pub behind_bound : IsCutInto (codes ") to max(A, 1); A")
       (ASign sign.Close ∷ ASign sign.Blank ∷ Name word.To 2 ∷ ASign sign.Blank
       ∷ InBound bound.Maximum 4 false ∷ InBound (bound.Variable 0) 1 false ∷ InBound bound.Comma 1 false
-      ∷ InBound bound.Blank 1 false ∷ InBound (bound.Number 1) 1 false ∷ InBound bound.Close 1 true ∷ ASign sign.Semicolon ∷ ASign sign.Blank
+      ∷ InBound bound.Blank 1 false ∷ InBound (bound.Number 1) 1 false ∷ InBound bound.Close 1 true
+      ∷ ASign sign.Semicolon ∷ ASign sign.Blank
       ∷ Name word.Other 2 ∷ [])
   -- the end of the text ends it too
   pub ended : IsCutInto (codes ") to A)")

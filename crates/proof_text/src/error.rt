@@ -1,11 +1,13 @@
 //! Why a proof file is refused.
 
 ghost use Rattle.std.specs.Prelude.{◌≡◌, Some};
+ghost use Rattle.text_grammar.specs.Results.{refused_in};
 ghost use Rattle.proof_text.specs.declared.error.ProofTextError.TheVariants.{Memory};
 ghost use Rattle.proof_text.specs.Told.{refusal_in};
 
-use crate::phase::ProofKind;
+use proof_pieces::ProofKind;
 use std::alloc::{AllocError, AllocFailed};
+use text_grammar::Refusal;
 use thiserror::Error;
 
 /// Why no proof file was read. Positions count bytes from 0, and the text's length is the position of its end.
@@ -59,6 +61,17 @@ impl ProofTextError {
             ProofKind::TooDeep => ProofTextError::TooDeep { at },
             ProofKind::BadReference => ProofTextError::BadReference { at },
             ProofKind::Limit => ProofTextError::Limit { at },
+        }
+    }
+}
+
+impl From<Refusal<ProofKind>> for ProofTextError {
+    ghost from_gives = { λ refusal e. refusal_in e ≡ refused_in refusal };
+
+    fn from(refusal: Refusal<ProofKind>) -> ProofTextError {
+        match refusal {
+            Refusal::Refuses(fault) => ProofTextError::of(fault.kind, fault.at),
+            Refusal::Memory => ProofTextError::Memory,
         }
     }
 }

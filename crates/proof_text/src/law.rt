@@ -10,8 +10,8 @@ pub fn worked_texts_hold()
     ensures { WorkedTexts }
 {}
 
-/// The grammar of proof files can be read, each piece has a class of it, and how small beginnings are cut into pieces, and where they
-/// break off, is what was worked out by hand. It has no code: its contract is the law.
+/// The grammar of proof files can be read, each piece has a class of it, and how small beginnings are cut into pieces,
+/// and where they break off, is what was worked out by hand. It has no code: its contract is the law.
 pub fn worked_breaks_hold()
     ensures { ReadingIsTold }
 {}

@@ -1,31 +1,28 @@
 //! Proof files as text: lemmas and gaps, one on a line, in one spelling.
 //! Contract to the layers above: `text_of` is the text of a proof file, production by production, and `print` writes
-//! exactly that. Of reading there is the grammar, `PROOF_GRAMMAR`, and how a file is cut into pieces.
+//! exactly that. `read` answers exactly the file for which bytes stand, within the limits and the references of a
+//! program, or exactly the first refusal.
 #![tactic(auto)]
 
 mod action;
-mod bound_pieces;
-mod classes;
+mod draft;
 mod error;
+mod faults;
 mod gaps;
-mod grammar;
+mod kept;
 mod law;
-mod lexer;
-mod modes;
-mod names;
+mod node_reading;
 mod nodes;
 mod numbers;
 mod phase;
-mod piece;
 mod printing;
+mod reading;
+mod taking;
+mod text;
 mod trees;
-mod words;
 
-pub use action::{ACTIONS, Action};
 pub use error::ProofTextError;
-pub use grammar::{CLASSES, PROOF_GRAMMAR, ROUNDS};
 pub use law::{proof_texts_are_read, worked_breaks_hold, worked_files_hold, worked_texts_hold};
-pub use lexer::ProofLexer;
-pub use phase::{Next, ProofKind};
-pub use piece::{Behind, Mode, Piece, Sign, Word};
 pub use printing::print;
+pub use proof_pieces::ProofKind;
+pub use reading::read;

@@ -1,4 +1,4 @@
-//! What comes next in a proof file, and why one is refused.
+//! What comes next in a proof file.
 
 /// What the piece that comes next stands for.
 #[derive(Clone, Copy, Debug, PartialEq, Eq)]
@@ -17,14 +17,4 @@ pub enum Next {
     Number,
     /// A symbol.
     Symbol,
-}
-
-/// Kinds of refusals, without their positions.
-#[derive(Clone, Copy, Debug, PartialEq, Eq)]
-pub enum ProofKind {
-    Syntax,
-    NumberTooLarge,
-    TooDeep,
-    BadReference,
-    Limit,
 }
