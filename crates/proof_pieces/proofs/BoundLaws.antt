@@ -27,7 +27,6 @@ use Rattle.text_grammar.specs.Folds.{refusals}
 use Rattle.text_grammar.specs.Marks.{fault_of, refusal_of}
 use Rattle.text_grammar.specs.declared.token.Fault as code_fault
 use Rattle.text_core.proofs.Walks.{onto-append}
-use Rattle.text_core.proofs.FirstFaults.{run-stopped}
 use Rattle.proof_pieces.specs.declared.inner.Inner.{Inner}
 use Rattle.proof_pieces.specs.declared.inner.BoundRead.{BoundRead}
 use Rattle.proof_pieces.specs.declared.bound_reading.Stepped.TheVariants.{Led, Off}
@@ -38,12 +37,16 @@ use Rattle.proof_pieces.specs.Bounds.{bound_answer}
 use Rattle.proof_pieces.specs.BoundSteps.{answer_of, pieces_in, Steps, TellsDeep, IsBefore, told_from, with_size, or_told}
 use Rattle.proof_pieces.specs.BoundSteps.{or_syntax, ended_with, BreaksOff, Ends}
 
+-- a refusal of a kind at a position
+abbrev pub refused : ProofKind → ℕ → Fault ProofKind
+refused k at = record { kind = k; at = at }
+
 -- a refusal at a position that isn't before another's doesn't come first
 stays_first : (n : ℕ) (x : Fault ProofKind) (k : ProofKind) (at : ℕ) → x.at < at
-    → first_of (bounds_in n) (Some x) (record { kind = k; at = at }) ≡ x
+    → first_of (bounds_in n) (Some x) (refused k at) ≡ x
 stays_first n x k at h =
-    let e : is_before (bounds_in n) (record { kind = k; at = at }) x ≡ false = grind (arith, nat_tests) in
-    ap (λ (v : Bool). cond v (record { kind = k; at = at }) x) e
+    let e : is_before (bounds_in n) (refused k at) x ≡ false = grind (arith, nat_tests) in
+    ap (λ (v : Bool). cond v (refused k at) x) e
 
 -- a refusal so far with that of the next piece
 among_next : (n : ℕ) (best : Option (Fault ProofKind)) (told : Option ProofKind) (at : ℕ) → IfSome best (λ x. x.at < at)
@@ -55,11 +58,11 @@ among_next n (Some x) (Some k) at h = ap (λ (y : Fault ProofKind). Some y) (sta
 
 -- no kind comes before `Syntax` at one position
 syntax_first : (n : ℕ) (k : ProofKind) (at : ℕ)
-    → first_of (bounds_in n) (Some (record { kind = k; at = at })) (record { kind = Syntax; at = at }) ≡ record { kind = Syntax; at = at }
+    → first_of (bounds_in n) (Some (refused k at)) (refused Syntax at) ≡ refused Syntax at
 syntax_first n k at = go k (let e : (at == at) ≡ true = grind (arith, nat_tests) in e) (let e : nat_lt at at ≡ false = grind (arith, nat_tests) in e)
   where
     go : (k : ProofKind) → (at == at) ≡ true → nat_lt at at ≡ false
-        → cond (nat_lt at at || ((at == at) && nat_lt 1 (number_of k))) (record { kind = Syntax; at = at }) (record { kind = k; at = at }) ≡ record { kind = Syntax; at = at }
+        → cond (nat_lt at at || ((at == at) && nat_lt 1 (number_of k))) (refused Syntax at) (refused k at) ≡ refused Syntax at
     go Syntax e f = rw (e, f) refl
     go NumberTooLarge e f = rw (e, f) refl
     go TooDeep e f = rw (e, f) refl
@@ -68,18 +71,23 @@ syntax_first n k at = go k (let e : (at == at) ≡ true = grind (arith, nat_test
 
 -- where a bound breaks off, what stands against the piece there doesn't count
 breaks_with : (n : ℕ) (best : Option (Fault ProofKind)) (told : Option ProofKind) (at : ℕ) → IfSome best (λ x. x.at < at)
-    → first_of (bounds_in n) (first_among (bounds_in n) best (refusals told at)) (record { kind = Syntax; at = at }) ≡ or_syntax best at
+    → first_of (bounds_in n) (first_among (bounds_in n) best (refusals told at)) (refused Syntax at) ≡ or_syntax best at
 breaks_with n None None at h = refl
 breaks_with n None (Some k) at h = syntax_first n k at
 breaks_with n (Some x) None at h = stays_first n x Syntax at h
 breaks_with n (Some x) (Some k) at h =
-    ap (λ (y : Fault ProofKind). first_of (bounds_in n) (Some y) (record { kind = Syntax; at = at })) (stays_first n x k at h) ∙ stays_first n x Syntax at h
+    ap (λ (y : Fault ProofKind). first_of (bounds_in n) (Some y) (refused Syntax at)) (stays_first n x k at h) ∙ stays_first n x Syntax at h
 
 -- the first of some and then of others
 among_both : (n : ℕ) (best : Option (Fault ProofKind)) (xs ys : List (Fault ProofKind))
     → first_among (bounds_in n) best (xs ++ ys) ≡ first_among (bounds_in n) (first_among (bounds_in n) best xs) ys
 among_both n best [] ys = refl
 among_both n best (x ∷ xs) ys = among_both n (Some (first_of (bounds_in n) best x)) xs ys
+
+-- where reading has stopped, that is the answer
+run-stopped : (n len : ℕ) (rest : List (Token Piece)) (x : Fault ProofKind) → run (bounds_in n) len (Stopped x) rest ≡ Refused x
+run-stopped n len [] x = refl
+run-stopped n len (t ∷ rest) x = refl
 
 -- a refusal of the code stands before a position where the plain one does
 is_before_plain : (at : ℕ) (best : Option (code_fault.Fault ProofKind)) → IsBefore at best → IfSome (fault_of best) (λ x. x.at < at)
@@ -187,7 +195,7 @@ tells_past f best count j found is h past =
 -- one is
 pub tells_deep : (f : Front) (best : Option (code_fault.Fault ProofKind)) (count j : ℕ) (found : Option ℕ) (first : code_fault.Fault ProofKind) → found ≡ Some j
     → FindsDeep bound_levels f found → j < count
-    → ((n : ℕ) → refusal_of first ≡ first_of (bounds_in n) (fault_of best) (record { kind = TooDeep; at = j }))
+    → ((n : ℕ) → refusal_of first ≡ first_of (bounds_in n) (fault_of best) (refused TooDeep j))
     → TellsDeep f best count (Some first)
 tells_deep f best count j found first is h within tells =
     let e : FindsDeep bound_levels f (Some j) = subst (FindsDeep bound_levels f) is h in
@@ -198,16 +206,16 @@ tells_deep f best count j found first is h within tells =
     told n xs found l =
         let w = counted_at 0 j xs l in
         let e = w.1.1 in
-        ap (λ (y : Fault ProofKind). Some y) (tells n ∙ ap (λ (k : ℕ). first_of (bounds_in n) (fault_of best) (record { kind = TooDeep; at = k })) (let p : j ≡ w.0.at = omega (arith, e) in p))
+        ap (λ (y : Fault ProofKind). Some y) (tells n ∙ ap (λ (k : ℕ). first_of (bounds_in n) (fault_of best) (refused TooDeep k)) (let p : j ≡ w.0.at = omega (arith, e) in p))
         ∙ sym (ap (λ (ys : List (Fault Kind)). first_among (bounds_in n) (fault_of best) (map as_told ys)) (found (counted_from 0 xs) w.0 w.1.0))
 
 -- a refusal that comes first stands before a position where both do
 pub first_before : (n count : ℕ) (best : Option (code_fault.Fault ProofKind)) (j : ℕ) (first : code_fault.Fault ProofKind) → IsBefore count best → j < count
-    → refusal_of first ≡ first_of (bounds_in n) (fault_of best) (record { kind = TooDeep; at = j }) → first.at < count
+    → refusal_of first ≡ first_of (bounds_in n) (fault_of best) (refused TooDeep j) → first.at < count
 first_before n count None j first h l e = subst (λ (k : ℕ). k < count) (sym (ap (λ (y : Fault ProofKind). y.at) e)) l
-first_before n count (Some x) j first h l e = go (is_before (bounds_in n) (record { kind = TooDeep; at = j }) (refusal_of x)) e
+first_before n count (Some x) j first h l e = go (is_before (bounds_in n) (refused TooDeep j) (refusal_of x)) e
   where
-    go : (v : Bool) → refusal_of first ≡ cond v (record { kind = TooDeep; at = j }) (refusal_of x) → first.at < count
+    go : (v : Bool) → refusal_of first ≡ cond v (refused TooDeep j) (refusal_of x) → first.at < count
     go true e = subst (λ (k : ℕ). k < count) (sym (ap (λ (y : Fault ProofKind). y.at) e)) l
     go false e = subst (λ (k : ℕ). k < count) (sym (ap (λ (y : Fault ProofKind). y.at) e)) h
 
@@ -250,8 +258,8 @@ reads_on n all left behind x f best next r told at d is place steps same before 
           ap (λ (o : Option (Fault ProofKind)). run (bounds_in n) (length all) (Going o (t ∷ d.done) (front_of r)) (counted_from (length (d.read ++ x ∷ [])) behind))
           (same ∙ ap (or_told (fault_of best) told) here ∙ sym (among_next n (fault_of best) told (length d.read) (is_before_plain (length d.read) best d.before)))
           ∙ ap (λ (k : ℕ). run (bounds_in n) (length all) (Going (first_among (bounds_in n) (fault_of best) (refusals told (length d.read))) (t ∷ d.done) (front_of r)) (counted_from k behind)) (let s : length (d.read ++ x ∷ []) ≡ suc (length d.read) = omega (arith, length-append d.read (x ∷ [])) in s)
-          ∙ sym (ap (λ (o : Option Front). run (bounds_in n) (length all) (further (bounds_in n) (first_among (bounds_in n) (fault_of best) (told_at_end o (too_deep f (onto d.done [])) ++ refusals told (length d.read))) d.done t o (record { kind = Syntax; at = length d.read })) (counted_from (suc (length d.read)) behind)) steps.0)
-          ∙ ap (λ (k : Option ProofKind). run (bounds_in n) (length all) (further (bounds_in n) (first_among (bounds_in n) (fault_of best) (told_at_end (limited_step f (piece_of x.piece)) (too_deep f (onto d.done [])) ++ refusals k (length d.read))) d.done t (limited_step f (piece_of x.piece)) (record { kind = Syntax; at = length d.read })) (counted_from (suc (length d.read)) behind))
+          ∙ sym (ap (λ (o : Option Front). run (bounds_in n) (length all) (further (bounds_in n) (first_among (bounds_in n) (fault_of best) (told_at_end o (too_deep f (onto d.done [])) ++ refusals told (length d.read))) d.done t o (refused Syntax (length d.read))) (counted_from (suc (length d.read)) behind)) steps.0)
+          ∙ ap (λ (k : Option ProofKind). run (bounds_in n) (length all) (further (bounds_in n) (first_among (bounds_in n) (fault_of best) (told_at_end (limited_step f (piece_of x.piece)) (too_deep f (onto d.done [])) ++ refusals k (length d.read))) d.done t (limited_step f (piece_of x.piece)) (refused Syntax (length d.read))) (counted_from (suc (length d.read)) behind))
           (steps.1.1 ∙ ap (λ (ps : List Piece). option_map kind_of (first_kind (stands n f (piece_of x.piece) ps) other_kinds)) (sym (counted_pieces (suc (length d.read)) behind)))
           ∙ d.decides;
     }
@@ -264,7 +272,7 @@ reads_on n all left behind x f best next r told at d is place steps same before 
 
 -- what stands before it, the end of a bound comes to what it ends with
 ended_as : (n : ℕ) (told : Option (Fault ProofKind)) (b : Option Bound) (at : ℕ) → IfSome told (λ x. x.at < at)
-    → ended (bounds_in n) told b (record { kind = Syntax; at = at }) ≡ ended_with told b at
+    → ended (bounds_in n) told b (refused Syntax at) ≡ ended_with told b at
 ended_as n None None at h = refl
 ended_as n None (Some b) at h = refl
 ended_as n (Some x) None at h = ap (λ (y : Fault ProofKind). Refused y) (stays_first n x Syntax at h)
@@ -286,11 +294,11 @@ reads_off n all left behind x f best r result at d is place steps off =
     go d p =
         off.is
         ∙ ap (λ (y : Fault ProofKind). Refused y) (sym (breaks_with n (fault_of off.told) told at (is_before_plain at off.told off.before)))
-        ∙ ap (λ (o : Option (Fault ProofKind)). Refused (first_of (bounds_in n) (first_among (bounds_in n) o (refusals told at)) (record { kind = Syntax; at = at }))) (off.first.each n d.read (sym here) ∙ deep)
-        ∙ ap (λ (o : Option (Fault ProofKind)). Refused (first_of (bounds_in n) o (record { kind = Syntax; at = at }))) (sym (among_both n (fault_of best) (too_deep f (onto d.done [])) (refusals told at)))
-        ∙ ap (λ (k : ℕ). Refused (first_of (bounds_in n) (first_among (bounds_in n) (fault_of best) (too_deep f (onto d.done []) ++ refusals told k)) (record { kind = Syntax; at = k }))) here
-        ∙ sym (run-stopped (counted_from (suc (length d.read)) behind) (length all) _)
-        ∙ sym (ap (λ (o : Option Front). run (bounds_in n) (length all) (further (bounds_in n) (first_among (bounds_in n) (fault_of best) (told_at_end o (too_deep f (onto d.done [])) ++ refusals told (length d.read))) d.done t o (record { kind = Syntax; at = length d.read })) (counted_from (suc (length d.read)) behind)) steps.0)
+        ∙ ap (λ (o : Option (Fault ProofKind)). Refused (first_of (bounds_in n) (first_among (bounds_in n) o (refusals told at)) (refused Syntax at))) (off.first.each n d.read (sym here) ∙ deep)
+        ∙ ap (λ (o : Option (Fault ProofKind)). Refused (first_of (bounds_in n) o (refused Syntax at))) (sym (among_both n (fault_of best) (too_deep f (onto d.done [])) (refusals told at)))
+        ∙ ap (λ (k : ℕ). Refused (first_of (bounds_in n) (first_among (bounds_in n) (fault_of best) (too_deep f (onto d.done []) ++ refusals told k)) (refused Syntax (k)))) here
+        ∙ sym (run-stopped n (length all) (counted_from (suc (length d.read)) behind) _)
+        ∙ sym (ap (λ (o : Option Front). run (bounds_in n) (length all) (further (bounds_in n) (first_among (bounds_in n) (fault_of best) (told_at_end o (too_deep f (onto d.done [])) ++ refusals told (length d.read))) d.done t o (refused Syntax (length d.read))) (counted_from (suc (length d.read)) behind)) steps.0)
         ∙ d.decides
       where
         told : Option ProofKind
@@ -315,7 +323,7 @@ reads_ended n all left f best result d is ends = go (subst (λ (xs : List Inner)
     go d =
         ends.is
         ∙ sym (ended_as n (fault_of ends.told) (finish f) (length all) (is_before_plain (length all) ends.told ends.before))
-        ∙ ap (λ (o : Option (Fault ProofKind)). ended (bounds_in n) o (finish f) (record { kind = Syntax; at = length all }))
+        ∙ ap (λ (o : Option (Fault ProofKind)). ended (bounds_in n) o (finish f) (refused Syntax (length all)))
         (ends.first.each n d.read (let e = d.count in omega (arith, e))
         ∙ ap (λ (ts : List (Token Piece)). first_among (bounds_in n) (fault_of best) (too_deep f ts)) (sym d.tokens)
         ∙ ap (first_among (bounds_in n) (fault_of best)) (sym (behind_all (too_deep f (onto d.done [])))))

@@ -61,6 +61,10 @@ tells_answers p bytes result h =
     go (Refused y) i (Ok made) s = absurd s
     go (Refused y) i (Err error) s = first y i (refusal_in error) s
 
+-- how far reading has come
+abbrev pub progress : State → Bool → Progress
+progress s broken = record { kept = s; broken = broken }
+
 -- what is told of a piece is the first of what stands against it
 shown_kind : (p : Program) (o : Option ProofKind) (at : ℕ) → first_shown (proofs_of p) None (refusals o at) ≡ kind_at o at
 shown_kind p None at = refl
@@ -68,7 +72,7 @@ shown_kind p (Some k) at = refl
 
 -- behind a refusal nothing is
 pub shown_behind : (p : Program) (es : List (Event Piece)) (s : State) (broken : Bool) (piece : Piece) (at : ℕ)
-    → record { kept = s; broken = broken } ≡ state (proof_fold p) es
+    → progress s broken ≡ state (proof_fold p) es
     → cond broken None (told_of p s piece at)
     ≡ first_shown (proofs_of p) None (refusals (against p (state (proof_fold p) es) piece) (position_of p (state (proof_fold p) es).kept piece at))
 shown_behind p es s broken piece at e =
@@ -76,7 +80,7 @@ shown_behind p es s broken piece at e =
     ∙ ap (λ (t : Progress). first_shown (proofs_of p) None (refusals (against p t piece) (position_of p t.kept piece at))) e
   where
     go : (v : Bool) → cond v None (told_of p s piece at)
-        ≡ first_shown (proofs_of p) None (refusals (against p (record { kept = s; broken = v }) piece) (position_of p s piece at))
+        ≡ first_shown (proofs_of p) None (refusals (against p (progress s v) piece) (position_of p s piece at))
     go true = refl
     go false = sym (shown_kind p (against_piece p s piece) (position_of p s piece at))
 
@@ -89,18 +93,18 @@ told_some (Some x) (Some k) at e = refl
 
 -- a piece is read
 pub progressed : (p : Program) (es : List (Event Piece)) (piece : Piece) (at : ℕ) (old new : State) (broken behind : Bool)
-    (told : Option (code_fault.Fault ProofKind)) → record { kept = old; broken = broken } ≡ state (proof_fold p) es
+    (told : Option (code_fault.Fault ProofKind)) → progress old broken ≡ state (proof_fold p) es
     → new ≡ moved p piece old → fault_of told ≡ told_of p old piece at → behind ≡ (broken || is_some told)
-    → record { kept = new; broken = behind } ≡ state (proof_fold p) (Read piece ∷ es)
+    → progress new behind ≡ state (proof_fold p) (Read piece ∷ es)
 progressed p es piece at old new broken behind told k m t b =
-    ap (λ (s : State). record { kept = s; broken = behind }) m
-    ∙ ap (λ (v : Bool). record { kept = moved p piece old; broken = v })
+    ap (λ (s : State). progress s behind) m
+    ∙ ap (progress (moved p piece old))
     (b ∙ ap (λ (v : Bool). broken || v) (told_some told (against_piece p old piece) (position_of p old piece at) t))
     ∙ ap (λ (s : Progress). (proof_fold p).read piece s) k
 
 -- a mark is done
 pub marked : (p : Program) (es : List (Event Piece)) (mark : ℕ) (old new : State) (broken : Bool)
-    → record { kept = old; broken = broken } ≡ state (proof_fold p) es → new ≡ done mark old
-    → record { kept = new; broken = broken } ≡ state (proof_fold p) (Did mark ∷ es)
+    → progress old broken ≡ state (proof_fold p) es → new ≡ done mark old
+    → progress new broken ≡ state (proof_fold p) (Did mark ∷ es)
 marked p es mark old new broken k d =
-    ap (λ (s : State). record { kept = s; broken = broken }) d ∙ ap (λ (s : Progress). (proof_fold p).done mark s) k
+    ap (λ (s : State). progress s broken) d ∙ ap (λ (s : Progress). (proof_fold p).done mark s) k

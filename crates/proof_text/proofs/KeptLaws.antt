@@ -51,14 +51,21 @@ same_some : {X Y : Type 0} (f : X → Y) (o : Option X) → is_some (option_map 
 same_some f None = refl
 same_some f (Some x) = refl
 
+-- a test behind one that is true decides
+both : (a b v : Bool) → a ≡ true → b ≡ v → (a && b) ≡ v
+both true b v h k = k
+both false b v h k = cc
+
 -- there is a rule exactly where its number is from 1 on and up to their number
 pub rule_there : (p : code_program.Program) (n : ℕ) → is_some (rule_at (program_of p) n) ≡ (nat_lt 0 n && nat_le n (length p.rules.items))
 rule_there p zero = refl
 rule_there p (suc n) = ap is_some (slice_get-map rule_of p.rules.items n) ∙ same_some rule_of (slice_get p.rules.items n) ∙ some_within p.rules.items n ∙ go (nat_lt n (length p.rules.items)) refl
   where
     go : (v : Bool) → nat_lt n (length p.rules.items) ≡ v → v ≡ (nat_lt 0 (suc n) && nat_le (suc n) (length p.rules.items))
-    go true e = let f : (nat_lt 0 (suc n) && nat_le (suc n) (length p.rules.items)) ≡ true = grind (arith, nat_tests) in sym f
-    go false e = let f : (nat_lt 0 (suc n) && nat_le (suc n) (length p.rules.items)) ≡ false = grind (arith, nat_tests) in sym f
+    go true e =
+        sym (both (nat_lt 0 (suc n)) (nat_le (suc n) (length p.rules.items)) true (grind (arith, nat_tests)) (grind (arith, nat_tests)))
+    go false e =
+        sym (both (nat_lt 0 (suc n)) (nat_le (suc n) (length p.rules.items)) false (grind (arith, nat_tests)) (grind (arith, nat_tests)))
 
 -- a rule has places of its target
 pub place_there : (p : code_program.Program) (n : ℕ) (r : code.Rule) (k : ℕ) → 0 < n → n - 1 < length p.rules.items
