@@ -1,6 +1,6 @@
 -- Reading a bound piece by piece comes to the answer to all of it.
 use Rattle.std.proofs.Common.{◌≡◌, ℕ, zero, suc, ◌+◌, ◌-◌, ◌<◌, ◌≤◌, Bool, true, false, cond, List, [], ◌∷◌, ◌++◌, length}
-use Rattle.std.proofs.Common.{map, Option, Some, None, refl, ap, sym, subst, ◌∙◌, arith, length-append}
+use Rattle.std.proofs.Common.{map, Option, Some, None, refl, ap, sym, subst, ◌∙◌, arith, length-append, inl, inr}
 use Rattle.std.specs.Prelude.{IsTrue, IfSome, ◌==◌, ◌&&◌, ◌||◌, nat_lt, slice_get, ◌⊎◌}
 use Rattle.std.specs.Option.{option_map}
 use Rattle.std.proofs.lemmas.Bool.Decides.{nat_tests}
@@ -101,6 +101,14 @@ counted_both i (x ∷ xs) ys =
     ap (λ (ts : List (Token Piece)). record { piece = piece_of x.piece; at = i; upto = suc i } ∷ ts)
     (counted_both (suc i) xs ys ∙ ap (λ (k : ℕ). counted_from (suc i) xs ++ counted_from k ys) (let e : suc i + length xs ≡ i + suc (length xs) = omega arith in e))
 
+-- one more that is counted
+counted_more : (xs : List Inner) (x : Inner)
+    → counted_from 0 xs ++ record { piece = piece_of x.piece; at = length xs; upto = suc (length xs) } ∷ []
+    ≡ counted_from 0 (xs ++ x ∷ [])
+counted_more xs x =
+    ap (λ (k : ℕ). counted_from 0 xs ++ counted_from k (x ∷ []))
+    (let e : length xs ≡ 0 + length xs = omega arith in e) ∙ sym (counted_both 0 xs (x ∷ []))
+
 -- the pieces of tokens that are counted
 counted_pieces : (i : ℕ) (xs : List Inner) → pieces (counted_from i xs) ≡ pieces_in xs
 counted_pieces i [] = refl
@@ -110,7 +118,7 @@ counted_pieces i (x ∷ xs) = ap (λ (ps : List Piece). piece_of x.piece ∷ ps)
 counted_at : (i j : ℕ) (xs : List Inner) → j < length xs → (t : Token Piece) × (slice_get (counted_from i xs) j ≡ Some t) × (t.at ≡ i + j)
 counted_at i j [] h = absurd (omega (arith, h))
 counted_at i zero (x ∷ xs) h = (record { piece = piece_of x.piece; at = i; upto = suc i }, refl, omega arith)
-counted_at i (suc j) (x ∷ xs) h = let w = counted_at (suc i) j xs (omega (arith, h)) in let e = w.1.1 in (w.0, w.1.0, omega (arith, e))
+counted_at i (suc j) (x ∷ xs) h = let w = counted_at (suc i) j xs (omega (arith, h)) in let e = w.2 in (w.0, w.1, omega (arith, e))
 
 -- what is too deep in tokens is so in those with others behind them
 deep_front : (most : ℕ) (marks : Marks) (ts us : List (Token Piece))
@@ -127,7 +135,7 @@ deep_front most (Some level ∷ marks) (t ∷ ts) us = go (nat_lt most level) (d
     go false h = h
 
 -- so many copies of a token
-copies : ℕ → Token Piece → List (Token Piece)
+abbrev copies : ℕ → Token Piece → List (Token Piece)
 copies zero t = []
 copies (suc k) t = t ∷ copies k t
 
@@ -142,7 +150,7 @@ behind_copies (u ∷ ts) k zero t l h = absurd (omega (arith, l))
 behind_copies (u ∷ ts) k (suc j) t l h = behind_copies ts k j t (omega (arith, l)) (omega (arith, h))
 
 -- where the first of some stands
-at_first : List (Fault Kind) → ℕ
+abbrev at_first : List (Fault Kind) → ℕ
 at_first [] = 0
 at_first (x ∷ xs) = x.at
 
@@ -205,9 +213,9 @@ tells_deep f best count j found first is h within tells =
         → Some (refusal_of first) ≡ first_among (bounds_in n) (fault_of best) (too_deep f (counted_from 0 xs))
     told n xs found l =
         let w = counted_at 0 j xs l in
-        let e = w.1.1 in
+        let e = w.2 in
         ap (λ (y : Fault ProofKind). Some y) (tells n ∙ ap (λ (k : ℕ). first_of (bounds_in n) (fault_of best) (refused TooDeep k)) (let p : j ≡ w.0.at = omega (arith, e) in p))
-        ∙ sym (ap (λ (ys : List (Fault Kind)). first_among (bounds_in n) (fault_of best) (map as_told ys)) (found (counted_from 0 xs) w.0 w.1.0))
+        ∙ sym (ap (λ (ys : List (Fault Kind)). first_among (bounds_in n) (fault_of best) (map as_told ys)) (found (counted_from 0 xs) w.0 w.1))
 
 -- a refusal that comes first stands before a position where both do
 pub first_before : (n count : ℕ) (best : Option (code_fault.Fault ProofKind)) (j : ℕ) (first : code_fault.Fault ProofKind) → IsBefore count best → j < count
@@ -233,7 +241,7 @@ pub record Reads (n : ℕ) (all left : List Inner) (f : Front) (best : Option (c
 pub reads_begun : (n : ℕ) (all : List Inner) (f : Front) → f ≡ (bounds_in n).beginning → Reads n all all f None
 reads_begun n all f e = record {
   read = [];
-  count = refl;
+  count = omega arith;
   before = tt;
   done = [];
   tokens = refl;
@@ -253,14 +261,14 @@ reads_on n all left behind x f best next r told at d is place steps same before 
       count = let e = d.count in omega (arith, e, length-append d.read (x ∷ []));
       before = subst (λ (k : ℕ). IsBefore k next) (let e = d.count in let s : at + 1 ≡ length (d.read ++ x ∷ []) = omega (arith, e, p, length-append d.read (x ∷ [])) in s) before;
       done = t ∷ d.done;
-      tokens = onto-append d.done [] (t ∷ []) ∙ ap (λ (ts : List (Token Piece)). ts ++ t ∷ []) d.tokens ∙ sym (counted_both 0 d.read (x ∷ []));
+      tokens = onto-append d.done [] (t ∷ []) ∙ ap (λ (ts : List (Token Piece)). ts ++ t ∷ []) d.tokens ∙ counted_more d.read x;
       decides =
           ap (λ (o : Option (Fault ProofKind)). run (bounds_in n) (length all) (Going o (t ∷ d.done) (front_of r)) (counted_from (length (d.read ++ x ∷ [])) behind))
           (same ∙ ap (or_told (fault_of best) told) here ∙ sym (among_next n (fault_of best) told (length d.read) (is_before_plain (length d.read) best d.before)))
           ∙ ap (λ (k : ℕ). run (bounds_in n) (length all) (Going (first_among (bounds_in n) (fault_of best) (refusals told (length d.read))) (t ∷ d.done) (front_of r)) (counted_from k behind)) (let s : length (d.read ++ x ∷ []) ≡ suc (length d.read) = omega (arith, length-append d.read (x ∷ [])) in s)
           ∙ sym (ap (λ (o : Option Front). run (bounds_in n) (length all) (further (bounds_in n) (first_among (bounds_in n) (fault_of best) (told_at_end o (too_deep f (onto d.done [])) ++ refusals told (length d.read))) d.done t o (refused Syntax (length d.read))) (counted_from (suc (length d.read)) behind)) steps.0)
           ∙ ap (λ (k : Option ProofKind). run (bounds_in n) (length all) (further (bounds_in n) (first_among (bounds_in n) (fault_of best) (told_at_end (limited_step f (piece_of x.piece)) (too_deep f (onto d.done [])) ++ refusals k (length d.read))) d.done t (limited_step f (piece_of x.piece)) (refused Syntax (length d.read))) (counted_from (suc (length d.read)) behind))
-          (steps.1.1 ∙ ap (λ (ps : List Piece). option_map kind_of (first_kind (stands n f (piece_of x.piece) ps) other_kinds)) (sym (counted_pieces (suc (length d.read)) behind)))
+          (steps.2 ∙ ap (λ (ps : List Piece). option_map kind_of (first_kind (stands n f (piece_of x.piece) ps) other_kinds)) (sym (counted_pieces (suc (length d.read)) behind)))
           ∙ d.decides;
     }
       where
@@ -311,16 +319,17 @@ reads_off n all left behind x f best r result at d is place steps off =
         here = let e = d.count in omega (arith, e, p)
 
         deep : first_among (bounds_in n) (fault_of best) (too_deep (front_of r) (counted_from 0 d.read)) ≡ first_among (bounds_in n) (fault_of best) (too_deep f (onto d.done []))
-        deep = ap (λ (g : Front). first_among (bounds_in n) (fault_of best) (too_deep g (counted_from 0 d.read))) steps.1.0
+        deep = ap (λ (g : Front). first_among (bounds_in n) (fault_of best) (too_deep g (counted_from 0 d.read))) steps.1
             ∙ ap (λ (ts : List (Token Piece)). first_among (bounds_in n) (fault_of best) (too_deep f ts)) (sym d.tokens)
 
 -- the end
 pub reads_ended : (n : ℕ) (all left : List Inner) (f : Front) (best : Option (code_fault.Fault ProofKind)) (result : BoundRead)
-    → Reads n all left f best → left ≡ [] → Ends f best (length all) result → answer_of result ≡ bound_answer n all
-reads_ended n all left f best result d is ends = go (subst (λ (xs : List Inner). Reads n all xs f best) is d)
+    → Reads n all left f best → length left ≡ 0 → Ends f best (length all) result → answer_of result ≡ bound_answer n all
+reads_ended n all left f best result d is ends = go left is d
   where
-    go : Reads n all [] f best → answer_of result ≡ bound_answer n all
-    go d =
+    go : (xs : List Inner) → length xs ≡ 0 → Reads n all xs f best → answer_of result ≡ bound_answer n all
+    go (x ∷ xs) none d = absurd (omega (arith, none))
+    go [] none d =
         ends.is
         ∙ sym (ended_as n (fault_of ends.told) (finish f) (length all) (is_before_plain (length all) ends.told ends.before))
         ∙ ap (λ (o : Option (Fault ProofKind)). ended (bounds_in n) o (finish f) (refused Syntax (length all)))

@@ -12,5 +12,5 @@ returns-in-Ok c =
 
 pub returns-in-Err-Syntax : goal.returns-in-Err-Syntax
 returns-in-Err-Syntax c =
-    steps_off c.args.names (front_of c.args.reader.now) (piece_of c.args.piece) (pieces_in c.args.behind.now) c.step.new.self c.step.result c.in-Err-Syntax.is
+    steps_off c.args.names (front_of c.args.reader.now) (piece_of c.args.piece) (pieces_in c.args.behind.now) c.step.new.self c.step.result (cc (c.in-Err-Syntax.is, c.in-Err-Syntax.field-0-is))
     c.step.ensures.follows c.step.ensures.kept
