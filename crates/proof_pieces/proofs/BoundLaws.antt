@@ -110,7 +110,7 @@ counted_more xs x =
     (let e : length xs ≡ 0 + length xs = omega arith in e) ∙ sym (counted_both 0 xs (x ∷ []))
 
 -- the pieces of tokens that are counted
-counted_pieces : (i : ℕ) (xs : List Inner) → pieces (counted_from i xs) ≡ pieces_in xs
+pub counted_pieces : (i : ℕ) (xs : List Inner) → pieces (counted_from i xs) ≡ pieces_in xs
 counted_pieces i [] = refl
 counted_pieces i (x ∷ xs) = ap (λ (ps : List Piece). piece_of x.piece ∷ ps) (counted_pieces (suc i) xs)
 

@@ -59,9 +59,12 @@ pub steps_led : (n : ℕ) (f : Front) (p : Piece) (behind : List Piece) (r : Rea
     → early ≡ option_map kind_of (first_of (stands n f p behind) early_kinds) → large ≡ has_many (Some (front_of r)) → Steps n f p behind r (Led told)
 steps_led n f p behind r result u told early large is follows t e l =
     let led : Follows (limited_step f p) r (Ok u) = subst (Follows (limited_step f p) r) is follows in
-    let many : large ≡ has_many (step f p) = l ∙ ap has_many (sym led.0) ∙ carried_fronts_are_marked.many f p in
-    (led.0, led.1, t ∙ ap (λ (k : Option ProofKind). with_size k large) e ∙ ap (with_size (option_map kind_of (first_of (stands n f p behind) early_kinds))) many
-    ∙ sym (first_told (stands n f p behind kinds.Syntax) (stands n f p behind kinds.NumberTooLarge) (stands n f p behind kinds.UnknownName) (has_many (step f p))))
+    let many : large ≡ has_many (step f p) = l ∙ ap has_many (sym led.0) ∙ carried_fronts_are_marked.many f p in (
+      led.0,
+      led.1,
+      t ∙ ap (λ (k : Option ProofKind). with_size k large) e ∙ ap (with_size (option_map kind_of (first_of (stands n f p behind) early_kinds))) many
+          ∙ sym (first_told (stands n f p behind kinds.Syntax) (stands n f p behind kinds.NumberTooLarge) (stands n f p behind kinds.UnknownName) (has_many (step f p))),
+    )
 
 -- or it can't follow
 pub steps_off : (n : ℕ) (f : Front) (p : Piece) (behind : List Piece) (r : Reader) (result : Result (Unit {0}) Fault) → result ≡ Err faults.Syntax

@@ -150,13 +150,7 @@ fn first_with_deep(best: Option<Fault<ProofKind>>, at: u64) -> Fault<ProofKind>
         at,
     };
     match best {
-        Some(fault) => {
-            if comes_behind(fault, at) {
-                deep
-            } else {
-                fault
-            }
-        }
+        Some(fault) => { if comes_behind(fault, at) { deep } else { fault } }
         None => deep,
     }
 }
