@@ -254,7 +254,6 @@ module _ (n len : ℕ) (b : Bound) (within : IsKeptWithin n b) where
   abbrev Comes : List (Token Piece) → List (Token Piece) → Front → Type 0
   Comes done ts f = run (bounds_in n) len (Going None done f) ts ≡ Stands b
 
-
   -- at the end nothing is too deep
   ends_well : (done : List (Token Piece)) (f : Front) → finish f ≡ Some b → IsSmall n f [] → Comes done [] f
   ends_well done f fin s =

@@ -5,3 +5,6 @@ pub mod BoundLaws
 pub mod StepLaws
 -- bounds within the limits are answered
 pub mod BoundTexts
+-- their pieces, and how these are found again
+pub mod BoundCuts
+pub mod BoundFound

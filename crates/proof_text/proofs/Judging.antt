@@ -6,7 +6,7 @@ use Rattle.its_model.specs.model.Programs.{Program}
 use Rattle.proof_tree.specs.AnswerViews.{file_of}
 use Rattle.proof_tree.specs.declared.file.ProofFile.{ProofFile}
 use Rattle.proof_tree.specs.proof_nodes.Gaps as gaps
-use Rattle.text_grammar.specs.text_core.Tokens.{AreInOrder}
+use Rattle.text_grammar.specs.text_core.Tokens.{AreInOrder, Token}
 use Rattle.text_grammar.specs.text_core.Readers.{Fault}
 use Rattle.text_grammar.specs.text_core.Faults.{IsFirst}
 use Rattle.text_grammar.specs.text_core.Reading.{Answer, Stands, Refused, IsTree, answer}
@@ -17,7 +17,10 @@ use Rattle.text_grammar.specs.Grammars.{Event, Read, Did}
 use Rattle.text_grammar.specs.Folds.{refusals, state}
 use Rattle.text_grammar.specs.Marks.{fault_of}
 use Rattle.text_grammar.specs.Texts.{first_shown, reader}
-use Rattle.text_grammar.specs.Results.{Tells}
+use Rattle.text_grammar.specs.Following.{Says}
+use Rattle.text_grammar.specs.Results.{Tells, refused_in}
+use Rattle.text_grammar.specs.declared.token.Refusal.{Refusal}
+use Rattle.text_grammar.proofs.ResultLaws.{says_tells}
 use Rattle.text_grammar.specs.declared.token.Fault as code_fault
 use Rattle.text_grammar.proofs.ReaderLaws.{reader_laws}
 use Rattle.proof_pieces.specs.Lexing.{lexer_of, symbol_names, tokens}
@@ -108,3 +111,14 @@ pub marked : (p : Program) (es : List (Event Piece)) (mark : ℕ) (old new : Sta
     → progress new broken ≡ state (proof_fold p) (Did mark ∷ es)
 marked p es mark old new broken k d =
     ap (λ (s : State). progress s broken) d ∙ ap (λ (s : Progress). (proof_fold p).done mark s) k
+
+-- what reading says of the tokens of a program is what the answer is
+pub judged : (bytes : List ℕ) (p q : Program) (ts : List (Token Piece)) (result : Result ProofFile (Refusal ProofKind))
+    → q ≡ p → ts ≡ tokens p bytes
+    → Says (λ made t. file_of made ≡ t) (answer (reader (proofs_of q)) (length bytes) ts) result
+    → Tells file_of refused_in (answer (reader (proofs_of p)) (length bytes) (tokens p bytes)) result
+judged bytes p q ts result e f s =
+    says_tells file_of (answer (reader (proofs_of p)) (length bytes) (tokens p bytes)) result
+    (subst (λ (us : List (Token Piece)). Says (λ made t. file_of made ≡ t) (answer (reader (proofs_of p)) (length bytes) us) result)
+    f
+    (subst (λ (r : Program). Says (λ made t. file_of made ≡ t) (answer (reader (proofs_of r)) (length bytes) ts) result) e s))

@@ -14,7 +14,11 @@ use Rattle.proof_pieces.specs.declared.inner.Inner.{Inner}
 use Rattle.proof_text.specs.declared.kept.Opened.{Opened}
 use Rattle.proof_text.specs.Against.{bytes_of, has_place}
 use Rattle.proof_text.specs.Kept.{draft_of, outer_from, outer_of}
-use Rattle.proof_text.specs.Remembered.{Outer, Whole, Inside, before_last, last_of}
+use Rattle.proof_tree.specs.proof_nodes.Nodes.{Proof}
+use Rattle.proof_text.specs.declared.action.Action.{Action}
+use Rattle.proof_text.specs.declared.phase.Next.{Next}
+use Rattle.proof_text.specs.Remembered.{Draft, Outer, Whole, Inside, State, acted, announced, arranged, before_last, drafted, last_of}
+use Rattle.proof_text.specs.Remembered.{no_draft, node_ended, uses_read}
 
 -- one more node round the others, at the end
 outer_from-push : (outer : Outer) (xs : List Opened) (x : Opened)
@@ -25,6 +29,32 @@ outer_from-push outer (y ∷ ys) x = outer_from-push (Inside (draft_of y.draft) 
 pub outer_of-push : (xs : List Opened) (x : Opened)
     → outer_of (xs ++ x ∷ []) ≡ Inside (draft_of x.draft) (map proof_of x.used.items) (outer_of xs)
 outer_of-push xs x = outer_from-push Whole xs x
+
+-- where uses begin
+pub opens : (s : State) (d : Draft) (us : List Proof) (o u : Outer) → d ≡ no_draft → us ≡ [] → o ≡ u
+    → record s { draft = d; used = us; outer = o } ≡ record s { draft = no_draft; used = []; outer = u }
+opens s d us o u a b c =
+    ap (λ (e : Draft). record s { draft = e; used = us; outer = o }) a
+    ∙ ap (λ (ws : List Proof). record s { draft = no_draft; used = ws; outer = o }) b
+    ∙ ap (λ (v : Outer). record s { draft = no_draft; used = []; outer = v }) c
+
+-- and where they end
+pub closes : (s : State) (d : Draft) (us : List Proof) (o : Outer) (e : Draft) (ws : List Proof) (v : Outer) → o ≡ Inside d us v
+    → e ≡ record d { uses = s.used } → ws ≡ us → record s { draft = e; used = ws; outer = v } ≡ uses_read o s
+closes s d us o e ws v a b c =
+    ap (λ (f : Draft). record s { draft = f; used = ws; outer = v }) b
+    ∙ ap (λ (xs : List Proof). record s { draft = record d { uses = s.used }; used = xs; outer = v }) c
+    ∙ ap (λ (x : Outer). uses_read x s) (sym a)
+
+-- an action changes lines, levels and uses, then the parts, and announces something
+pub acts : (a : Action) (s t u : State) (d : Draft) (k : Next) → t ≡ node_ended a s → u ≡ arranged a t
+    → d ≡ drafted s.number s.negative s.symbol a u.draft → k ≡ announced a s.coming
+    → record u { draft = d; coming = k } ≡ acted a s
+acts a s t u d k e f g h =
+    ap (λ (x : Draft). record u { draft = x; coming = k }) g
+    ∙ ap (λ (c : Next). record u { draft = drafted s.number s.negative s.symbol a u.draft; coming = c }) h
+    ∙ ap (λ (x : State). record x { draft = drafted s.number s.negative s.symbol a x.draft; coming = announced a s.coming })
+    (f ∙ ap (arranged a) e)
 
 -- the last of some numbers, and those before it
 pub last_behind : (ys : List ℤ) (x : ℤ) → last_of (ys ++ x ∷ []) ≡ x

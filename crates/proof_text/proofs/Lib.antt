@@ -8,3 +8,13 @@ pub mod Lawful
 pub mod KeptLaws
 pub mod Judging
 pub mod TokenTextLaws
+-- reading along the text of a file
+pub mod Along
+pub mod States
+pub mod Cutting
+pub mod Listing
+pub mod PartTexts
+pub mod MemberTexts
+pub mod PointTexts
+pub mod InnerTexts
+pub mod NodeTexts

@@ -2,6 +2,7 @@
 
 ghost use Rattle.std.specs.Prelude.{◌≡◌, ℕ, Bool, map, OnOk};
 ghost use Rattle.proof_tree.specs.AnswerViews.{scaled_of};
+ghost use Rattle.proof_tree.specs.Views.{proof_of};
 ghost use Rattle.proof_text.specs.Kept.{affine_of, draft_of};
 ghost use Rattle.proof_text.specs.Remembered.{before_last, drafted, first_or, form_in, last_of, no_draft};
 ghost use Rattle.proof_text.specs.Remembered.{no_form, no_point, numbered, point_in};
@@ -231,6 +232,15 @@ impl Draft {
         Ok(())
     }
 
+    /// With this as what the node rests on.
+    pub fn resting_on(self, uses: Vec<Proof>) -> Draft
+        ensures { draft_of result ≡ record (draft_of self) { uses = map proof_of uses.items } }
+    {
+        let mut draft = self;
+        draft.uses = uses;
+        draft
+    }
+
     // The form of a symbol.
     fn read_form(&mut self, alloc: Global, symbol: u32) -> Result<(), AllocError>
         ensures { (n : ℕ) (negative : Bool) → OnOk result
@@ -242,7 +252,8 @@ impl Draft {
             symbol,
             coefs,
             constant,
-        })
+        })?;
+        Ok(())
     }
 
     // A list of multipliers.
@@ -251,7 +262,8 @@ impl Draft {
             (draft_of self.new ≡ numbered n negative symbol action.MoveRead (draft_of self.old)) }
     {
         let numbers = replace(&mut self.numbers, Vec::new(alloc));
-        self.moves.push(numbers)
+        self.moves.push(numbers)?;
+        Ok(())
     }
 
     // A place with its local bound.
@@ -264,7 +276,8 @@ impl Draft {
         self.members.push(Member {
             spot: self.spot,
             local,
-        })
+        })?;
+        Ok(())
     }
 
     // A linear arm.
@@ -286,7 +299,8 @@ impl Draft {
         ensures { OnOk result (draft_of self.new ≡ shaped action.PointRead (draft_of self.old)) }
     {
         let point = point_from(replace(&mut self.integers, Vec::new(alloc)));
-        self.points.push(point)
+        self.points.push(point)?;
+        Ok(())
     }
 
     // The floor of a gap.

@@ -148,11 +148,12 @@ impl Kept {
         ensures { OnOk result (own_of self.new ≡ acted action (own_of self.old)) }
     {
         let (number, negative, symbol) = (self.number, self.negative, self.symbol);
+        let coming = announce(action, self.coming);
         self.end_node(action)?;
         self.arrange(action)?;
         self.draft
             .act(self.alloc, action, number, negative, symbol)?;
-        self.coming = announce(action, self.coming);
+        self.coming = coming;
         Ok(())
     }
 
@@ -219,7 +220,8 @@ impl Kept {
     {
         let draft = replace(&mut self.draft, Draft::new(self.alloc));
         let used = replace(&mut self.used, Vec::new(self.alloc));
-        self.outer.push(Opened { draft, used })
+        self.outer.push(Opened { draft, used })?;
+        Ok(())
     }
 
     // The uses of a node end.
@@ -227,8 +229,8 @@ impl Kept {
         ensures { own_of self.new ≡ arranged action.UsesRead (own_of self.old) }
     {
         if let Some(Opened { draft, used }) = self.outer.pop() {
-            self.draft = draft;
-            self.draft.uses = replace(&mut self.used, used);
+            let uses = replace(&mut self.used, used);
+            self.draft = draft.resting_on(uses);
         }
     }
 }

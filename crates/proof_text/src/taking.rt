@@ -1,6 +1,6 @@
 //! What a piece of a proof file does, and what stands against it.
 
-ghost use Rattle.std.specs.Prelude.{◌≡◌, ◌-◌, ◌+◌, ◌^◌, min, List, true, take, IfOk, OnOk};
+ghost use Rattle.std.specs.Prelude.{◌≡◌, ◌-◌, ◌+◌, ◌^◌, ◌∷◌, ◌++◌, [], min, List, true, take, IfOk, OnOk};
 ghost use Rattle.its_model.specs.Views.{program_of};
 ghost use Rattle.text_grammar.specs.Marks.{fault_of};
 ghost use Rattle.proof_pieces.specs.declared.piece.Piece.TheVariants as piece_of;

@@ -115,9 +115,10 @@ impl<'a> Text for ProofReading<'a> {
     }
 
     fn finish(self) -> Result<ProofFile, AllocError> {
+        let kept = self.kept;
         Ok(ProofFile {
-            lemmas: self.kept.lemmas,
-            gaps: self.kept.gaps,
+            lemmas: kept.lemmas,
+            gaps: kept.gaps,
         })
     }
 }
