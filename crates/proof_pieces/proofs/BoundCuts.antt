@@ -1,16 +1,16 @@
 -- The pieces of a bound within the limits: each is kept, names and numbers stand apart, and each bracket that closes was
 -- opened before.
-use Rattle.std.proofs.Common.{◌≡◌, ℕ, suc, ◌+◌, ◌-◌, ◌<◌, ◌≤◌, Bool, true, false, List, [], ◌∷◌, Option, Some, None, refl}
+use Rattle.std.proofs.Common.{◌≡◌, ℕ, suc, ◌-◌, ◌≤◌, List, [], ◌∷◌, Option, Some, None, refl}
 use Rattle.std.proofs.Common.{ap, sym, subst, ◌∙◌, arith}
 use Rattle.std.specs.Prelude.{⊤}
-use Rattle.its_model.specs.model.Bounds.{Bound, Parts}
+use Rattle.its_model.specs.model.Bounds.{Bound}
 use Rattle.bound_expr.specs.Substitution.{ReadsBelow}
 use Rattle.bound_expr.specs.Tidy.{IsTidy}
 use Rattle.bound_text.specs.Pieces.{Piece, Variable, Number, Maximum, Open, Close, Times, Caret, Plus, Blank, Comma, Wrong}
 use Rattle.bound_text.specs.Texts.{IsWithin}
 use Rattle.bound_text.specs.Writing.{pieces_of}
 use Rattle.bound_text.specs.Fronts.{Front, Outer, Whole, Inside, Position, Begins, RunCaret, PowerCaret, ItemRead, BlankRead}
-use Rattle.bound_text.specs.Fronts.{PlusRead, CommaRead, levels_above, levels_of}
+use Rattle.bound_text.specs.Fronts.{PlusRead, CommaRead, levels_above}
 use Rattle.bound_text.specs.Steps.{step, step_at, follow_item, walk, finish, finish_at}
 use Rattle.bound_text.specs.Reading.{bounds}
 use Rattle.bound_text.proofs.StepCases.{Leads, of_variable, of_number, of_maximum, of_sum, of_run, of_power, of_power_of}

@@ -1,7 +1,7 @@
 -- The pieces of a bound inside a proof file are found again in their bytes.
-use Rattle.std.proofs.Common.{◌≡◌, ℕ, zero, suc, ◌+◌, ◌-◌, ◌<◌, ◌≤◌, ◌^◌, min, nat_eq, Bool, true, false, cond, List, [], ◌∷◌}
-use Rattle.std.proofs.Common.{◌++◌, drop, map, length, slice_index_or, Option, Some, refl, ap, sym, subst, ◌∙◌, arith}
-use Rattle.std.specs.Prelude.{⊤, codes, ◌==◌, ◌&&◌, ◌||◌}
+use Rattle.std.proofs.Common.{◌≡◌, ℕ, ◌+◌, ◌-◌, ◌<◌, ◌≤◌, ◌^◌, min, Bool, true, false, cond, List, [], ◌∷◌}
+use Rattle.std.proofs.Common.{◌++◌, map, length, slice_index_or, Some, refl, ap, sym, subst, ◌∙◌, arith}
+use Rattle.std.specs.Prelude.{codes, ◌==◌, ◌&&◌, ◌||◌}
 use Rattle.std.specs.List.{list_all}
 use Rattle.std.specs.Fmt.{decimal}
 use Rattle.std.specs.Char.{is_ascii_digit}
@@ -11,8 +11,6 @@ use Rattle.std.proofs.lemmas.Fmt.{decimal_is_IsNumeral_wide}
 use Rattle.std.proofs.lemmas.Bool.{and_parts}
 use Rattle.std.proofs.lemmas.Bool.Decides.{nat_tests}
 use Rattle.its_model.specs.model.Programs.{Name}
-use Rattle.bound_text.specs.declared.piece.Piece.{Piece as BoundPiece}
-use Rattle.bound_text.specs.declared.piece.Piece.TheVariants as bound
 use Rattle.bound_text.specs.Pieces.{Piece, Variable, Number, Maximum, Open, Close, Times, Caret, Plus, Blank, Comma, Wrong}
 use Rattle.bound_text.specs.Pieces.{spelled, bytes_of}
 use Rattle.bound_text.specs.Printing.{piece_of}
@@ -27,7 +25,6 @@ use Rattle.text_grammar.specs.text_core.Tokens.{Lexeme}
 use Rattle.text_core.proofs.PrefixLaws.{Stops, prefix-append, rest-append, rest-stops}
 use Rattle.text_core.proofs.PositionLaws.{listed_name, position_at}
 use Rattle.proof_pieces.specs.declared.inner.Inner.{Inner}
-use Rattle.proof_pieces.specs.declared.piece.Piece.{Piece as ProofPiece}
 use Rattle.proof_pieces.specs.declared.piece.Piece.TheVariants.{InBound}
 use Rattle.proof_pieces.specs.declared.piece.Mode.TheVariants as mode
 use Rattle.proof_pieces.specs.Lexing.{bound_lexeme, bound_piece, depth_behind, ends_before, ends_bound, inner_lexeme}

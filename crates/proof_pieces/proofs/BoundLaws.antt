@@ -1,7 +1,7 @@
 -- Reading a bound piece by piece comes to the answer to all of it.
 use Rattle.std.proofs.Common.{◌≡◌, ℕ, zero, suc, ◌+◌, ◌-◌, ◌<◌, ◌≤◌, Bool, true, false, cond, List, [], ◌∷◌, ◌++◌, length}
 use Rattle.std.proofs.Common.{map, Option, Some, None, refl, ap, sym, subst, ◌∙◌, arith, length-append, inl, inr}
-use Rattle.std.specs.Prelude.{IsTrue, IfSome, ◌==◌, ◌&&◌, ◌||◌, nat_lt, slice_get, ◌⊎◌}
+use Rattle.std.specs.Prelude.{IfSome, ◌==◌, ◌&&◌, ◌||◌, nat_lt, slice_get, ◌⊎◌}
 use Rattle.std.specs.Option.{option_map}
 use Rattle.std.proofs.lemmas.Bool.Decides.{nat_tests}
 use Rattle.its_model.specs.model.Bounds.{Bound}
@@ -10,18 +10,16 @@ use Rattle.bound_text.specs.Printing.{piece_of}
 use Rattle.bound_text.specs.Kinds as kinds
 use Rattle.bound_text.specs.Kinds.{Kind}
 use Rattle.bound_text.specs.Fronts.{Front}
-use Rattle.bound_text.specs.Steps.{step, finish}
-use Rattle.bound_text.specs.Reading.{stands, has_many}
-use Rattle.bound_text.specs.Carrying.{limited_step, first_of as first_kind, early_kinds}
-use Rattle.bound_text.specs.Inside.{Marks, deep_among, deep_at, front_marks, other_kinds}
+use Rattle.bound_text.specs.Steps.{finish}
+use Rattle.bound_text.specs.Reading.{stands}
+use Rattle.bound_text.specs.Carrying.{limited_step, first_of as first_kind}
+use Rattle.bound_text.specs.Inside.{Marks, deep_among, front_marks, other_kinds}
 use Rattle.bound_text.specs.Depths.{FindsDeep}
-use Rattle.bound_text.specs.Views.{front_of, is_settled, is_fresh, fault_from}
+use Rattle.bound_text.specs.Views.{front_of}
 use Rattle.bound_text.specs.declared.state.Reader.{Reader as CodeReader}
-use Rattle.bound_text.specs.declared.fault.Fault as bounds
-use Rattle.text_grammar.specs.text_core.Choices.{when}
 use Rattle.text_grammar.specs.text_core.Tokens.{Token, pieces}
-use Rattle.text_grammar.specs.text_core.Readers.{Fault, Reader, onto}
-use Rattle.text_grammar.specs.text_core.Reading.{Answer, Stands, Refused, Progress, Stopped, Going, first_of, first_among}
+use Rattle.text_grammar.specs.text_core.Readers.{Fault, onto}
+use Rattle.text_grammar.specs.text_core.Reading.{Refused, Stopped, Going, first_of, first_among}
 use Rattle.text_grammar.specs.text_core.Reading.{is_before, further, ended, run}
 use Rattle.text_grammar.specs.Folds.{refusals}
 use Rattle.text_grammar.specs.Marks.{fault_of, refusal_of}
@@ -34,7 +32,7 @@ use Rattle.proof_pieces.specs.declared.kind.ProofKind.{ProofKind}
 use Rattle.proof_pieces.specs.declared.kind.ProofKind.TheVariants.{Syntax, NumberTooLarge, TooDeep, BadReference, Limit}
 use Rattle.proof_pieces.specs.Bounds.{number_of, bound_levels, kind_of, as_told, too_deep, told_at_end, bounds_in, counted_from}
 use Rattle.proof_pieces.specs.Bounds.{bound_answer}
-use Rattle.proof_pieces.specs.BoundSteps.{answer_of, pieces_in, Steps, TellsDeep, IsBefore, told_from, with_size, or_told}
+use Rattle.proof_pieces.specs.BoundSteps.{answer_of, pieces_in, Steps, TellsDeep, IsBefore, or_told}
 use Rattle.proof_pieces.specs.BoundSteps.{or_syntax, ended_with, BreaksOff, Ends}
 
 -- a refusal of a kind at a position

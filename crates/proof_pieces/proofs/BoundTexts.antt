@@ -1,15 +1,13 @@
 -- Pieces that spell a bound within the limits are answered as it.
 use Rattle.std.proofs.Common.{◌≡◌, ℕ, suc, ◌+◌, ◌≤◌, Bool, true, false, cond, List, [], ◌∷◌, ◌++◌, map, length, Option, Some}
-use Rattle.std.proofs.Common.{None, refl, ap, sym, subst, ◌∙◌, arith}
+use Rattle.std.proofs.Common.{None, refl, ap, sym, ◌∙◌, arith}
 use Rattle.std.specs.Prelude.{⊤, nat_lt, ◌==◌, ◌^◌}
 use Rattle.std.specs.Option.{option_map}
-use Rattle.std.proofs.lemmas.Bool.Decides.{nat_tests}
 use Rattle.std.proofs.lemmas.Bool.{le-ltb as false_lt, lt-leb as false_le}
 use Rattle.its_model.specs.model.Bounds.{Bound, Constant, Input, SumOf, ProductOf, MaximumOf, PowerOf, Parts, NoParts, Part}
 use Rattle.bound_expr.specs.Measure.{depth_of, maximum_depth}
 use Rattle.bound_expr.specs.Substitution.{ReadsBelow}
 use Rattle.bound_expr.specs.Tidy.{IsTidy}
-use Rattle.bound_expr.specs.Limits.{node_limit}
 use Rattle.bound_text.specs.Pieces.{Piece, Caret}
 use Rattle.bound_text.specs.Shapes.{is_sum, is_leaf}
 use Rattle.bound_text.specs.Kinds as kinds
@@ -17,10 +15,10 @@ use Rattle.bound_text.specs.Kinds.{Kind}
 use Rattle.bound_text.specs.Texts.{IsWithin}
 use Rattle.bound_text.specs.Writing.{pieces_of, Before, Nothing, Run, Other, goes_on, run_with, plus_between, comma_between}
 use Rattle.bound_text.specs.Fronts.{Front, Whole, ItemRead, Position, Outer, Inside, Begins, RunCaret, PowerCaret}
-use Rattle.bound_text.specs.Fronts.{BlankRead, PlusRead, CommaRead, last, nodes_of, levels_of, sum_node, product_node}
+use Rattle.bound_text.specs.Fronts.{BlankRead, PlusRead, CommaRead, last, levels_of, sum_node, product_node}
 use Rattle.bound_text.specs.Steps.{step, walk, finish, finish_at}
-use Rattle.bound_text.specs.Checks.{has_large_base, has_large_base_at, is_large_number, is_caret, caret_next}
-use Rattle.bound_text.specs.Reading.{bounds, stands, has_many}
+use Rattle.bound_text.specs.Checks.{has_large_base, has_large_base_at, is_large_number}
+use Rattle.bound_text.specs.Reading.{bounds, stands}
 use Rattle.bound_text.specs.Inside.{Marks, unmarked, ended_marks, times_marks, factor_marks, exponent_marks, bound_marks}
 use Rattle.bound_text.specs.Inside.{joined_marks, more_marks, factors_marks, each_marks, front_marks, deep_among, other_kinds}
 use Rattle.bound_text.specs.Carrying.{limited_step, first_of}
@@ -36,10 +34,9 @@ use Rattle.text_grammar.specs.text_core.Reading.{Stands, Going, run, ended, furt
 use Rattle.text_grammar.specs.Folds.{refusals}
 use Rattle.text_core.proofs.Walks.{walk-none}
 use Rattle.proof_pieces.specs.declared.inner.Inner.{Inner}
-use Rattle.proof_pieces.specs.declared.kind.ProofKind.{ProofKind}
 use Rattle.proof_pieces.specs.declared.kind.ProofKind.TheVariants.{Syntax}
 use Rattle.proof_pieces.specs.Bounds.{bound_levels, kind_of, as_told, too_deep, told_at_end, against_next, bounds_in}
-use Rattle.proof_pieces.specs.Bounds.{counted_from, bound_answer, led}
+use Rattle.proof_pieces.specs.Bounds.{counted_from, bound_answer}
 use Rattle.proof_pieces.specs.BoundSteps.{pieces_in}
 use Rattle.proof_pieces.proofs.BoundLaws.{counted_pieces}
 

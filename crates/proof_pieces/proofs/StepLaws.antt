@@ -2,7 +2,6 @@
 use Rattle.std.proofs.Common.{◌≡◌, ℕ, Bool, true, false, cond, List, Option, Some, None, refl, ap, sym, subst, ◌∙◌}
 use Rattle.std.specs.Prelude.{IsTrue, Result, Ok, Err}
 use Rattle.std.specs.Option.{option_map}
-use Rattle.text_grammar.specs.text_core.Choices.{when}
 use Rattle.its_model.specs.model.Bounds.{Parts}
 use Rattle.bound_text.specs.Pieces.{Piece}
 use Rattle.bound_text.specs.Kinds as kinds
@@ -11,7 +10,6 @@ use Rattle.bound_text.specs.Fronts.{Front}
 use Rattle.bound_text.specs.Steps.{step}
 use Rattle.bound_text.specs.Reading.{stands, has_many}
 use Rattle.bound_text.specs.Carrying.{limited_step, first_of, early_kinds}
-use Rattle.bound_text.specs.Inside.{other_kinds}
 use Rattle.bound_text.specs.Views.{front_of, parts_in, is_settled, is_fresh, is_settled_at, is_fresh_at, fault_from, Follows, Keeps}
 use Rattle.bound_text.specs.declared.state.Reader.{Reader}
 use Rattle.bound_text.specs.declared.state.Position.{Position}

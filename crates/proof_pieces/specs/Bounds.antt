@@ -1,7 +1,9 @@
 -- Bounds inside a proof file: the pieces of one as a text of its own, and its first refusal.
-use Rattle.std.specs.Prelude.{ℕ, suc, List, [], ◌∷◌, ◌++◌, map, length, Option, Some, None}
+use Rattle.std.specs.Prelude.{◌≡◌, ℕ, suc, List, [], ◌∷◌, ◌++◌, map, length, Option, Some, None}
 use Rattle.std.specs.Option.{option_map}
 use Rattle.its_model.specs.model.Bounds.{Bound}
+use Rattle.bound_expr.specs.Numbers.{ReadsBelow}
+use Rattle.bound_expr.specs.Tidy.{IsTidy}
 use Rattle.bound_text.specs.Pieces.{Piece}
 use Rattle.bound_text.specs.Printing.{piece_of}
 use Rattle.bound_text.specs.Kinds.{Kind}
@@ -9,11 +11,13 @@ use Rattle.bound_text.specs.Kinds as kinds
 use Rattle.bound_text.specs.Fronts.{Front}
 use Rattle.bound_text.specs.Steps.{beginning, finish}
 use Rattle.bound_text.specs.Reading.{Writes, stands}
+use Rattle.bound_text.specs.Texts.{IsWithin}
+use Rattle.bound_text.specs.Writing.{pieces_of}
 use Rattle.bound_text.specs.Carrying.{limited_step, first_of}
 use Rattle.bound_text.specs.Inside.{deep_among, front_marks, other_kinds}
 use Rattle.text_grammar.specs.text_core.Tokens.{Token, pieces}
 use Rattle.text_grammar.specs.text_core.Readers.{Fault, Reader, onto}
-use Rattle.text_grammar.specs.text_core.Reading.{Answer, answer}
+use Rattle.text_grammar.specs.text_core.Reading.{Answer, Stands, answer}
 use Rattle.text_grammar.specs.Folds.{refusals}
 use Rattle.proof_pieces.specs.declared.inner.Inner.{Inner}
 use Rattle.proof_pieces.specs.declared.kind.ProofKind.{ProofKind}
@@ -84,3 +88,8 @@ counted_from i (x ∷ xs) = record { piece = piece_of x.piece; at = i; upto = su
 -- a whole bound as a text
 abbrev pub bound_answer : ℕ → List Inner → Answer Bound ProofKind
 bound_answer n xs = answer (bounds_in n) (length xs) (counted_from 0 xs)
+
+-- pieces that spell a tidy bound within the limits, over n start arguments, are answered as that bound
+pub record BoundsStand : Type 0 where
+  pub each : (n : ℕ) (b : Bound) (xs : List Inner) → IsTidy b → ReadsBelow n b → IsWithin b
+      → map (λ x. piece_of x.piece) xs ≡ pieces_of b → bound_answer n xs ≡ Stands b

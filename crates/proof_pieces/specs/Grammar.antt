@@ -8,7 +8,8 @@ use Rattle.proof_pieces.specs.declared.piece.Sign.{Sign}
 use Rattle.proof_pieces.specs.declared.piece.Sign.TheVariants as sign
 use Rattle.proof_pieces.specs.declared.piece.Behind.TheVariants as behind
 use Rattle.proof_pieces.specs.declared.piece.Piece.{Piece}
-use Rattle.proof_pieces.specs.declared.piece.Piece.TheVariants.{First, Name, Number, Sign as ASign, Place, InBound, Wrong}
+use Rattle.proof_pieces.specs.declared.piece.Piece.TheVariants.{First, Name, Number, Sign as ASign, Place, InBound}
+use Rattle.proof_pieces.specs.declared.piece.Piece.TheVariants.{Wrong}
 use Rattle.proof_pieces.specs.declared.grammar.TheConstants.{CLASSES, ROUNDS, PROOF_GRAMMAR}
 
 -- the class of a word

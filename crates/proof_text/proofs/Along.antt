@@ -1,6 +1,6 @@
 -- Reading along a text: symbols derive pieces, nothing stands against them, and the bytes are cut into them.
-use Rattle.std.proofs.Common.{◌≡◌, ℕ, zero, suc, ◌+◌, ◌-◌, Bool, false, List, [], ◌∷◌, ◌++◌, drop, Option, Some, None, refl, ap, sym}
-use Rattle.std.proofs.Common.{subst, ◌∙◌, arith, append-nil, append_assoc}
+use Rattle.std.proofs.Common.{◌≡◌, ℕ, zero, suc, ◌+◌, ◌-◌, false, List, [], ◌∷◌, ◌++◌, drop, Option, Some, None, refl, ap, sym}
+use Rattle.std.proofs.Common.{subst, ◌∙◌, arith, append_assoc}
 use Rattle.std.specs.Prelude.{is_some}
 use Rattle.its_model.specs.model.Programs.{Program}
 use Rattle.text_grammar.specs.text_core.Faults.{Among}
@@ -60,15 +60,15 @@ cut_tokens p m at (q ∷ qs) whole (rest, c, cs) =
 -- from a state and a mode on symbols are read along bytes to their end, nothing stands against them, and this holds of
 -- what is remembered then
 pub record Along (p : Program) (ss : List Symbol) (s : State) (m : Mode) (whole : List ℕ) (Q : State → Type 0) : Type 0
-    where
-  pub events : List (Event Piece)
-  pub read : List Piece
-  pub last : State
-  pub derives : Derives proof_grammar ss events read
-  pub passes : Passes (proof_fold p) (at s) events
-  pub comes : after (proof_fold p) (at s) events ≡ at last
-  pub cuts : Cuts p m read whole
-  pub holds : Q last
+  where
+    pub events : List (Event Piece)
+    pub read : List Piece
+    pub last : State
+    pub derives : Derives proof_grammar ss events read
+    pub passes : Passes (proof_fold p) (at s) events
+    pub comes : after (proof_fold p) (at s) events ≡ at last
+    pub cuts : Cuts p m read whole
+    pub holds : Q last
 
 -- nothing is left
 pub ends : {p : Program} {s : State} {m : Mode} {Q : State → Type 0} → Q s → Along p [] s m [] Q

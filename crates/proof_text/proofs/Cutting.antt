@@ -1,6 +1,6 @@
 -- Pieces that are read by their bytes: marks, words and numbers.
-use Rattle.std.proofs.Common.{◌≡◌, ℕ, suc, ◌+◌, ◌<◌, ◌≤◌, ◌^◌, min, Bool, true, false, cond, List, [], ◌∷◌, ◌++◌, drop, length}
-use Rattle.std.proofs.Common.{Option, Some, None, refl, ap, sym, subst, ◌∙◌, arith, inl, inr}
+use Rattle.std.proofs.Common.{◌≡◌, ℕ, suc, ◌<◌, ◌≤◌, ◌^◌, min, Bool, true, false, cond, List, [], ◌∷◌, ◌++◌, length}
+use Rattle.std.proofs.Common.{Some, None, refl, ap, sym, subst, ◌∙◌, arith, inl, inr}
 use Rattle.std.specs.Prelude.{◌==◌, codes}
 use Rattle.std.specs.List.{list_all}
 use Rattle.std.specs.Fmt.{decimal}
@@ -16,7 +16,6 @@ use Rattle.text_grammar.specs.text_core.Faults.{Among}
 use Rattle.text_grammar.specs.text_core.Names.{begins_name, continues_name}
 use Rattle.text_grammar.specs.text_core.Prefixes.{prefix}
 use Rattle.text_grammar.specs.text_core.Bytes.{has_leading_zero, value_up_to}
-use Rattle.text_grammar.specs.text_core.Tokens.{Lexeme}
 use Rattle.text_core.proofs.PrefixLaws.{Stops, prefix-append}
 use Rattle.text_grammar.specs.declared.symbol.Symbol.{Symbol}
 use Rattle.text_grammar.specs.declared.symbol.Symbol.TheVariants as item
@@ -26,8 +25,8 @@ use Rattle.proof_pieces.specs.declared.piece.Piece.TheVariants.{Name, Number, Si
 use Rattle.proof_pieces.specs.declared.piece.Sign.TheVariants as sign
 use Rattle.proof_pieces.specs.declared.piece.Mode.{Mode}
 use Rattle.proof_pieces.specs.declared.piece.Mode.TheVariants as mode
-use Rattle.proof_pieces.specs.Grammar.{class_of, class_of_number, class_of_word, proof_grammar}
-use Rattle.proof_pieces.specs.Lexing.{digits_lexeme, lexeme, lexer_of, mode_with, name_lexeme, place_lexeme, plain_behind}
+use Rattle.proof_pieces.specs.Grammar.{class_of_number, class_of_word, proof_grammar}
+use Rattle.proof_pieces.specs.Lexing.{digits_lexeme, lexeme, lexer_of, mode_with, name_lexeme, place_lexeme}
 use Rattle.proof_pieces.specs.Lexing.{plain_lexeme, sign_at, symbol_names, symbol_of, word_of}
 use Rattle.proof_text.specs.declared.phase.Next.TheVariants as next
 use Rattle.proof_text.specs.Against.{against_piece}
@@ -55,7 +54,7 @@ mode_at AtClosed = mode.Closed
 mode_at AtBound = mode.InBound 0
 
 -- a byte is cut off
-abbrev byte_cut : (p : Program) (m : Mode) (q : Piece) (b : ℕ) (rest : List ℕ)
+abbrev pub byte_cut : (p : Program) (m : Mode) (q : Piece) (b : ℕ) (rest : List ℕ)
     → (lexer_of p).lexeme_in m b rest ≡ record { piece = Some q; len = 1 } → IsCutOff p m q (b ∷ rest) rest
 byte_cut p m q b rest e = record { first = b; others = rest; some = 0; begins = refl; cut = e; behind = refl }
 

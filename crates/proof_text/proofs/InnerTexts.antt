@@ -1,23 +1,21 @@
 -- A bound inside a proof file is read along its text.
-use Rattle.std.proofs.Common.{◌≡◌, ℕ, suc, ◌<◌, ◌≤◌, ◌^◌, Bool, true, false, List, [], ◌∷◌, ◌++◌, map, length, Option, Some, None}
-use Rattle.std.proofs.Common.{refl, ap, sym, subst, ◌∙◌, arith, inl, inr, append-nil, append_assoc}
+use Rattle.std.proofs.Common.{◌≡◌, ℕ, suc, ◌<◌, ◌^◌, Bool, true, false, List, [], ◌∷◌, ◌++◌, length, Some}
+use Rattle.std.proofs.Common.{refl, ap, sym, ◌∙◌, arith, inl, inr, append_assoc}
 use Rattle.std.proofs.Math.Seq.{drop-append_seam}
 use Rattle.its_model.specs.model.Programs.{Program}
 use Rattle.its_model.specs.model.Bounds.{Bound}
 use Rattle.bound_text.specs.Pieces.{Piece, bytes_of, spelled}
 use Rattle.bound_text.specs.Texts.{text_of}
 use Rattle.bound_text.specs.Writing.{pieces_of}
-use Rattle.bound_text.proofs.TextLexing.{Closes, Found}
+use Rattle.bound_text.proofs.TextLexing.{Closes}
 use Rattle.text_grammar.specs.text_core.Reading.{Answer, Stands}
 use Rattle.text_grammar.specs.declared.symbol.Symbol.{Symbol}
 use Rattle.text_grammar.specs.declared.symbol.Symbol.TheVariants as item
 use Rattle.proof_pieces.specs.declared.inner.Inner.{Inner}
 use Rattle.proof_pieces.specs.declared.kind.ProofKind.{ProofKind}
-use Rattle.proof_pieces.specs.declared.piece.Mode.{Mode}
 use Rattle.proof_pieces.specs.declared.piece.Mode.TheVariants as mode
 use Rattle.proof_pieces.specs.declared.piece.Piece.TheVariants.{InBound}
 use Rattle.proof_pieces.specs.Bounds.{bound_answer}
-use Rattle.proof_pieces.specs.BoundSteps.{pieces_in}
 use Rattle.proof_pieces.specs.Lexing.{bound_piece, depth_behind, ends_before, ends_bound, symbol_names}
 use Rattle.proof_pieces.proofs.BoundCuts.{Goes, behind_bracket, pieces_go}
 use Rattle.proof_pieces.proofs.BoundFound.{depth_same, ends_so, first_no_end, inner_cut, inner_of, inners, inners_are, is_last}
@@ -26,7 +24,7 @@ use Rattle.proof_pieces.proofs.BoundTexts.{bound_stands}
 use Rattle.proof_text.specs.Against.{against_answer, bound_in}
 use Rattle.proof_text.specs.Remembered.{Draft, State}
 use Rattle.proof_text.specs.Spelled.{IsBoundWithin}
-use Rattle.proof_text.proofs.Along.{Along, IsCutOff, becomes, in_mode, makes, reads, spelled_as}
+use Rattle.proof_text.proofs.Along.{Along, IsCutOff, becomes, in_mode, makes, reads}
 use Rattle.proof_text.proofs.States.{Base, Last, Sure, held, st}
 
 -- a piece of a bound is cut off, before pieces with which it goes on and bytes with which it ends

@@ -1,7 +1,7 @@
 -- What the code remembers of a proof file, and the rules of a program.
-use Rattle.std.proofs.Common.{◌≡◌, ℕ, zero, suc, ◌+◌, ◌-◌, ◌<◌, ◌≤◌, ◌^◌, min, Bool, true, false, cond, List, [], ◌∷◌, ◌++◌}
-use Rattle.std.proofs.Common.{length, map, take, drop, Option, Some, None, refl, ap, sym, subst, ◌∙◌, arith}
-use Rattle.std.specs.Prelude.{nat_lt, nat_le, ◌&&◌, is_some, slice_get, slice_index_or, ℤ, MatchOption}
+use Rattle.std.proofs.Common.{◌≡◌, ℕ, zero, suc, ◌-◌, ◌<◌, min, Bool, true, false, List, [], ◌∷◌, ◌++◌}
+use Rattle.std.proofs.Common.{length, map, take, Option, Some, None, refl, ap, sym, subst, ◌∙◌, arith}
+use Rattle.std.specs.Prelude.{nat_lt, nat_le, ◌&&◌, is_some, slice_get, slice_index_or, ℤ}
 use Rattle.std.specs.Option.{option_map}
 use Rattle.std.proofs.lemmas.Bool.Decides.{nat_tests}
 use Rattle.std.proofs.lemmas.Option.{slice_get-map, slice_get-get_or, slice_get_past}
@@ -10,9 +10,8 @@ use Rattle.its_model.specs.declared.program.Program as code_program
 use Rattle.its_model.specs.model.Programs.{Rule, rule_at, arity_of}
 use Rattle.its_model.specs.Views.{rule_of, program_of}
 use Rattle.proof_tree.specs.Views.{proof_of}
-use Rattle.proof_pieces.specs.declared.inner.Inner.{Inner}
 use Rattle.proof_text.specs.declared.kept.Opened.{Opened}
-use Rattle.proof_text.specs.Against.{bytes_of, has_place}
+use Rattle.proof_text.specs.Against.{has_place}
 use Rattle.proof_text.specs.Kept.{draft_of, outer_from, outer_of}
 use Rattle.proof_tree.specs.proof_nodes.Nodes.{Proof}
 use Rattle.proof_text.specs.declared.action.Action.{Action}

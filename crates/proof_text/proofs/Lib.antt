@@ -18,3 +18,4 @@ pub mod MemberTexts
 pub mod PointTexts
 pub mod InnerTexts
 pub mod NodeTexts
+pub mod FileTexts

@@ -1,5 +1,5 @@
 -- Places with their local bounds, and how costs are shown, are read along their texts.
-use Rattle.std.proofs.Common.{◌≡◌, ℕ, ◌≤◌, ◌<◌, ◌^◌, false, List, [], ◌∷◌, ◌++◌, map, length, refl, ap, sym, ◌∙◌, arith, inl, inr, append-nil}
+use Rattle.std.proofs.Common.{◌≡◌, ℕ, ◌≤◌, ◌^◌, false, List, [], ◌∷◌, ◌++◌, map, length, refl, ap, sym, arith, inl, inr, append-nil}
 use Rattle.std.proofs.Common.{append_assoc}
 use Rattle.std.specs.Prelude.{codes}
 use Rattle.std.specs.List.{AllByRecursion}
@@ -7,7 +7,7 @@ use Rattle.std.specs.Fmt.{decimal}
 use Rattle.its_model.specs.model.Programs.{Program}
 use Rattle.its_model.proofs.ListLaws.{all-from}
 use Rattle.proof_tree.specs.proof_nodes.AcceptsPlain.{IsRule}
-use Rattle.proof_tree.specs.proof_nodes.Nodes.{Spot, Arm, Poly, LocalBound, Member}
+use Rattle.proof_tree.specs.proof_nodes.Nodes.{Spot, Member}
 use Rattle.proof_tree.specs.proof_nodes.Nodes.{CostBy, EmptyCost, NeverCost, ArmCost}
 use Rattle.text_grammar.specs.text_core.Names.{continues_name}
 use Rattle.text_core.proofs.PrefixLaws.{Stops}
@@ -15,10 +15,10 @@ use Rattle.text_grammar.specs.declared.symbol.Symbol.{Symbol}
 use Rattle.text_grammar.specs.declared.symbol.Symbol.TheVariants as item
 use Rattle.proof_pieces.specs.declared.piece.Mode.TheVariants as mode
 use Rattle.proof_pieces.specs.Lexing.{symbol_names, symbol_of}
-use Rattle.proof_text.specs.Lists.{each_behind, listed, numbers_text}
+use Rattle.proof_text.specs.Lists.{each_behind, listed}
 use Rattle.proof_text.specs.Remembered.{Draft, State, no_draft}
 use Rattle.proof_text.specs.Spelled.{IsCostByWithin, IsMemberWithin, IsSpotOf}
-use Rattle.proof_text.specs.Texts.{arm_text, cost_by_text, local_text, member_text, spot_text}
+use Rattle.proof_text.specs.Texts.{arm_text, cost_by_text, local_text, member_text}
 use Rattle.proof_text.proofs.Along.{Along, Bytes, Then, becomes, flatten, makes, marks, spelled_as}
 use Rattle.proof_text.proofs.Cutting.{Bare, blank, closes, dot, number, opens, semicolon, word}
 use Rattle.proof_text.proofs.Listing.{list_then, next_then, numbers, rule, same_32, small_number}

@@ -1,6 +1,6 @@
 -- Nodes with all that they rest on are read along their texts.
-use Rattle.std.proofs.Common.{◌≡◌, ℕ, suc, ◌+◌, ◌-◌, ◌<◌, ◌≤◌, ◌^◌, Bool, true, false, cond, List, [], ◌∷◌, ◌++◌, length, map}
-use Rattle.std.proofs.Common.{Option, Some, None, refl, ap, sym, subst, ◌∙◌, arith, inl, inr, append-nil, append_assoc}
+use Rattle.std.proofs.Common.{◌≡◌, ℕ, suc, ◌+◌, ◌-◌, ◌<◌, ◌≤◌, ◌^◌, Bool, true, false, List, [], ◌∷◌, ◌++◌, length, map}
+use Rattle.std.proofs.Common.{None, refl, ap, sym, ◌∙◌, arith, inl, inr, append-nil, append_assoc}
 use Rattle.std.specs.Prelude.{nat_lt, ◌==◌, ◌||◌, not, codes, All}
 use Rattle.std.specs.List.{AllByRecursion}
 use Rattle.std.specs.Fmt.{decimal}
@@ -8,14 +8,13 @@ use Rattle.std.specs.Char.{is_ascii_digit}
 use Rattle.std.proofs.lemmas.Bool.{le-ltb as false_lt}
 use Rattle.std.proofs.lemmas.Bool.Decides.{nat_tests}
 use Rattle.its_model.specs.model.Programs.{Program}
-use Rattle.its_model.specs.model.Bounds.{Bound, Constant}
+use Rattle.its_model.specs.model.Bounds.{Constant}
 use Rattle.its_model.proofs.ListLaws.{all-from}
 use Rattle.bound_text.specs.Texts.{text_of as text_of_bound}
 use Rattle.bound_text.proofs.TextLexing.{Closes}
 use Rattle.proof_tree.specs.Views.{uses_of}
 use Rattle.proof_tree.specs.proof_nodes.AcceptsPlain.{IsRule}
 use Rattle.proof_tree.specs.proof_nodes.Limits.{AreInLimit}
-use Rattle.proof_tree.specs.proof_nodes.Nodes.{Member, RankNode, SymbolForm, CostNode}
 use Rattle.proof_tree.specs.proof_nodes.Nodes.{Proof, Cite, Start, Empty, Unreached, Never, Rank, Spread, Cycle}
 use Rattle.proof_tree.specs.proof_nodes.Nodes.{Weaken, Charge, Proofs, NoProof, AndProof}
 use Rattle.text_grammar.specs.text_core.Choices.{when}
@@ -24,7 +23,6 @@ use Rattle.std.specs.List.{list_all}
 use Rattle.text_core.proofs.PrefixLaws.{Stops}
 use Rattle.text_grammar.specs.declared.symbol.Symbol.{Symbol}
 use Rattle.text_grammar.specs.declared.symbol.Symbol.TheVariants as item
-use Rattle.proof_pieces.specs.declared.kind.ProofKind.{ProofKind}
 use Rattle.proof_pieces.specs.declared.kind.ProofKind.TheVariants as kind
 use Rattle.proof_pieces.specs.declared.piece.Mode.TheVariants as mode
 use Rattle.proof_pieces.specs.Grammar.{class_of_word}
@@ -33,17 +31,17 @@ use Rattle.proof_text.specs.declared.phase.Next.TheVariants as next
 use Rattle.proof_text.specs.Against.{against_node, or_else}
 use Rattle.proof_text.specs.Lists.{listed, numbers_text}
 use Rattle.proof_text.specs.Remembered.{Draft, Inside, State, in_64, no_draft}
-use Rattle.proof_text.specs.Spelled.{AreProofsWithin, IsBoundWithin, IsProofWithin, IsRankWithin, IsMemberWithin}
+use Rattle.proof_text.specs.Spelled.{AreProofsWithin, IsProofWithin, IsMemberWithin}
 use Rattle.proof_text.specs.Texts.{cost_by_text, form_text, has_cost, have_cost, member_text, more_uses_text, node_text}
-use Rattle.proof_text.specs.Texts.{rank_text, uses_text}
+use Rattle.proof_text.specs.Texts.{uses_text}
 use Rattle.proof_text.proofs.Along.{Along, Bytes, Then, becomes, flatten, makes, marks, reads, spelled_as}
 use Rattle.proof_text.proofs.Cutting.{AtBound, AtClosed, AtPlain, Bare, Ending, blank, blank_closed, blank_to, brace, brace_at}
 use Rattle.proof_text.proofs.Cutting.{bracket, bracket_at, mode_at, named, number, semicolon_at, to_cut, word}
 use Rattle.proof_text.proofs.InnerTexts.{whole_bound}
 use Rattle.proof_text.proofs.Listing.{numbers, plain, rule, rules, same_32}
 use Rattle.proof_text.proofs.MemberTexts.{by, member, members}
-use Rattle.proof_text.proofs.PartTexts.{Scratch, fine, forms, moves}
-use Rattle.proof_text.proofs.States.{Base, Last, Sure, limit_outside, rule_low, st}
+use Rattle.proof_text.proofs.PartTexts.{fine, forms, moves}
+use Rattle.proof_text.proofs.States.{Base, Last, Sure, limit_outside, st}
 
 -- what comes behind a node
 pub data Ender : Type 0 where
@@ -96,7 +94,7 @@ uses_same NoProof = refl
 uses_same (AndProof v us) = ap (λ (ws : Proofs). AndProof v ws) (uses_same us)
 
 -- tests
-or_false : (a : Bool) → a ≡ (a || false)
+pub or_false : (a : Bool) → a ≡ (a || false)
 or_false true = refl
 or_false false = refl
 
@@ -104,15 +102,15 @@ or_true : (a : Bool) → true ≡ (a || true)
 or_true true = refl
 or_true false = refl
 
-or_assoc : (a b c : Bool) → ((a || b) || c) ≡ (a || (b || c))
+pub or_assoc : (a b c : Bool) → ((a || b) || c) ≡ (a || (b || c))
 or_assoc true b c = refl
 or_assoc false b c = refl
 
-or_left : (a b : Bool) → a ≡ true → (a || b) ≡ true
+pub or_left : (a b : Bool) → a ≡ true → (a || b) ≡ true
 or_left true b h = refl
 or_left false b h = cc
 
-or_right : (a b : Bool) → b ≡ true → (a || b) ≡ true
+pub or_right : (a b : Bool) → b ≡ true → (a || b) ≡ true
 or_right true b h = refl
 or_right false b h = h
 

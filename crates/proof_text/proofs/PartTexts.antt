@@ -1,18 +1,15 @@
 -- Forms, arms and what else a node holds are read along their texts.
-use Rattle.std.proofs.Common.{◌≡◌, ℕ, suc, ◌+◌, ◌<◌, ◌≤◌, ◌^◌, Bool, true, false, cond, List, [], ◌∷◌, ◌++◌, length, map, Option}
-use Rattle.std.proofs.Common.{Some, None, refl, ap, sym, subst, ◌∙◌, arith, inl, inr, append-nil, append_assoc}
+use Rattle.std.proofs.Common.{◌≡◌, ℕ, ◌<◌, ◌≤◌, ◌^◌, Bool, true, false, List, [], ◌∷◌, ◌++◌, length, map, Option}
+use Rattle.std.proofs.Common.{None, refl, ap, sym, ◌∙◌, arith, inl, inr, append-nil, append_assoc}
 use Rattle.std.specs.Prelude.{ℤ, nat_abs, nat_lt, nat_le, not, ◌&&◌, codes}
 use Rattle.std.specs.List.{AllByRecursion}
-use Rattle.std.specs.Fmt.{decimal, signed_decimal}
-use Rattle.std.specs.Char.{is_ascii_digit}
-use Rattle.std.proofs.lemmas.Bool.{le-ltb as false_lt, lt-leb as false_le}
+use Rattle.std.specs.Fmt.{decimal}
+use Rattle.std.proofs.lemmas.Bool.{lt-leb as false_le}
 use Rattle.std.proofs.lemmas.Bool.Decides.{nat_tests}
 use Rattle.its_model.specs.model.Programs.{Program, Rule, rule_at, arity_of}
 use Rattle.its_model.proofs.ListLaws.{all-from}
 use Rattle.proof_tree.specs.rule_forms.linear_forms.Forms.{Form}
-use Rattle.proof_tree.specs.proof_nodes.Limits.{IsFormInLimit}
-use Rattle.proof_tree.specs.proof_nodes.Nodes.{Spot, Arm, Linear, Poly, LocalBound, Member, SymbolForm}
-use Rattle.proof_tree.specs.proof_nodes.Nodes.{CostBy, EmptyCost, NeverCost, ArmCost}
+use Rattle.proof_tree.specs.proof_nodes.Nodes.{Spot, Arm, Linear, Poly, SymbolForm}
 use Rattle.text_grammar.specs.text_core.Choices.{when}
 use Rattle.text_grammar.specs.text_core.Faults.{Among}
 use Rattle.text_grammar.specs.text_core.Names.{continues_name}
@@ -30,15 +27,15 @@ use Rattle.proof_pieces.specs.Grammar.{class_of_word, proof_grammar}
 use Rattle.proof_pieces.specs.Lexing.{mode_with, symbol_names, symbol_of, word_of}
 use Rattle.proof_text.specs.Against.{has_place, or_else}
 use Rattle.proof_text.specs.Lists.{each_behind, listed, numbers_text}
-use Rattle.proof_text.specs.Remembered.{Draft, State, done, form_in, no_draft, no_form, before_last, last_of}
-use Rattle.proof_text.specs.Spelled.{IsArmWithin, IsCostByWithin, IsMemberWithin, IsSpotOf, IsSymbolFormWithin}
-use Rattle.proof_text.specs.Texts.{arm_text, cost_by_text, form_numbers, form_text, member_text, name_at}
+use Rattle.proof_text.specs.Remembered.{Draft, State, done, form_in, no_form, last_of}
+use Rattle.proof_text.specs.Spelled.{IsArmWithin, IsSpotOf, IsSymbolFormWithin}
+use Rattle.proof_text.specs.Texts.{arm_text, form_numbers, form_text, name_at}
 use Rattle.proof_text.proofs.Along.{Along, Bytes, Then, becomes, flatten, in_mode, makes, marks, reads, spelled_as}
-use Rattle.proof_text.proofs.Cutting.{Within, Bare, Shut, mode_in, blank, closes, dot, name_cut, named, number, opens}
+use Rattle.proof_text.proofs.Cutting.{Within, Bare, Shut, mode_in, blank, closes, name_cut, named, opens}
 use Rattle.proof_text.proofs.Cutting.{semicolon, word as read_word}
 use Rattle.proof_text.proofs.KeptLaws.{before_behind, last_behind}
-use Rattle.proof_text.proofs.Listing.{integers, list_then, next_then, numbers, plain, rule, same_32, small_number}
-use Rattle.proof_text.proofs.States.{Base, Last, Sure, limit_of, limit_least, limit_outside, none_large, now, rule_low, st}
+use Rattle.proof_text.proofs.Listing.{integers, list_then, next_then, numbers, plain}
+use Rattle.proof_text.proofs.States.{Base, Last, Sure, limit_of, limit_outside, none_large, now, st}
 use Rattle.proof_text.proofs.States.{symbol_name}
 
 -- the class of a name is one of those of names

@@ -1,6 +1,6 @@
 -- Scaled points and shut places are read along their texts.
-use Rattle.std.proofs.Common.{◌≡◌, ℕ, suc, ◌+◌, ◌-◌, ◌<◌, ◌≤◌, ◌^◌, min, Bool, true, false, cond, List, [], ◌∷◌, ◌++◌, length}
-use Rattle.std.proofs.Common.{map, take, Option, Some, None, refl, ap, sym, subst, ◌∙◌, arith, inl, inr, append-nil, append_assoc}
+use Rattle.std.proofs.Common.{◌≡◌, ℕ, suc, ◌-◌, ◌<◌, ◌≤◌, ◌^◌, min, Bool, true, false, cond, List, [], ◌∷◌, ◌++◌, length}
+use Rattle.std.proofs.Common.{map, take, Option, Some, None, refl, ap, sym, ◌∙◌, arith, inl, inr, append-nil, append_assoc}
 use Rattle.std.proofs.Common.{length-append}
 use Rattle.std.specs.Prelude.{ℤ, pos, negsuc, neg_ℤ, nat_abs, nat_lt, nat_le, ◌==◌, ◌||◌, ◌&&◌, codes}
 use Rattle.std.specs.List.{AllByRecursion, list_all}
@@ -13,7 +13,7 @@ use Rattle.its_model.specs.model.Programs.{Name, Program, arity_of}
 use Rattle.its_model.proofs.ListLaws.{all-from}
 use Rattle.proof_tree.specs.proof_nodes.Gaps.{ScaledPoint, SymbolPlace}
 use Rattle.text_grammar.specs.text_core.Choices.{when}
-use Rattle.text_grammar.specs.text_core.Bytes.{has_leading_zero, value_up_to}
+use Rattle.text_grammar.specs.text_core.Bytes.{value_up_to}
 use Rattle.text_grammar.specs.text_core.Names.{begins_name, continues_name}
 use Rattle.text_grammar.specs.text_core.Prefixes.{prefix}
 use Rattle.text_core.proofs.PrefixLaws.{Stops, prefix-append}
@@ -21,7 +21,6 @@ use Rattle.text_grammar.specs.declared.symbol.Symbol.{Symbol}
 use Rattle.text_grammar.specs.declared.symbol.Symbol.TheVariants as item
 use Rattle.proof_pieces.specs.declared.kind.ProofKind.{ProofKind}
 use Rattle.proof_pieces.specs.declared.kind.ProofKind.TheVariants as kind
-use Rattle.proof_pieces.specs.declared.piece.Behind.{Behind}
 use Rattle.proof_pieces.specs.declared.piece.Behind.TheVariants as behind
 use Rattle.proof_pieces.specs.declared.piece.Mode.TheVariants as mode
 use Rattle.proof_pieces.specs.declared.piece.Piece.{Piece}
@@ -30,7 +29,7 @@ use Rattle.proof_pieces.specs.Lexing.{behind_dot, behind_last_dot, lexeme, place
 use Rattle.proof_pieces.specs.Lexing.{symbol_of}
 use Rattle.proof_text.specs.Against.{or_else}
 use Rattle.proof_text.specs.Lists.{bracketed, each_before, each_behind, joined, listed}
-use Rattle.proof_text.specs.Remembered.{Draft, State, before_last, last_of, point_in}
+use Rattle.proof_text.specs.Remembered.{Draft, State, last_of, point_in}
 use Rattle.proof_text.specs.Spelled.{IsPlaceOf, IsPointWithin}
 use Rattle.proof_text.specs.Texts.{name_at, place_text, point_text}
 use Rattle.proof_text.proofs.Along.{Along, Bytes, IsCutOff, Then, becomes, flatten, makes, marks, reads, spelled_as}

@@ -1,11 +1,11 @@
 -- What is remembered between the parts of a node, and what is sure of a valid program.
-use Rattle.std.proofs.Common.{◌≡◌, ℕ, zero, suc, ◌-◌, ◌<◌, ◌≤◌, ◌^◌, min, Bool, true, false, cond, List, [], ◌∷◌, ◌++◌, length}
-use Rattle.std.proofs.Common.{map, Option, Some, None, refl, ap, sym, subst, ◌∙◌, arith}
-use Rattle.std.specs.Prelude.{nat_lt, nat_le, slice_get, slice_index_or, if◌then◌else◌, IsTrue}
+use Rattle.std.proofs.Common.{◌≡◌, ℕ, zero, suc, ◌-◌, ◌<◌, ◌≤◌, ◌^◌, min, Bool, true, false, cond, List, [], ◌∷◌, length}
+use Rattle.std.proofs.Common.{map, Some, None, refl, ap, sym, subst, ◌∙◌, arith}
+use Rattle.std.specs.Prelude.{nat_lt, slice_get, slice_index_or, if◌then◌else◌}
 use Rattle.std.specs.List.{AllByRecursion, list_all}
-use Rattle.std.proofs.lemmas.Bool.{le-ltb as false_lt, lt-leb as false_le}
+use Rattle.std.proofs.lemmas.Bool.{le-ltb as false_lt}
 use Rattle.std.proofs.lemmas.List.{length-map}
-use Rattle.its_model.specs.model.Programs.{Name, Symbol, Program, Rule, rule_at, arity_in, arity_of}
+use Rattle.its_model.specs.model.Programs.{Name, Symbol, Program, arity_in, arity_of}
 use Rattle.its_model.specs.model.Bounds.{Bound}
 use Rattle.its_model.specs.Valid.{IsValid, IsValidSymbol}
 use Rattle.proof_tree.specs.rule_forms.linear_forms.Limits.{certificate_limit, point_limit}

@@ -1,6 +1,5 @@
 -- What the code remembers of a proof file, as plain data.
 use Rattle.std.specs.Prelude.{List, [], ◌∷◌, map}
-use Rattle.farkas_cert.specs.declared.scaled.Scaled.{Scaled}
 use Rattle.proof_tree.specs.Views.{arm_of, cost_by_of, form_of, member_of, proof_of, spot_of}
 use Rattle.proof_tree.specs.AnswerViews.{gap_of, scaled_of, shut_of}
 use Rattle.proof_tree.specs.bound_expr.Views.{bound_of}

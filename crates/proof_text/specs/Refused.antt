@@ -1,8 +1,9 @@
 -- What the code tells of a piece, and what a result says.
-use Rattle.std.specs.Prelude.{ℕ, List, length, Result, Ok, Err, Option, Some, None, IfSome}
+use Rattle.std.specs.Prelude.{◌≡◌, ℕ, List, length, Result, Ok, Err, Option, Some, None, IfSome}
 use Rattle.its_model.specs.model.Programs.{Program}
 use Rattle.proof_tree.specs.AnswerViews.{file_of}
 use Rattle.proof_tree.specs.declared.file.ProofFile.{ProofFile}
+use Rattle.proof_tree.specs.proof_nodes.Gaps as plain
 use Rattle.text_grammar.specs.text_core.Readers.{Fault}
 use Rattle.text_grammar.specs.text_core.Faults.{IsFirst}
 use Rattle.text_grammar.specs.text_core.Reading.{IsTree}
@@ -30,3 +31,8 @@ told_of p s piece at = kind_at (against_piece p s piece) (position_of p s piece 
 abbrev pub Answers : Program → List ℕ → Result ProofFile ProofTextError → Type 0
 Answers p bytes (Ok file) = IsTree (reader (proofs_of p)) (length bytes) (tokens p bytes) (file_of file)
 Answers p bytes (Err e) = IfSome (refusal_in e) (IsFirst (reader (proofs_of p)) (length bytes) (tokens p bytes))
+
+-- a result is this file, unless memory ran out
+abbrev pub GivesBack : plain.ProofFile → Result ProofFile ProofTextError → Type 0
+GivesBack f (Ok file) = file_of file ≡ f
+GivesBack f (Err e) = refusal_in e ≡ None

@@ -149,7 +149,8 @@ pub record TextsAreTold : Type 0 where
   -- each other kind of node
   pub empty : HasLine (Empty 2 (3 ∷ 10 ∷ [])) (codes "empty 2 [3 10]")
   pub unreached : HasLine (Unreached 2 NoProof) (codes "unreached 2 uses {}")
-  pub uses : HasLine (Unreached 2 (AndProof (Cite 1) (AndProof Start NoProof))) (codes "unreached 2 uses {cite 1; start}")
+  pub uses : HasLine (Unreached 2 (AndProof (Cite 1) (AndProof Start NoProof)))
+      (codes "unreached 2 uses {cite 1; start}")
   pub never : HasLine (Never (Cite 1)) (codes "never (cite 1)")
   pub poly : HasLine
       (Spread (record {

@@ -9,7 +9,8 @@ use Rattle.proof_pieces.specs.declared.piece.Word.TheVariants as word
 use Rattle.proof_pieces.specs.declared.piece.Sign.TheVariants as sign
 use Rattle.proof_pieces.specs.declared.piece.Behind.TheVariants as behind
 use Rattle.proof_pieces.specs.declared.piece.Piece.{Piece}
-use Rattle.proof_pieces.specs.declared.piece.Piece.TheVariants.{First, Name, Number, Sign as ASign, Place, InBound, Wrong}
+use Rattle.proof_pieces.specs.declared.piece.Piece.TheVariants.{First, Name, Number, Sign as ASign, Place, InBound}
+use Rattle.proof_pieces.specs.declared.piece.Piece.TheVariants.{Wrong}
 use Rattle.proof_pieces.specs.Grammar.{proof_grammar}
 use Rattle.proof_pieces.specs.Lexing.{tokens}
 use Rattle.proof_text.specs.Worked.{counting}

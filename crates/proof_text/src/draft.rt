@@ -246,8 +246,7 @@ impl Draft {
         ensures { (n : ℕ) (negative : Bool) → OnOk result
             (draft_of self.new ≡ numbered n negative symbol action.FormRead (draft_of self.old)) }
     {
-        let Affine { coefs, constant } =
-            affine_from(replace(&mut self.integers, Vec::new(alloc)));
+        let Affine { coefs, constant } = affine_from(replace(&mut self.integers, Vec::new(alloc)));
         self.forms.push(Form {
             symbol,
             coefs,

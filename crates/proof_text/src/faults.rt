@@ -41,7 +41,11 @@ fn or_else(first: Option<ProofKind>, other: Option<ProofKind>) -> Option<ProofKi
 fn too_large(kept: &Kept, number: u128) -> Option<ProofKind>
     ensures { result ≡ against.too_large (own_of kept.now) number }
 {
-    let limit = if kept.in_gap { POINT_LIMIT } else { CERTIFICATE_LIMIT };
+    let limit = if kept.in_gap {
+        POINT_LIMIT
+    } else {
+        CERTIFICATE_LIMIT
+    };
     when(u128::from(limit) < number, ProofKind::NumberTooLarge)
 }
 
@@ -88,7 +92,10 @@ pub fn against_number(p: &Program, kept: &Kept, number: u128) -> Option<ProofKin
         ),
         Next::Place => or_else(
             too_large(kept, number),
-            when(!has_place(p, kept.draft.rule, number), ProofKind::BadReference),
+            when(
+                !has_place(p, kept.draft.rule, number),
+                ProofKind::BadReference,
+            ),
         ),
         Next::Number => too_large(kept, number),
     }

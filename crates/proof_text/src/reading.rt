@@ -1,6 +1,6 @@
 //! From a text to its proof file.
 
-ghost use Rattle.std.specs.Prelude.{◌≡◌, length, IsTrue};
+ghost use Rattle.std.specs.Prelude.{◌≡◌, ◌<◌, ◌^◌, length, IsTrue};
 ghost use Rattle.its_model.specs.Valid.{IsValid};
 ghost use Rattle.its_model.specs.Views.{program_of};
 ghost use Rattle.proof_tree.specs.AnswerViews.{file_of};
@@ -10,7 +10,9 @@ ghost use Rattle.text_grammar.specs.Results.{Tells};
 ghost use Rattle.text_grammar.specs.Texts.{reader};
 ghost use Rattle.proof_pieces.specs.Lexing.{symbol_names, tokens};
 ghost use Rattle.proof_text.specs.Reading.{proofs_of};
-ghost use Rattle.proof_text.specs.Refused.{Answers};
+ghost use Rattle.proof_tree.specs.proof_nodes.Gaps.{ProofFile as FileOf};
+ghost use Rattle.proof_text.specs.Refused.{Answers, GivesBack};
+ghost use Rattle.proof_text.specs.Spelled.{IsTextWithin};
 ghost use Rattle.proof_text.specs.Told.{refusal_in};
 
 use crate::error::ProofTextError;
@@ -27,14 +29,16 @@ use text_grammar::{Cut, Tables, read as read_tokens};
 ///
 /// The refusal at the least position is the answer, and at one position the one that comes first here. `Syntax` stands
 /// at the first token that can't follow, or at the text's length where it ends too early; at `cost` where the first
-/// line has a 1, and at `end` where it has a 2 and no node is on costs. `NumberTooLarge` stands at a number over 2^55 in
-/// absolute value, or over 2^45 in a gap. `TooDeep` stands at a node at level 65, `BadReference` at the number or the
-/// name of what there isn't, and `Limit` at lemma 100,001 or gap 1,001. In a bound `Syntax`, `NumberTooLarge` and
-/// `Limit` stand as where it is read alone, and a part at level 201 is `TooDeep` at its first byte. `Memory` comes where
-/// memory ran out.
+/// line has a 1, and at `end` where it has a 2 and no node is on costs. `NumberTooLarge` stands at a number over 2^55
+/// in absolute value, or over 2^45 in a gap. `TooDeep` stands at a node at level 65, `BadReference` at the number or
+/// the name of what there isn't, and `Limit` at lemma 100,001 or gap 1,001. In a bound `Syntax`, `NumberTooLarge` and
+/// `Limit` stand as where it is read alone, and a part at level 201 is `TooDeep` at its first byte. `Memory` comes
+/// where memory ran out.
 pub fn read(alloc: Global, p: &Program, bytes: &[u8]) -> Result<ProofFile, ProofTextError>
     requires { IsValid (program_of p.now) }
-    ensures { Answers (program_of p.now) bytes.now result }
+    ensures answer { Answers (program_of p.now) bytes.now result }
+    ensures complete { length (program_of p.now).symbols < 2 ^ 32 → (f : FileOf)
+        → IsTextWithin (program_of p.now) bytes.now f → GivesBack f result }
 {
     judge(alloc, p, bytes)
 }

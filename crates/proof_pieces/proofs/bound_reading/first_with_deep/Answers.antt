@@ -1,4 +1,4 @@
-use Rattle.std.proofs.Common.{◌≡◌, ℕ, Bool, cond, Option, ap, sym, ◌∙◌}
+use Rattle.std.proofs.Common.{Bool, cond, Option, ap, sym, ◌∙◌}
 use Rattle.text_grammar.specs.text_core.Readers.{Fault}
 use Rattle.text_grammar.specs.text_core.Reading.{first_of}
 use Rattle.text_grammar.specs.Marks.{fault_of, refusal_of}

@@ -3,7 +3,7 @@ use Rattle.std.specs.Prelude.{nat_lt, nat_le}
 use Rattle.std.proofs.lemmas.Bool.Decides.{nat_tests}
 use Rattle.its_model.specs.model.Programs.{arity_of}
 use Rattle.its_model.specs.Views.{program_of}
-use Rattle.proof_text.proofs.KeptLaws.{place_there, place_past}
+use Rattle.proof_text.proofs.KeptLaws.{place_there}
 use Rattle.proof_text.proofs.faults.has_place.Goals as goal
 
 pub returns-then-number-gt0 : goal.returns-then-number-gt0

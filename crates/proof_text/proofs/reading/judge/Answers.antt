@@ -1,4 +1,4 @@
-use Rattle.std.proofs.Common.{List, ℕ, length, sym, subst, ap, Ok, Err, ◌∙◌}
+use Rattle.std.proofs.Common.{List, length, sym, subst, ap, Ok, Err, ◌∙◌}
 use Rattle.its_model.specs.Views.{program_of}
 use Rattle.proof_tree.specs.AnswerViews.{file_of}
 use Rattle.text_grammar.specs.text_core.Reading.{answer}

@@ -1,4 +1,4 @@
-use Rattle.std.proofs.Common.{◌≡◌, List, ap, sym, ◌∙◌, map}
+use Rattle.std.proofs.Common.{◌≡◌, List, ap, ◌∙◌, map}
 use Rattle.proof_tree.specs.proof_nodes.Nodes.{Proof}
 use Rattle.proof_tree.specs.Views.{proof_of}
 use Rattle.proof_text.specs.Kept.{draft_of, outer_of, own_of}

@@ -1,8 +1,7 @@
-use Rattle.std.proofs.Common.{ap, ◌∙◌, map, List}
+use Rattle.std.proofs.Common.{ap, ◌∙◌, map}
 use Rattle.proof_tree.specs.Views.{proof_of}
-use Rattle.proof_tree.specs.proof_nodes.Nodes.{Proof}
 use Rattle.proof_text.specs.Kept.{draft_of, outer_of, own_of}
-use Rattle.proof_text.specs.Remembered.{Draft, Inside}
+use Rattle.proof_text.specs.Remembered.{Inside}
 use Rattle.proof_text.proofs.KeptLaws.{opens, outer_of-push}
 use Rattle.proof_text.proofs.kept.Kept.open_uses.Goals as goal
 

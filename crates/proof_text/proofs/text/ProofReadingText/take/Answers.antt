@@ -1,4 +1,4 @@
-use Rattle.std.proofs.Common.{Bool, Option, None, cond, ap, ◌∙◌}
+use Rattle.std.proofs.Common.{Option, None, cond, ap, ◌∙◌}
 use Rattle.its_model.specs.Views.{program_of}
 use Rattle.text_grammar.specs.text_core.Readers.{Fault}
 use Rattle.proof_pieces.specs.declared.kind.ProofKind.{ProofKind}
