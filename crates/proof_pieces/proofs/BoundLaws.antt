@@ -1,0 +1,346 @@
+-- Reading a bound piece by piece comes to the answer to all of it.
+use Rattle.std.proofs.Common.{◌≡◌, ℕ, zero, suc, ◌+◌, ◌-◌, ◌<◌, ◌≤◌, Bool, true, false, cond, List, [], ◌∷◌, ◌++◌, length}
+use Rattle.std.proofs.Common.{map, Option, Some, None, refl, ap, sym, subst, ◌∙◌, arith, length-append, inl, inr}
+use Rattle.std.specs.Prelude.{IfSome, ◌==◌, ◌&&◌, ◌||◌, nat_lt, slice_get, ◌⊎◌}
+use Rattle.std.specs.Option.{option_map}
+use Rattle.std.proofs.lemmas.Bool.Decides.{nat_tests}
+use Rattle.its_model.specs.model.Bounds.{Bound}
+use Rattle.bound_text.specs.Pieces.{Piece, Blank}
+use Rattle.bound_text.specs.Printing.{piece_of}
+use Rattle.bound_text.specs.Kinds as kinds
+use Rattle.bound_text.specs.Kinds.{Kind}
+use Rattle.bound_text.specs.Fronts.{Front}
+use Rattle.bound_text.specs.Steps.{finish}
+use Rattle.bound_text.specs.Reading.{stands}
+use Rattle.bound_text.specs.Carrying.{limited_step, first_of as first_kind}
+use Rattle.bound_text.specs.Inside.{Marks, deep_among, front_marks, other_kinds}
+use Rattle.bound_text.specs.Depths.{FindsDeep}
+use Rattle.bound_text.specs.Views.{front_of}
+use Rattle.bound_text.specs.declared.state.Reader.{Reader as CodeReader}
+use Rattle.text_grammar.specs.text_core.Tokens.{Token, pieces}
+use Rattle.text_grammar.specs.text_core.Readers.{Fault, onto}
+use Rattle.text_grammar.specs.text_core.Reading.{Refused, Stopped, Going, first_of, first_among}
+use Rattle.text_grammar.specs.text_core.Reading.{is_before, further, ended, run}
+use Rattle.text_grammar.specs.Folds.{refusals}
+use Rattle.text_grammar.specs.Marks.{fault_of, refusal_of}
+use Rattle.text_grammar.specs.declared.token.Fault as code_fault
+use Rattle.text_core.proofs.Walks.{onto-append}
+use Rattle.proof_pieces.specs.declared.inner.Inner.{Inner}
+use Rattle.proof_pieces.specs.declared.inner.BoundRead.{BoundRead}
+use Rattle.proof_pieces.specs.declared.bound_reading.Stepped.TheVariants.{Led, Off}
+use Rattle.proof_pieces.specs.declared.kind.ProofKind.{ProofKind}
+use Rattle.proof_pieces.specs.declared.kind.ProofKind.TheVariants.{Syntax, NumberTooLarge, TooDeep, BadReference, Limit}
+use Rattle.proof_pieces.specs.Bounds.{number_of, bound_levels, kind_of, as_told, too_deep, told_at_end, bounds_in, counted_from}
+use Rattle.proof_pieces.specs.Bounds.{bound_answer}
+use Rattle.proof_pieces.specs.BoundSteps.{answer_of, pieces_in, Steps, TellsDeep, IsBefore, or_told}
+use Rattle.proof_pieces.specs.BoundSteps.{or_syntax, ended_with, BreaksOff, Ends}
+
+-- a refusal of a kind at a position
+abbrev pub refused : ProofKind → ℕ → Fault ProofKind
+refused k at = record { kind = k; at = at }
+
+-- a refusal at a position that isn't before another's doesn't come first
+stays_first : (n : ℕ) (x : Fault ProofKind) (k : ProofKind) (at : ℕ) → x.at < at
+    → first_of (bounds_in n) (Some x) (refused k at) ≡ x
+stays_first n x k at h =
+    let e : is_before (bounds_in n) (refused k at) x ≡ false = grind (arith, nat_tests) in
+    ap (λ (v : Bool). cond v (refused k at) x) e
+
+-- a refusal so far with that of the next piece
+among_next : (n : ℕ) (best : Option (Fault ProofKind)) (told : Option ProofKind) (at : ℕ) → IfSome best (λ x. x.at < at)
+    → first_among (bounds_in n) best (refusals told at) ≡ or_told best told at
+among_next n None None at h = refl
+among_next n None (Some k) at h = refl
+among_next n (Some x) None at h = refl
+among_next n (Some x) (Some k) at h = ap (λ (y : Fault ProofKind). Some y) (stays_first n x k at h)
+
+-- no kind comes before `Syntax` at one position
+syntax_first : (n : ℕ) (k : ProofKind) (at : ℕ)
+    → first_of (bounds_in n) (Some (refused k at)) (refused Syntax at) ≡ refused Syntax at
+syntax_first n k at = go k (let e : (at == at) ≡ true = grind (arith, nat_tests) in e) (let e : nat_lt at at ≡ false = grind (arith, nat_tests) in e)
+  where
+    go : (k : ProofKind) → (at == at) ≡ true → nat_lt at at ≡ false
+        → cond (nat_lt at at || ((at == at) && nat_lt 1 (number_of k))) (refused Syntax at) (refused k at) ≡ refused Syntax at
+    go Syntax e f = rw (e, f) refl
+    go NumberTooLarge e f = rw (e, f) refl
+    go TooDeep e f = rw (e, f) refl
+    go BadReference e f = rw (e, f) refl
+    go Limit e f = rw (e, f) refl
+
+-- where a bound breaks off, what stands against the piece there doesn't count
+breaks_with : (n : ℕ) (best : Option (Fault ProofKind)) (told : Option ProofKind) (at : ℕ) → IfSome best (λ x. x.at < at)
+    → first_of (bounds_in n) (first_among (bounds_in n) best (refusals told at)) (refused Syntax at) ≡ or_syntax best at
+breaks_with n None None at h = refl
+breaks_with n None (Some k) at h = syntax_first n k at
+breaks_with n (Some x) None at h = stays_first n x Syntax at h
+breaks_with n (Some x) (Some k) at h =
+    ap (λ (y : Fault ProofKind). first_of (bounds_in n) (Some y) (refused Syntax at)) (stays_first n x k at h) ∙ stays_first n x Syntax at h
+
+-- the first of some and then of others
+among_both : (n : ℕ) (best : Option (Fault ProofKind)) (xs ys : List (Fault ProofKind))
+    → first_among (bounds_in n) best (xs ++ ys) ≡ first_among (bounds_in n) (first_among (bounds_in n) best xs) ys
+among_both n best [] ys = refl
+among_both n best (x ∷ xs) ys = among_both n (Some (first_of (bounds_in n) best x)) xs ys
+
+-- where reading has stopped, that is the answer
+run-stopped : (n len : ℕ) (rest : List (Token Piece)) (x : Fault ProofKind) → run (bounds_in n) len (Stopped x) rest ≡ Refused x
+run-stopped n len [] x = refl
+run-stopped n len (t ∷ rest) x = refl
+
+-- a refusal of the code stands before a position where the plain one does
+is_before_plain : (at : ℕ) (best : Option (code_fault.Fault ProofKind)) → IsBefore at best → IfSome (fault_of best) (λ x. x.at < at)
+is_before_plain at None h = tt
+is_before_plain at (Some x) h = h
+
+-- pieces that are counted, and others behind them
+counted_both : (i : ℕ) (xs ys : List Inner) → counted_from i (xs ++ ys) ≡ counted_from i xs ++ counted_from (i + length xs) ys
+counted_both i [] ys = ap (λ (k : ℕ). counted_from k ys) (let e : i ≡ i + 0 = omega arith in e)
+counted_both i (x ∷ xs) ys =
+    ap (λ (ts : List (Token Piece)). record { piece = piece_of x.piece; at = i; upto = suc i } ∷ ts)
+    (counted_both (suc i) xs ys ∙ ap (λ (k : ℕ). counted_from (suc i) xs ++ counted_from k ys) (let e : suc i + length xs ≡ i + suc (length xs) = omega arith in e))
+
+-- one more that is counted
+counted_more : (xs : List Inner) (x : Inner)
+    → counted_from 0 xs ++ record { piece = piece_of x.piece; at = length xs; upto = suc (length xs) } ∷ []
+    ≡ counted_from 0 (xs ++ x ∷ [])
+counted_more xs x =
+    ap (λ (k : ℕ). counted_from 0 xs ++ counted_from k (x ∷ []))
+    (let e : length xs ≡ 0 + length xs = omega arith in e) ∙ sym (counted_both 0 xs (x ∷ []))
+
+-- the pieces of tokens that are counted
+pub counted_pieces : (i : ℕ) (xs : List Inner) → pieces (counted_from i xs) ≡ pieces_in xs
+counted_pieces i [] = refl
+counted_pieces i (x ∷ xs) = ap (λ (ps : List Piece). piece_of x.piece ∷ ps) (counted_pieces (suc i) xs)
+
+-- a token that is counted stands at its number
+counted_at : (i j : ℕ) (xs : List Inner) → j < length xs → (t : Token Piece) × (slice_get (counted_from i xs) j ≡ Some t) × (t.at ≡ i + j)
+counted_at i j [] h = absurd (omega (arith, h))
+counted_at i zero (x ∷ xs) h = (record { piece = piece_of x.piece; at = i; upto = suc i }, refl, omega arith)
+counted_at i (suc j) (x ∷ xs) h = let w = counted_at (suc i) j xs (omega (arith, h)) in let e = w.2 in (w.0, w.1, omega (arith, e))
+
+-- what is too deep in tokens is so in those with others behind them
+deep_front : (most : ℕ) (marks : Marks) (ts us : List (Token Piece))
+    → (deep_among most marks ts ≡ []) ⊎ (deep_among most marks (ts ++ us) ≡ deep_among most marks ts)
+deep_front most [] ts us = inl refl
+deep_front most (m ∷ marks) [] us = inl refl
+deep_front most (None ∷ marks) (t ∷ ts) us = deep_front most marks ts us
+deep_front most (Some level ∷ marks) (t ∷ ts) us = go (nat_lt most level) (deep_front most marks ts us)
+  where
+    go : (v : Bool) → (deep_among most marks ts ≡ []) ⊎ (deep_among most marks (ts ++ us) ≡ deep_among most marks ts)
+        → (cond v (record { kind = kinds.TooDeep; at = t.at } ∷ []) (deep_among most marks ts) ≡ [])
+        ⊎ (cond v (record { kind = kinds.TooDeep; at = t.at } ∷ []) (deep_among most marks (ts ++ us)) ≡ cond v (record { kind = kinds.TooDeep; at = t.at } ∷ []) (deep_among most marks ts))
+    go true h = inr refl
+    go false h = h
+
+-- so many copies of a token
+abbrev copies : ℕ → Token Piece → List (Token Piece)
+copies zero t = []
+copies (suc k) t = t ∷ copies k t
+
+copied : (k j : ℕ) (t : Token Piece) → j < k → slice_get (copies k t) j ≡ Some t
+copied zero j t h = absurd (omega (arith, h))
+copied (suc k) zero t h = refl
+copied (suc k) (suc j) t h = copied k j t (omega (arith, h))
+
+behind_copies : (ts : List (Token Piece)) (k j : ℕ) (t : Token Piece) → length ts ≤ j → j < length ts + k → slice_get (ts ++ copies k t) j ≡ Some t
+behind_copies [] k j t l h = copied k j t (omega (arith, h))
+behind_copies (u ∷ ts) k zero t l h = absurd (omega (arith, l))
+behind_copies (u ∷ ts) k (suc j) t l h = behind_copies ts k j t (omega (arith, l)) (omega (arith, h))
+
+-- where the first of some stands
+abbrev at_first : List (Fault Kind) → ℕ
+at_first [] = 0
+at_first (x ∷ xs) = x.at
+
+-- what is found too deep behind all tokens is none of them
+past_deep : (most : ℕ) (f : Front) (j : ℕ) (ts : List (Token Piece)) → FindsDeep most f (Some j) → length ts ≤ j → deep_among most (front_marks f) ts ≡ []
+past_deep most f j ts found h = go (deep_front most (front_marks f) ts (copies (suc j) one)) (deep_front most (front_marks f) ts (copies (suc j) other))
+  where
+    one : Token Piece
+    one = record { piece = Blank; at = 0; upto = 0 }
+
+    other : Token Piece
+    other = record { piece = Blank; at = 1; upto = 1 }
+
+    at_one : deep_among most (front_marks f) (ts ++ copies (suc j) one) ≡ record { kind = kinds.TooDeep; at = 0 } ∷ []
+    at_one = found (ts ++ copies (suc j) one) one (behind_copies ts (suc j) j one h (omega arith))
+
+    at_other : deep_among most (front_marks f) (ts ++ copies (suc j) other) ≡ record { kind = kinds.TooDeep; at = 1 } ∷ []
+    at_other = found (ts ++ copies (suc j) other) other (behind_copies ts (suc j) j other h (omega arith))
+
+    go : (deep_among most (front_marks f) ts ≡ []) ⊎ (deep_among most (front_marks f) (ts ++ copies (suc j) one) ≡ deep_among most (front_marks f) ts)
+        → (deep_among most (front_marks f) ts ≡ []) ⊎ (deep_among most (front_marks f) (ts ++ copies (suc j) other) ≡ deep_among most (front_marks f) ts)
+        → deep_among most (front_marks f) ts ≡ []
+    go (inl a) b = a
+    go (inr a) (inl b) = b
+    go (inr a) (inr b) =
+        let e : record { kind = kinds.TooDeep; at = 0 } ∷ [] ≡ record { kind = kinds.TooDeep; at = 1 } ∷ [] = sym at_one ∙ a ∙ sym b ∙ at_other in
+        let z : 0 ≡ 1 = ap at_first e in absurd (omega (arith, z))
+
+-- no part is too deep
+pub tells_none : (f : Front) (best : Option (code_fault.Fault ProofKind)) (count : ℕ) (found : Option ℕ) → found ≡ None
+    → FindsDeep bound_levels f found → TellsDeep f best count best
+tells_none f best count found is h =
+    let e : FindsDeep bound_levels f None = subst (FindsDeep bound_levels f) is h in
+    record { each = λ n xs l. sym (ap (λ (ys : List (Fault Kind)). first_among (bounds_in n) (fault_of best) (map as_told ys)) (e (counted_from 0 xs))) }
+
+-- one is, behind all pieces
+counted_length : (i : ℕ) (xs : List Inner) → length (counted_from i xs) ≡ length xs
+counted_length i [] = refl
+counted_length i (x ∷ xs) = ap suc (counted_length (suc i) xs)
+
+pub tells_past : (f : Front) (best : Option (code_fault.Fault ProofKind)) (count j : ℕ) (found : Option ℕ) → found ≡ Some j
+    → FindsDeep bound_levels f found → count ≤ j → TellsDeep f best count best
+tells_past f best count j found is h past =
+    let e : FindsDeep bound_levels f (Some j) = subst (FindsDeep bound_levels f) is h in
+    record {
+      each = λ n xs l. sym (ap (λ (ys : List (Fault Kind)). first_among (bounds_in n) (fault_of best) (map as_told ys))
+          (past_deep bound_levels f j (counted_from 0 xs) e (omega (arith, past, l, counted_length 0 xs))));
+    }
+
+-- one is
+pub tells_deep : (f : Front) (best : Option (code_fault.Fault ProofKind)) (count j : ℕ) (found : Option ℕ) (first : code_fault.Fault ProofKind) → found ≡ Some j
+    → FindsDeep bound_levels f found → j < count
+    → ((n : ℕ) → refusal_of first ≡ first_of (bounds_in n) (fault_of best) (refused TooDeep j))
+    → TellsDeep f best count (Some first)
+tells_deep f best count j found first is h within tells =
+    let e : FindsDeep bound_levels f (Some j) = subst (FindsDeep bound_levels f) is h in
+    record { each = λ n xs l. told n xs e (omega (arith, within, l)) }
+  where
+    told : (n : ℕ) (xs : List Inner) → FindsDeep bound_levels f (Some j) → j < length xs
+        → Some (refusal_of first) ≡ first_among (bounds_in n) (fault_of best) (too_deep f (counted_from 0 xs))
+    told n xs found l =
+        let w = counted_at 0 j xs l in
+        let e = w.2 in
+        ap (λ (y : Fault ProofKind). Some y) (tells n ∙ ap (λ (k : ℕ). first_of (bounds_in n) (fault_of best) (refused TooDeep k)) (let p : j ≡ w.0.at = omega (arith, e) in p))
+        ∙ sym (ap (λ (ys : List (Fault Kind)). first_among (bounds_in n) (fault_of best) (map as_told ys)) (found (counted_from 0 xs) w.0 w.1))
+
+-- a refusal that comes first stands before a position where both do
+pub first_before : (n count : ℕ) (best : Option (code_fault.Fault ProofKind)) (j : ℕ) (first : code_fault.Fault ProofKind) → IsBefore count best → j < count
+    → refusal_of first ≡ first_of (bounds_in n) (fault_of best) (refused TooDeep j) → first.at < count
+first_before n count None j first h l e = subst (λ (k : ℕ). k < count) (sym (ap (λ (y : Fault ProofKind). y.at) e)) l
+first_before n count (Some x) j first h l e = go (is_before (bounds_in n) (refused TooDeep j) (refusal_of x)) e
+  where
+    go : (v : Bool) → refusal_of first ≡ cond v (refused TooDeep j) (refusal_of x) → first.at < count
+    go true e = subst (λ (k : ℕ). k < count) (sym (ap (λ (y : Fault ProofKind). y.at) e)) l
+    go false e = subst (λ (k : ℕ). k < count) (sym (ap (λ (y : Fault ProofKind). y.at) e)) h
+
+-- how far reading has come: so many pieces were read, before which all refusals so far stand, and what is left decides
+-- the answer
+pub record Reads (n : ℕ) (all left : List Inner) (f : Front) (best : Option (code_fault.Fault ProofKind)) : Type 0 where
+  pub read : List Inner
+  pub count : length read + length left ≡ length all
+  pub before : IsBefore (length read) best
+  pub done : List (Token Piece)
+  pub tokens : onto done [] ≡ counted_from 0 read
+  pub decides : run (bounds_in n) (length all) (Going (fault_of best) done f) (counted_from (length read) left) ≡ bound_answer n all
+
+-- at the beginning
+pub reads_begun : (n : ℕ) (all : List Inner) (f : Front) → f ≡ (bounds_in n).beginning → Reads n all all f None
+reads_begun n all f e = record {
+  read = [];
+  count = omega arith;
+  before = tt;
+  done = [];
+  tokens = refl;
+  decides = ap (λ (g : Front). run (bounds_in n) (length all) (Going None [] g) (counted_from 0 all)) e;
+}
+
+-- a piece more
+pub reads_on : (n : ℕ) (all left behind : List Inner) (x : Inner) (f : Front) (best next : Option (code_fault.Fault ProofKind)) (r : CodeReader) (told : Option ProofKind) (at : ℕ)
+    → Reads n all left f best → left ≡ x ∷ behind → at ≡ length all - length left
+    → Steps n f (piece_of x.piece) (pieces_in behind) r (Led told)
+    → fault_of next ≡ or_told (fault_of best) told at → IsBefore (at + 1) next → Reads n all behind (front_of r) next
+reads_on n all left behind x f best next r told at d is place steps same before = go (subst (λ (xs : List Inner). Reads n all xs f best) is d) (place ∙ ap (λ (xs : List Inner). length all - length xs) is)
+  where
+    go : Reads n all (x ∷ behind) f best → at ≡ length all - suc (length behind) → Reads n all behind (front_of r) next
+    go d p = record {
+      read = d.read ++ x ∷ [];
+      count = let e = d.count in omega (arith, e, length-append d.read (x ∷ []));
+      before = subst (λ (k : ℕ). IsBefore k next) (let e = d.count in let s : at + 1 ≡ length (d.read ++ x ∷ []) = omega (arith, e, p, length-append d.read (x ∷ [])) in s) before;
+      done = t ∷ d.done;
+      tokens = onto-append d.done [] (t ∷ []) ∙ ap (λ (ts : List (Token Piece)). ts ++ t ∷ []) d.tokens ∙ counted_more d.read x;
+      decides =
+          ap (λ (o : Option (Fault ProofKind)). run (bounds_in n) (length all) (Going o (t ∷ d.done) (front_of r)) (counted_from (length (d.read ++ x ∷ [])) behind))
+          (same ∙ ap (or_told (fault_of best) told) here ∙ sym (among_next n (fault_of best) told (length d.read) (is_before_plain (length d.read) best d.before)))
+          ∙ ap (λ (k : ℕ). run (bounds_in n) (length all) (Going (first_among (bounds_in n) (fault_of best) (refusals told (length d.read))) (t ∷ d.done) (front_of r)) (counted_from k behind)) (let s : length (d.read ++ x ∷ []) ≡ suc (length d.read) = omega (arith, length-append d.read (x ∷ [])) in s)
+          ∙ sym (ap (λ (o : Option Front). run (bounds_in n) (length all) (further (bounds_in n) (first_among (bounds_in n) (fault_of best) (told_at_end o (too_deep f (onto d.done [])) ++ refusals told (length d.read))) d.done t o (refused Syntax (length d.read))) (counted_from (suc (length d.read)) behind)) steps.0)
+          ∙ ap (λ (k : Option ProofKind). run (bounds_in n) (length all) (further (bounds_in n) (first_among (bounds_in n) (fault_of best) (told_at_end (limited_step f (piece_of x.piece)) (too_deep f (onto d.done [])) ++ refusals k (length d.read))) d.done t (limited_step f (piece_of x.piece)) (refused Syntax (length d.read))) (counted_from (suc (length d.read)) behind))
+          (steps.2 ∙ ap (λ (ps : List Piece). option_map kind_of (first_kind (stands n f (piece_of x.piece) ps) other_kinds)) (sym (counted_pieces (suc (length d.read)) behind)))
+          ∙ d.decides;
+    }
+      where
+        t : Token Piece
+        t = record { piece = piece_of x.piece; at = length d.read; upto = suc (length d.read) }
+
+        here : at ≡ length d.read
+        here = let e = d.count in omega (arith, e, p)
+
+-- what stands before it, the end of a bound comes to what it ends with
+ended_as : (n : ℕ) (told : Option (Fault ProofKind)) (b : Option Bound) (at : ℕ) → IfSome told (λ x. x.at < at)
+    → ended (bounds_in n) told b (refused Syntax at) ≡ ended_with told b at
+ended_as n None None at h = refl
+ended_as n None (Some b) at h = refl
+ended_as n (Some x) None at h = ap (λ (y : Fault ProofKind). Refused y) (stays_first n x Syntax at h)
+ended_as n (Some x) (Some b) at h = refl
+
+-- nothing behind some
+behind_all : {X : Type 0} (xs : List X) → xs ++ [] ≡ xs
+behind_all [] = refl
+behind_all (x ∷ xs) = ap (λ (ys : List _). x ∷ ys) (behind_all xs)
+
+-- a piece that can't follow
+pub reads_off : (n : ℕ) (all left behind : List Inner) (x : Inner) (f : Front) (best : Option (code_fault.Fault ProofKind)) (r : CodeReader) (result : BoundRead) (at : ℕ)
+    → Reads n all left f best → left ≡ x ∷ behind → at ≡ length all - length left
+    → Steps n f (piece_of x.piece) (pieces_in behind) r Off → BreaksOff (front_of r) best at result → answer_of result ≡ bound_answer n all
+reads_off n all left behind x f best r result at d is place steps off =
+    go (subst (λ (xs : List Inner). Reads n all xs f best) is d) (place ∙ ap (λ (xs : List Inner). length all - length xs) is)
+  where
+    go : Reads n all (x ∷ behind) f best → at ≡ length all - suc (length behind) → answer_of result ≡ bound_answer n all
+    go d p =
+        off.is
+        ∙ ap (λ (y : Fault ProofKind). Refused y) (sym (breaks_with n (fault_of off.told) told at (is_before_plain at off.told off.before)))
+        ∙ ap (λ (o : Option (Fault ProofKind)). Refused (first_of (bounds_in n) (first_among (bounds_in n) o (refusals told at)) (refused Syntax at))) (off.first.each n d.read (sym here) ∙ deep)
+        ∙ ap (λ (o : Option (Fault ProofKind)). Refused (first_of (bounds_in n) o (refused Syntax at))) (sym (among_both n (fault_of best) (too_deep f (onto d.done [])) (refusals told at)))
+        ∙ ap (λ (k : ℕ). Refused (first_of (bounds_in n) (first_among (bounds_in n) (fault_of best) (too_deep f (onto d.done []) ++ refusals told k)) (refused Syntax (k)))) here
+        ∙ sym (run-stopped n (length all) (counted_from (suc (length d.read)) behind) _)
+        ∙ sym (ap (λ (o : Option Front). run (bounds_in n) (length all) (further (bounds_in n) (first_among (bounds_in n) (fault_of best) (told_at_end o (too_deep f (onto d.done [])) ++ refusals told (length d.read))) d.done t o (refused Syntax (length d.read))) (counted_from (suc (length d.read)) behind)) steps.0)
+        ∙ d.decides
+      where
+        told : Option ProofKind
+        told = option_map kind_of (first_kind (stands n f (piece_of x.piece) (pieces (counted_from (suc (length d.read)) behind))) other_kinds)
+
+        t : Token Piece
+        t = record { piece = piece_of x.piece; at = length d.read; upto = suc (length d.read) }
+
+        here : at ≡ length d.read
+        here = let e = d.count in omega (arith, e, p)
+
+        deep : first_among (bounds_in n) (fault_of best) (too_deep (front_of r) (counted_from 0 d.read)) ≡ first_among (bounds_in n) (fault_of best) (too_deep f (onto d.done []))
+        deep = ap (λ (g : Front). first_among (bounds_in n) (fault_of best) (too_deep g (counted_from 0 d.read))) steps.1
+            ∙ ap (λ (ts : List (Token Piece)). first_among (bounds_in n) (fault_of best) (too_deep f ts)) (sym d.tokens)
+
+-- the end
+pub reads_ended : (n : ℕ) (all left : List Inner) (f : Front) (best : Option (code_fault.Fault ProofKind)) (result : BoundRead)
+    → Reads n all left f best → length left ≡ 0 → Ends f best (length all) result → answer_of result ≡ bound_answer n all
+reads_ended n all left f best result d is ends = go left is d
+  where
+    go : (xs : List Inner) → length xs ≡ 0 → Reads n all xs f best → answer_of result ≡ bound_answer n all
+    go (x ∷ xs) none d = absurd (omega (arith, none))
+    go [] none d =
+        ends.is
+        ∙ sym (ended_as n (fault_of ends.told) (finish f) (length all) (is_before_plain (length all) ends.told ends.before))
+        ∙ ap (λ (o : Option (Fault ProofKind)). ended (bounds_in n) o (finish f) (refused Syntax (length all)))
+        (ends.first.each n d.read (let e = d.count in omega (arith, e))
+        ∙ ap (λ (ts : List (Token Piece)). first_among (bounds_in n) (fault_of best) (too_deep f ts)) (sym d.tokens)
+        ∙ ap (first_among (bounds_in n) (fault_of best)) (sym (behind_all (too_deep f (onto d.done [])))))
+        ∙ d.decides
+
+-- where reading stands, all refusals so far stand before the next piece
+pub reads_before : (n : ℕ) (all left : List Inner) (f : Front) (best : Option (code_fault.Fault ProofKind)) (at : ℕ)
+    → Reads n all left f best → at ≡ length all - length left → IsBefore at best
+reads_before n all left f best at d p = subst (λ (k : ℕ). IsBefore k best) (let e = d.count in let s : length d.read ≡ at = omega (arith, e, p) in s) d.before
+
+-- and as many pieces are left as there are, at most
+pub reads_left : (n : ℕ) (all left : List Inner) (f : Front) (best : Option (code_fault.Fault ProofKind)) → Reads n all left f best → length left ≤ length all
+reads_left n all left f best d = let e = d.count in omega (arith, e)

@@ -1,0 +1,10 @@
+-- what the contracts of this crate, and of those above it, cite
+pub mod Grammar
+pub mod Lexing
+pub mod Found
+pub mod Within
+pub mod Bounds
+-- the machinery of the functions inside
+pub mod BoundSteps
+-- the crates below, which callers name through this one
+pub use Rattle.bound_text.specs as bound_text

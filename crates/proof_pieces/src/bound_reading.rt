@@ -1,0 +1,246 @@
+//! Reading the bound that pieces spell.
+
+ghost use Rattle.std.specs.Prelude.{◌≡◌, ◌+◌, ℕ, List, Some, length, IfOk, IsTrue};
+ghost use Rattle.std.specs.Option.{option_map};
+ghost use Rattle.bound_text.specs.Pieces as plain;
+ghost use Rattle.bound_text.specs.Printing.{piece_of};
+ghost use Rattle.bound_text.specs.Checks.{caret_next};
+ghost use Rattle.bound_text.specs.Reading.{stands};
+ghost use Rattle.bound_text.specs.Carrying.{early_kinds, first_of};
+ghost use Rattle.bound_text.specs.Views.{front_of, is_settled, is_fresh};
+ghost use Rattle.bound_expr.specs.Views.{bound_of};
+ghost use Rattle.text_grammar.specs.text_core.Reading.{first_of as first_at, is_before};
+ghost use Rattle.text_grammar.specs.Marks.{fault_of, refusal_of};
+ghost use Rattle.proof_pieces.specs.Bounds.{bound_answer, bounds_in, kind_of};
+ghost use Rattle.proof_pieces.specs.BoundSteps.{BreaksOff, Ends, Steps, TellsDeep, IsBefore, answer_of, pieces_in};
+ghost use Rattle.proof_pieces.specs.BoundSteps.{ended_with, or_told, or_syntax as or_syntax_at};
+ghost use Rattle.proof_pieces.specs.declared.kind.ProofKind.TheVariants.{TooDeep};
+ghost use Rattle.proof_pieces.specs.BoundSteps.{told_from as told_by, with_size as with_size_of};
+
+use crate::inner::{BoundRead, Inner};
+use crate::kind::ProofKind;
+use bound_expr::Bound;
+use bound_text::{Fault as BoundFault, Piece as BoundPiece, Reader};
+use std::alloc::{AllocError, Global};
+use text_grammar::Fault;
+
+/// A bound inside a proof file may have so many levels.
+pub const BOUND_LEVELS: u64 = 200;
+
+/// What a piece comes to.
+#[derive(Clone, Copy, Debug, PartialEq, Eq)]
+pub(crate) enum Stepped {
+    /// It was read, and this is the first that stood against it.
+    Led(Option<ProofKind>),
+    /// It can't follow.
+    Off,
+}
+
+/// Reads the bound that pieces spell, over so many start arguments.
+///
+/// The first refusal is that at the least piece, and at one piece the one of the kind that comes first. A part is too
+/// deep at the piece with which it begins, in the tree as far as it was read.
+///
+/// # Errors
+///
+/// `AllocError` where an allocation fails.
+pub fn read_bound(alloc: Global, names: usize, pieces: &[Inner]) -> Result<BoundRead, AllocError>
+    ensures { IfOk result (λ read. answer_of read ≡ bound_answer names pieces.now) }
+{
+    let mut reader = Reader::new(alloc);
+    let mut best = None;
+    let mut rest = pieces;
+    while let Some((inner, behind)) = rest.split_first() {
+        let at = pieces.len() - rest.len();
+        match step(alloc, names, &mut reader, inner.piece, behind)? {
+            Stepped::Led(told) => best = or_told_at(best, told, at as u64),
+            Stepped::Off => return off(alloc, &reader, best, at),
+        }
+        rest = behind;
+    }
+    ended(alloc, reader, best, pieces.len())
+}
+
+// The refusal of a bound that breaks off behind so many pieces.
+fn off(
+    alloc: Global,
+    reader: &Reader,
+    best: Option<Fault<ProofKind>>,
+    count: usize,
+) -> Result<BoundRead, AllocError>
+    requires fresh { IsTrue (is_fresh reader.now) }
+    requires before { IsBefore count best }
+    ensures { IfOk result (λ read. BreaksOff (front_of reader.now) best count read) }
+{
+    let told = told_at_end(alloc, reader, best, count)?;
+    Ok(BoundRead::Refused(or_syntax(told, count as u64)))
+}
+
+// What comes of a bound that ends behind so many pieces.
+fn ended(
+    alloc: Global,
+    reader: Reader,
+    best: Option<Fault<ProofKind>>,
+    count: usize,
+) -> Result<BoundRead, AllocError>
+    requires settled { IsTrue (is_settled reader) }
+    requires before { IsBefore count best }
+    ensures { IfOk result (λ read. Ends (front_of reader) best count read) }
+{
+    let told = told_at_end(alloc, &reader, best, count)?;
+    match reader.finish() {
+        Ok(bound) => Ok(bound_or(told, bound)),
+        Err(BoundFault::Syntax) => Ok(BoundRead::Refused(or_syntax(told, count as u64))),
+        Err(_) => Err(AllocError),
+    }
+}
+
+// A bound, unless it is refused.
+fn bound_or(told: Option<Fault<ProofKind>>, bound: Bound) -> BoundRead
+    ensures { (at : ℕ) → answer_of result ≡ ended_with (fault_of told) (Some (bound_of bound)) at }
+{
+    match told {
+        Some(fault) => BoundRead::Refused(fault),
+        None => BoundRead::Stands(bound),
+    }
+}
+
+// A refusal, or else `Syntax` at a position.
+fn or_syntax(told: Option<Fault<ProofKind>>, at: u64) -> Fault<ProofKind>
+    ensures { refusal_of result ≡ or_syntax_at (fault_of told) at }
+{
+    match told {
+        Some(fault) => fault,
+        None => Fault {
+            kind: ProofKind::Syntax,
+            at,
+        },
+    }
+}
+
+// The first of a refusal so far and of the parts that are too deep, behind so many pieces.
+fn told_at_end(
+    alloc: Global,
+    reader: &Reader,
+    best: Option<Fault<ProofKind>>,
+    count: usize,
+) -> Result<Option<Fault<ProofKind>>, AllocError>
+    requires fresh { IsTrue (is_fresh reader.now) }
+    requires before { IsBefore count best }
+    ensures first { IfOk result (TellsDeep (front_of reader.now) best count) }
+    ensures before { IfOk result (IsBefore count) }
+{
+    let Some(index) = reader.deep_part(alloc, BOUND_LEVELS)? else {
+        return Ok(best);
+    };
+    if index < count {
+        Ok(Some(first_with_deep(best, index as u64)))
+    } else {
+        Ok(best)
+    }
+}
+
+// The first of a refusal so far and of a part that is too deep.
+fn first_with_deep(best: Option<Fault<ProofKind>>, at: u64) -> Fault<ProofKind>
+    ensures { (n : ℕ) → refusal_of result ≡ first_at (bounds_in n) (fault_of best)
+        (record { kind = TooDeep; at = at }) }
+{
+    let deep = Fault {
+        kind: ProofKind::TooDeep,
+        at,
+    };
+    match best {
+        Some(fault) => { if comes_behind(fault, at) { deep } else { fault } }
+        None => deep,
+    }
+}
+
+// Whether a refusal comes behind that of a part that is too deep.
+fn comes_behind(fault: Fault<ProofKind>, at: u64) -> bool
+    ensures { (n : ℕ) → result ≡ is_before (bounds_in n) (record { kind = TooDeep; at = at }) (refusal_of fault) }
+{
+    let last = matches!(fault.kind, ProofKind::BadReference | ProofKind::Limit);
+    at < fault.at || (at == fault.at && last)
+}
+
+// Where a piece leads, before these.
+fn step(
+    alloc: Global,
+    names: usize,
+    reader: &mut Reader,
+    piece: BoundPiece,
+    behind: &[Inner],
+) -> Result<Stepped, AllocError>
+    requires { IsTrue (is_settled reader.old) }
+    ensures { IfOk result (Steps names (front_of reader.old) (piece_of piece) (pieces_in behind.now) reader.new) }
+{
+    let told = told_before(reader, names, is_caret_next(behind), piece);
+    match reader.step(alloc, piece) {
+        Ok(()) => Ok(Stepped::Led(with_size(told, reader.is_too_large()))),
+        Err(BoundFault::Syntax) => Ok(Stepped::Off),
+        Err(_) => Err(AllocError),
+    }
+}
+
+// The first that stands against the next piece by itself.
+fn told_before(reader: &Reader, names: usize, caret: bool, piece: BoundPiece) -> Option<ProofKind>
+    ensures { (behind : List plain.Piece) → caret ≡ caret_next behind → result ≡ option_map kind_of
+        (first_of (stands names (front_of reader.now) (piece_of piece) behind) early_kinds) }
+{
+    match reader.fault_of_next(names, caret, piece) {
+        Some(fault) => told_from(fault),
+        None => None,
+    }
+}
+
+// The kind of a refusal of a bound.
+fn told_from(fault: BoundFault) -> Option<ProofKind>
+    ensures { result ≡ told_by fault }
+{
+    match fault {
+        BoundFault::Syntax => Some(ProofKind::Syntax),
+        BoundFault::NumberTooLarge => Some(ProofKind::NumberTooLarge),
+        BoundFault::UnknownName => Some(ProofKind::BadReference),
+        BoundFault::TooDeep => Some(ProofKind::TooDeep),
+        BoundFault::TooLarge => Some(ProofKind::Limit),
+        BoundFault::Memory => None,
+    }
+}
+
+// The first that stands against a piece, where with it a bound may be too large.
+fn with_size(told: Option<ProofKind>, large: bool) -> Option<ProofKind>
+    ensures { result ≡ with_size_of told large }
+{
+    match told {
+        Some(kind) => Some(kind),
+        None if large => Some(ProofKind::Limit),
+        None => None,
+    }
+}
+
+// A refusal so far, or else one of this kind at a position.
+fn or_told_at(
+    best: Option<Fault<ProofKind>>,
+    told: Option<ProofKind>,
+    at: u64,
+) -> Option<Fault<ProofKind>>
+    requires { IsBefore at best }
+    ensures first { fault_of result ≡ or_told (fault_of best) told at }
+    ensures before { IsBefore (at + 1) result }
+{
+    match (best, told) {
+        (Some(fault), _) => Some(fault),
+        (None, Some(kind)) => Some(Fault { kind, at }),
+        (None, None) => None,
+    }
+}
+
+// Whether `^` comes next.
+fn is_caret_next(pieces: &[Inner]) -> bool
+    ensures { result ≡ caret_next (pieces_in pieces.now) }
+{
+    match pieces {
+        [first, ..] => matches!(first.piece, BoundPiece::Caret),
+        [] => false,
+    }
+}

@@ -1,0 +1,27 @@
+//! Pieces of proof files: how bytes are cut into them, the grammar over them, and how the bound is read that some of
+//! them spell.
+//! Contract to the layer above: `ProofLexer` cuts as `specs/Lexing` says, and `read_bound` answers exactly the bound
+//! that pieces spell, or its first refusal.
+#![tactic(auto)]
+
+mod bound_pieces;
+mod bound_reading;
+mod classes;
+mod grammar;
+mod inner;
+mod kind;
+mod law;
+mod lexer;
+mod modes;
+mod names;
+mod piece;
+mod words;
+
+pub use bound_reading::{BOUND_LEVELS, read_bound};
+pub use classes::class_of;
+pub use grammar::{CLASSES, PROOF_GRAMMAR, ROUNDS};
+pub use inner::{BoundRead, Inner};
+pub use kind::ProofKind;
+pub use law::bounds_stand;
+pub use lexer::ProofLexer;
+pub use piece::{Behind, Mode, Piece, Sign, Word};

@@ -1,0 +1,65 @@
+//! What pieces leave open.
+
+ghost use Rattle.std.specs.Prelude.{◌≡◌};
+ghost use Rattle.proof_pieces.specs.Lexing.{depth_behind as depth_behind_piece, ends_before as ends_before_bytes};
+ghost use Rattle.proof_pieces.specs.Lexing.{ends_bound as ends_bound_at, mode_with as mode_with_piece};
+ghost use Rattle.proof_pieces.specs.Lexing.{plain_behind as plain_behind_piece};
+
+use crate::piece::{Mode, Piece, Sign, Word};
+use bound_text::Piece as BoundPiece;
+
+/// Whether a byte ends a bound with so many open brackets.
+pub fn ends_bound(depth: u64, byte: u8) -> bool
+    ensures { result ≡ ends_bound_at depth byte }
+{
+    byte == b';' || byte == b'}' || byte == b'\n' || (byte == b')' && depth == 0)
+}
+
+// The mode behind a piece where nothing was open.
+fn plain_behind(piece: Piece) -> Mode
+    ensures { result ≡ plain_behind_piece piece }
+{
+    match piece {
+        Piece::Name(Word::Shut, _) => Mode::InShut,
+        Piece::Sign(Sign::Close) => Mode::Closed,
+        _ => Mode::Plain,
+    }
+}
+
+/// Whether a bound with so many open brackets ends before these bytes.
+pub fn ends_before(depth: u64, bytes: &[u8]) -> bool
+    ensures { result ≡ ends_before_bytes depth bytes.now }
+{
+    match bytes {
+        [first, ..] => ends_bound(depth, *first),
+        [] => true,
+    }
+}
+
+/// How many brackets are open behind a piece of a bound.
+pub fn depth_behind(depth: u64, piece: BoundPiece) -> u64
+    ensures { result ≡ depth_behind_piece depth piece }
+{
+    match piece {
+        BoundPiece::Open | BoundPiece::Maximum => depth.saturating_add(1),
+        BoundPiece::Close => depth.saturating_sub(1),
+        _ => depth,
+    }
+}
+
+/// The mode behind a piece.
+pub fn mode_with(mode: Mode, piece: Piece) -> Mode
+    ensures { result ≡ mode_with_piece mode piece }
+{
+    match (mode, piece) {
+        (Mode::InShut, Piece::Sign(Sign::CloseSquare)) => Mode::Plain,
+        (Mode::InShut, _) => Mode::InShut,
+        (Mode::Closed, Piece::Sign(Sign::Blank)) => Mode::ClosedBlank,
+        (Mode::ClosedBlank, Piece::Name(Word::To, _)) => Mode::To,
+        (Mode::To, Piece::Sign(Sign::Blank)) => Mode::InBound(0),
+        (Mode::InBound(depth), Piece::InBound(piece, _, _)) => Mode::InBound(depth_behind(
+            depth, piece,
+        )),
+        (_, piece) => plain_behind(piece),
+    }
+}

@@ -1,0 +1,137 @@
+-- Places with their local bounds, and how costs are shown, are read along their texts.
+use Rattle.std.proofs.Common.{◌≡◌, ℕ, ◌≤◌, ◌^◌, false, List, [], ◌∷◌, ◌++◌, map, length, refl, ap, sym, arith, inl, inr, append-nil}
+use Rattle.std.proofs.Common.{append_assoc}
+use Rattle.std.specs.Prelude.{codes}
+use Rattle.std.specs.List.{AllByRecursion}
+use Rattle.std.specs.Fmt.{decimal}
+use Rattle.its_model.specs.model.Programs.{Program}
+use Rattle.its_model.proofs.ListLaws.{all-from}
+use Rattle.proof_tree.specs.proof_nodes.AcceptsPlain.{IsRule}
+use Rattle.proof_tree.specs.proof_nodes.Nodes.{Spot, Member}
+use Rattle.proof_tree.specs.proof_nodes.Nodes.{CostBy, EmptyCost, NeverCost, ArmCost}
+use Rattle.text_grammar.specs.text_core.Names.{continues_name}
+use Rattle.text_core.proofs.PrefixLaws.{Stops}
+use Rattle.text_grammar.specs.declared.symbol.Symbol.{Symbol}
+use Rattle.text_grammar.specs.declared.symbol.Symbol.TheVariants as item
+use Rattle.proof_pieces.specs.declared.piece.Mode.TheVariants as mode
+use Rattle.proof_pieces.specs.Lexing.{symbol_names, symbol_of}
+use Rattle.proof_text.specs.Lists.{each_behind, listed}
+use Rattle.proof_text.specs.Remembered.{Draft, State, no_draft}
+use Rattle.proof_text.specs.Spelled.{IsCostByWithin, IsMemberWithin, IsSpotOf}
+use Rattle.proof_text.specs.Texts.{arm_text, cost_by_text, local_text, member_text}
+use Rattle.proof_text.proofs.Along.{Along, Bytes, Then, becomes, flatten, makes, marks, spelled_as}
+use Rattle.proof_text.proofs.Cutting.{Bare, blank, closes, dot, number, opens, semicolon, word}
+use Rattle.proof_text.proofs.Listing.{list_then, next_then, numbers, rule, same_32, small_number}
+use Rattle.proof_text.proofs.PartTexts.{Scratch, arm, fine, place_none, placed, scratch}
+use Rattle.proof_text.proofs.States.{Base, Last, Sure, limit_of, limit_least, st}
+
+-- the rule of a place is one
+spot_rule : (p : Program) (sp : Spot) → IsSpotOf p sp → IsRule p sp.rule
+spot_rule p sp h = record { rule = h.rule; numbered = h.numbered }
+
+-- a place is low
+spot_low : (p : Program) (sp : Spot) → Sure p → IsSpotOf p sp → sp.place ≤ 32
+spot_low p sp sure h = let m = h.most in let f = sure.few_places h.rule.target in omega (arith, m, f)
+
+module _ {p : Program} {ss : List Symbol} {rest : List ℕ} {Q : State → Type 0} (sure : Sure p) (b : Base)
+    (outside : b.in_gap ≡ false) where
+  -- both arms of a place
+  arms : (m : Member) → IsMemberWithin p m → Stops continues_name rest → (l : Last) (g : Scratch) (d : Draft)
+      → ((n : Last) (h : Scratch) → Along p ss
+      (st b n (placed h m.spot.rule m.spot (record d { members = d.members ++ m ∷ [] }))) mode.Plain rest Q)
+      → Along p (item.Piece 20 ∷ item.Piece 32 ∷ item.Made 30 ∷ item.Mark 33 ∷ item.Piece 32 ∷ item.Piece 21 ∷
+      item.Piece 32 ∷ item.Made 30 ∷ item.Mark 34 ∷ ss)
+      (st b l (placed g m.spot.rule m.spot d)) mode.Plain (local_text m.local ++ rest) Q
+  arms m h stops l g d more =
+      spelled_as (flatten (Then (Bytes (codes "up ")) (Then (Bytes (arm_text m.local.up)) (Then (Bytes (codes " low "))
+      (Bytes (arm_text m.local.low))))) rest)
+      (word 117 (codes "p") refl refl refl refl (blank Bare
+      (arm sure b outside m.local.up h.local.up refl (record l { symbol = symbol_of (symbol_names p) (codes "up") })
+      (placed g m.spot.rule m.spot d)
+      (λ n k. marks 33 (blank Bare (word 108 (codes "ow") refl refl refl refl (blank Bare
+      (arm sure b outside m.local.low h.local.low stops (record n { symbol = symbol_of (symbol_names p) (codes "low") })
+      (record (placed k m.spot.rule m.spot d) { up = m.local.up })
+      (λ o j. marks 34 (more o j))))))))))
+
+  -- a place with its local bound
+  pub member : (m : Member) → IsMemberWithin p m → Stops continues_name rest → (l : Last) (g : Scratch) (r : ℕ)
+      (sp : Spot) (d : Draft)
+      → ((n : Last) (h : Scratch) → Along p ss
+      (st b n (placed h m.spot.rule m.spot (record d { members = d.members ++ m ∷ [] }))) mode.Plain rest Q)
+      → Along p (item.Made 28 ∷ ss) (st b l (placed g r sp d)) mode.Plain (member_text m ++ rest) Q
+  member m h stops l g r sp d more =
+      let low = spot_low p m.spot sure h.spot in
+      let least = limit_least b in
+      let small : m.spot.place ≤ limit_of b = omega (arith, low, least) in
+      spelled_as (flatten (Then (Then (Bytes (decimal m.spot.rule)) (Then (Bytes (codes "."))
+      (Bytes (decimal m.spot.place)))) (Then (Bytes (codes " ")) (Bytes (local_text m.local)))) rest)
+      (makes 28 (item.Made 9 ∷ item.Piece 41 ∷ item.Mark 31 ∷ item.Made 8 ∷ item.Mark 32 ∷ item.Piece 32 ∷
+      item.Piece 20 ∷ item.Piece 32 ∷ item.Made 30 ∷ item.Mark 33 ∷ item.Piece 32 ∷ item.Piece 21 ∷ item.Piece 32 ∷
+      item.Made 30 ∷ item.Mark 34 ∷ []) (inl refl)
+      (rule b l (placed g r sp d) m.spot.rule sure (spot_rule p m.spot h.spot) refl
+      (dot (marks 31 (number Bare m.spot.place (small_number b m.spot.place small) refl
+      (place_none p (limit_of b) m.spot.rule m.spot.place m.spot h.spot refl refl small)
+      (marks 32 (becomes (ap (λ (n : ℕ). st b (record l { number = m.spot.place })
+      (placed g m.spot.rule (record { rule = m.spot.rule; place = n }) d)) (same_32 m.spot.place (omega (arith, low))))
+      (blank Bare (arms m h stops (record l { number = m.spot.place }) g d more)))))))))
+
+-- what closes or goes on stops a word
+members_stop : (ws : List (List ℕ)) (rest : List ℕ) → Stops continues_name (each_behind (codes "; ") ws ++ (93 ∷ rest))
+members_stop [] rest = refl
+members_stop (w ∷ ws) rest = refl
+
+module _ {p : Program} {ss : List Symbol} {rest : List ℕ} {Q : State → Type 0} (sure : Sure p) (b : Base)
+    (outside : b.in_gap ≡ false) where
+  -- further places
+  more_members : (ms : List Member) → AllByRecursion (IsMemberWithin p) ms → (l : Last) (g : Scratch) (r : ℕ) (sp : Spot)
+      (d : Draft)
+      → ((n : Last) (h : Scratch) (k : ℕ) (sq : Spot) → Along p ss
+      (st b n (placed h k sq (record d { members = d.members ++ ms }))) mode.Plain rest Q)
+      → Along p (item.Made 29 ∷ ss) (st b l (placed g r sp d)) mode.Plain
+      (each_behind (codes "; ") (map member_text ms) ++ (93 ∷ rest)) Q
+  more_members [] all l g r sp d more =
+      makes 29 (item.Piece 35 ∷ []) (inl refl)
+      (closes Bare (becomes (ap (λ (ms : List Member). st b l (placed g r sp (record d { members = ms })))
+      (sym (append-nil d.members))) (more l g r sp)))
+  more_members (m ∷ ms) all l g r sp d more =
+      spelled_as (next_then (member_text m) (map member_text ms) (93 ∷ rest))
+      (makes 29 (item.Piece 40 ∷ item.Piece 32 ∷ item.Made 28 ∷ item.Made 29 ∷ []) (inr (inl refl))
+      (semicolon (blank Bare (member sure b outside m all.0 (members_stop (map member_text ms) rest) l g r sp d
+      (λ n h. more_members ms all.1 n h m.spot.rule m.spot (record d { members = d.members ++ m ∷ [] })
+      (λ o i k sq. becomes (ap (λ (ks : List Member). st b o (placed i k sq (record d { members = ks })))
+      (append_assoc d.members (m ∷ []) ms)) (more o i k sq)))))))
+
+  -- the places of a loop
+  pub members : (ms : List Member) → 1 ≤ length ms → AllByRecursion (IsMemberWithin p) ms → (l : Last) (g : Scratch)
+      (r : ℕ) (sp : Spot) (d : Draft)
+      → ((n : Last) (h : Scratch) (k : ℕ) (sq : Spot) → Along p ss
+      (st b n (placed h k sq (record d { members = d.members ++ ms }))) mode.Plain rest Q)
+      → Along p (item.Piece 34 ∷ item.Made 28 ∷ item.Made 29 ∷ ss) (st b l (placed g r sp d)) mode.Plain
+      (listed (map member_text ms) ++ rest) Q
+  members [] one all l g r sp d more = absurd (omega (arith, one))
+  members (m ∷ ms) one all l g r sp d more =
+      spelled_as (list_then (member_text m) (map member_text ms) rest)
+      (opens Bare (member sure b outside m all.0 (members_stop (map member_text ms) rest) l g r sp d
+      (λ n h. more_members ms all.1 n h m.spot.rule m.spot (record d { members = d.members ++ m ∷ [] })
+      (λ o i k sq. becomes (ap (λ (ks : List Member). st b o (placed i k sq (record d { members = ks })))
+      (append_assoc d.members (m ∷ []) ms)) (more o i k sq)))))
+
+  -- how the cost of a rule is shown
+  pub by : (y : CostBy) → IsCostByWithin y → Stops continues_name rest → (l : Last) (r : ℕ)
+      → ((n : Last) (g : Scratch) → Along p ss
+      (st b n (scratch g (record no_draft { rule = r; by = y }))) mode.Plain rest Q)
+      → Along p (item.Made 31 ∷ ss) (st b l (record no_draft { rule = r })) mode.Plain (cost_by_text y ++ rest) Q
+  by (EmptyCost ms) h stops l r more =
+      makes 31 (item.Piece 6 ∷ item.Piece 32 ∷ item.Made 15 ∷ item.Mark 38 ∷ []) (inl refl)
+      (word 101 (codes "mpty") refl refl refl refl (blank Bare (numbers b ms
+      (fine b outside ms (all-from (λ k. k ≤ 2 ^ 55) ms h))
+      (record l { symbol = symbol_of (symbol_names p) (codes "empty") }) (record no_draft { rule = r })
+      (λ n. marks 38 (more n (record { den = 0; numbers = []; integers = []; form = no_draft.form }))))))
+  by NeverCost h stops l r more =
+      makes 31 (item.Piece 8 ∷ item.Mark 39 ∷ []) (inr (inl refl))
+      (word 110 (codes "ever") refl refl stops refl
+      (marks 39 (more (record l { symbol = symbol_of (symbol_names p) (codes "never") })
+      (record { den = 0; numbers = []; integers = []; form = no_draft.form }))))
+  by (ArmCost a) h stops l r more =
+      makes 31 (item.Made 30 ∷ item.Mark 40 ∷ []) (inr (inr (inl refl)))
+      (arm sure b outside a h stops l (record no_draft { rule = r }) (λ n g. marks 40 (more n g)))

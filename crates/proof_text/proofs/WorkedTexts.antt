@@ -1,0 +1,25 @@
+-- The texts of small proof files.
+use Rattle.std.proofs.Common.{refl}
+use Rattle.std.specs.Fmt.{digits}
+use Rattle.proof_text.specs.Texts.{text_of}
+use Rattle.proof_text.specs.Worked.{TextsAreTold}
+
+-- the texts are worked out
+pub texts_told : TextsAreTold
+unfolding text_of digits
+texts_told = record {
+  nothing_at_all = refl;
+  loop = refl;
+  empty = refl;
+  unreached = refl;
+  uses = refl;
+  never = refl;
+  poly = refl;
+  sum = refl;
+  exponent = refl;
+  factor = refl;
+  arm = refl;
+  no_point = refl;
+  never_run = refl;
+  gaps = refl;
+}

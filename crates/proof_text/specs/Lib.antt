@@ -1,0 +1,18 @@
+-- what the contracts of this crate, and of those above it, cite
+pub mod Lists
+pub mod Texts
+pub mod Listed
+pub mod Spelled
+pub mod Remembered
+pub mod Against
+pub mod Reading
+pub mod Kept
+pub mod Refused
+pub mod Told
+-- values that were worked out by hand
+pub mod Worked
+pub mod WorkedReading
+pub mod WorkedFaults
+pub mod TokenTexts
+-- the crates below, which callers name through this one
+pub use Rattle.proof_pieces.specs as proof_pieces

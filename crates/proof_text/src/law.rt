@@ -1,0 +1,28 @@
+//! Proof files and their texts, worked out by hand.
+
+ghost use Rattle.proof_text.specs.Worked.{WorkedTexts};
+ghost use Rattle.proof_text.specs.WorkedFaults.{FilesAreTold, ProofTextsAreRead};
+ghost use Rattle.proof_text.specs.WorkedReading.{ReadingIsTold};
+
+/// What the texts of small proof files are, and which files are within the limits, is what was worked out by hand, on
+/// both sides. It has no code: its contract is the law.
+pub fn worked_texts_hold()
+    ensures { WorkedTexts }
+{}
+
+/// The grammar of proof files can be read, each piece has a class of it, and how small beginnings are cut into pieces,
+/// and where they break off, is what was worked out by hand. It has no code: its contract is the law.
+pub fn worked_breaks_hold()
+    ensures { ReadingIsTold }
+{}
+
+/// What reading small proof files comes to, the file or the first refusal, is what was worked out by hand, on both
+/// sides. It has no code: its contract is the law.
+pub fn worked_files_hold()
+    ensures { FilesAreTold }
+{}
+
+/// The proof files of each program are read as the laws of readers have it. It has no code: its contract is the law.
+pub fn proof_texts_are_read()
+    ensures { ProofTextsAreRead }
+{}

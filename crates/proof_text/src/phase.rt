@@ -1,0 +1,20 @@
+//! What comes next in a proof file.
+
+/// What the piece that comes next stands for.
+#[derive(Clone, Copy, Debug, PartialEq, Eq)]
+pub enum Next {
+    /// Nothing but itself.
+    Nothing,
+    /// The beginning of a node.
+    Node,
+    /// An earlier lemma.
+    Lemma,
+    /// A rule.
+    Rule,
+    /// A place of the target of the last rule.
+    Place,
+    /// A number.
+    Number,
+    /// A symbol.
+    Symbol,
+}

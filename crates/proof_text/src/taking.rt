@@ -1,0 +1,152 @@
+//! What a piece of a proof file does, and what stands against it.
+
+ghost use Rattle.std.specs.Prelude.{◌≡◌, ◌-◌, ◌+◌, ◌^◌, ◌∷◌, ◌++◌, [], min, List, true, take, IfOk, OnOk};
+ghost use Rattle.its_model.specs.Views.{program_of};
+ghost use Rattle.text_grammar.specs.Marks.{fault_of};
+ghost use Rattle.proof_pieces.specs.declared.piece.Piece.TheVariants as piece_of;
+ghost use Rattle.proof_text.specs.Against.{bytes_of as bytes_in, position_in_bound as position_in};
+ghost use Rattle.proof_text.specs.Kept.{own_of};
+ghost use Rattle.proof_text.specs.Reading.{moved};
+ghost use Rattle.proof_text.specs.Refused.{kind_at, told_of};
+ghost use Rattle.proof_text.specs.Remembered.{in_64 as in_64_of};
+
+use crate::draft::{in_32, in_64};
+use crate::faults::{against_name, against_number, against_place, name_bytes};
+use crate::kept::Kept;
+use crate::phase::Next;
+use bound_expr::Bound;
+use bound_text::Piece as BoundPiece;
+use its_model::Program;
+use proof_pieces::{Behind, BoundRead, Inner, Piece, ProofKind, Sign, read_bound};
+use std::alloc::AllocError;
+use std::mem::replace;
+use text_grammar::Fault;
+
+// A refusal of a kind at a position, if there is one.
+fn fault_at(told: Option<ProofKind>, at: u64) -> Option<Fault<ProofKind>>
+    ensures { fault_of result ≡ kind_at told at }
+{
+    match told {
+        Some(kind) => Some(Fault { kind, at }),
+        None => None,
+    }
+}
+
+// The bytes of pieces of a bound, or 2^64-1 where there are more.
+fn bytes_of(pieces: &[Inner]) -> u64
+    ensures { result ≡ min (bytes_in pieces.now) (2 ^ 64 - 1) }
+{
+    let mut sum = 0u64;
+    for inner in pieces {
+        sum = sum.saturating_add(inner.len);
+    }
+    sum
+}
+
+// Where a bound is refused at the piece with this number, where its last piece stands at a position.
+fn position_in_bound(pieces: &[Inner], index: u64, at: u64) -> u64
+    ensures { (before : List Inner) (last : Inner) → pieces.now ≡ before ++ last ∷ []
+        → result ≡ in_64_of (at - bytes_in before + bytes_in (take index pieces.now)) }
+{
+    let Some((_, before)) = pieces.split_last() else {
+        return at;
+    };
+    let count = (pieces.len() as u64).min(index);
+    let first = at.saturating_sub(bytes_of(before));
+    first.saturating_add(bytes_of(&pieces[..count as usize]))
+}
+
+impl Kept {
+    /// Reads a piece at a position, and tells what stood against it.
+    ///
+    /// # Errors
+    ///
+    /// `AllocError` where an allocation fails.
+    pub fn read(
+        &mut self,
+        p: &Program,
+        piece: Piece,
+        at: u64,
+    ) -> Result<Option<Fault<ProofKind>>, AllocError>
+        ensures moved { OnOk result (own_of self.new ≡ moved (program_of p.now) piece (own_of self.old)) }
+        ensures told { IfOk result (λ told. fault_of told ≡ told_of (program_of p.now) (own_of self.old) piece at) }
+    {
+        match piece {
+            Piece::Name(word, symbol) => {
+                let told = against_name(p, self, word, symbol);
+                self.symbol = symbol;
+                self.coming = Next::Nothing;
+                Ok(fault_at(told, at))
+            }
+            Piece::Number(number) => {
+                let told = against_number(p, self, number);
+                self.number = number;
+                self.coming = Next::Nothing;
+                Ok(fault_at(told, at))
+            }
+            Piece::Sign(Sign::Minus) => {
+                self.negative = true;
+                Ok(None)
+            }
+            Piece::Place(symbol, behind) => self.read_place(p, symbol, behind, at),
+            Piece::InBound(piece, len, true) => self.end_bound(p, piece, len, at),
+            Piece::InBound(piece, len, false) => {
+                self.pieces.push(Inner { piece, len })?;
+                Ok(None)
+            }
+            Piece::First | Piece::Sign(_) | Piece::Wrong => Ok(None),
+        }
+    }
+
+    // Reads a place that is shut.
+    fn read_place(
+        &mut self,
+        p: &Program,
+        symbol: u32,
+        behind: Behind,
+        at: u64,
+    ) -> Result<Option<Fault<ProofKind>>, AllocError>
+        ensures moved { OnOk result
+            (own_of self.new ≡ moved (program_of p.now) (piece_of.Place symbol behind) (own_of self.old)) }
+        ensures told { IfOk result (λ told. fault_of told
+            ≡ told_of (program_of p.now) (own_of self.old) (piece_of.Place symbol behind) at) }
+    {
+        let told = against_place(p, self, symbol, behind);
+        if let Behind::Number(number) = behind {
+            self.draft.shut.push((symbol, in_32(number)))?;
+        }
+        let position = u128::from(at) + name_bytes(p, symbol, behind);
+        Ok(fault_at(told, in_64(position)))
+    }
+
+    // Reads the last piece of a bound, and with it the bound.
+    fn end_bound(
+        &mut self,
+        p: &Program,
+        piece: BoundPiece,
+        len: u64,
+        at: u64,
+    ) -> Result<Option<Fault<ProofKind>>, AllocError>
+        ensures moved { OnOk result
+            (own_of self.new ≡ moved (program_of p.now) (piece_of.InBound piece len true) (own_of self.old)) }
+        ensures told { IfOk result (λ told. fault_of told
+            ≡ told_of (program_of p.now) (own_of self.old) (piece_of.InBound piece len true) at) }
+    {
+        self.pieces.push(Inner { piece, len })?;
+        let pieces = replace(&mut self.pieces, Vec::new(self.alloc));
+        match read_bound(self.alloc, p.start_names.len(), &pieces)? {
+            BoundRead::Stands(bound) => {
+                self.bound = bound;
+                Ok(None)
+            }
+            BoundRead::Refused(fault) => {
+                self.bound = Bound::Const(0);
+                let position = position_in_bound(&pieces, fault.at, at);
+                Ok(Some(Fault {
+                    kind: fault.kind,
+                    at: position,
+                }))
+            }
+        }
+    }
+}
