@@ -1,6 +1,6 @@
--- Sizes that grow by a rule without a time, and times that are large, as it was worked out by hand: of k(A) -> l(A) with
--- l(A) -> l(2 * A); and of k(A) -> l(A) with l(A) -> l(A - 1) where A >= 1. An answer of the code has an address, which
--- no definition writes down; so what rests on one is said for every point that reads as the one that is answered.
+-- Sizes that grow by a rule without a time, and times that are large, as it was worked out by hand: of k(A) -> l(A)
+-- with l(A) -> l(2 * A); and of k(A) -> l(A) with l(A) -> l(A - 1) where A >= 1. An answer of the code has an address,
+-- which no definition writes down; so what rests on one is said for every point that reads as the one that is answered.
 use Rattle.std.specs.Prelude.{◌≡◌}
 use Rattle.farkas_cert.specs.declared.scaled.Scaled.{Scaled}
 use Rattle.outcome.specs.Reports.{TimeLarge, SizeUntimed}

@@ -61,7 +61,8 @@ two_components = (key 1 1 ∷ []) ∷ (key 2 1 ∷ []) ∷ []
 -- within no pivots no rule has a time; the first place squares itself, and the second takes it over
 abbrev pub squares_report : Report
 squares_report = record {
-  times = Untimed (TimeTripped (tripped_at 0 (asked.Rank 1))) ∷ Untimed (TimeTripped (tripped_at 0 (asked.Rank 2))) ∷ [];
+  times = Untimed (TimeTripped (tripped_at 0 (asked.Rank 1)))
+      ∷ Untimed (TimeTripped (tripped_at 0 (asked.Rank 2))) ∷ [];
   total = None;
   sizes = (Unsized (SizeBent (key 1 1)) ∷ []) ∷ (Unsized (SizeMissing (key 1 1)) ∷ []) ∷ [];
 }
@@ -82,7 +83,8 @@ towering_report = record {
   sizes = (Sized (tower 200) ∷ []) ∷ (Unsized (SizeLarge 823) ∷ []) ∷ [];
 }
 
--- the first rule has a time, and the place after it a size; the second rule has none, and the place after it grows by it
+-- the first rule has a time, and the place after it a size; the second rule has none, and the place after it grows by
+-- it
 abbrev pub growing_report : Report
 growing_report = record {
   times = Timed (Constant 1) ∷ Untimed (TimeTripped (tripped_at 0 (asked.Rank 2))) ∷ [];

@@ -21,9 +21,9 @@ pub record ComponentsOfSquares : Type 0 where
   pub no_other_first : (members : List Member) → IsComponentOf squares 0 1 1 members → members ≡ square_after 1 ∷ []
   pub no_other_second : (members : List Member) → IsComponentOf squares 0 2 1 members → members ≡ square_after 2 ∷ []
 
--- the first place squares itself in a loop, so it bends; the second one doesn't, which isn't in a loop, but rests on the
--- first one. Where that has a size, it isn't missing; and where it has one of 201 levels, the second size is large, with
--- 823 nodes and not 822. All reasons in the whole report are so; and not where the second place is told to bend
+-- the first place squares itself in a loop, so it bends; the second one doesn't, which isn't in a loop, but rests on
+-- the first one. Where that has a size, it isn't missing; and where it has one of 201 levels, the second size is large,
+-- with 823 nodes and not 822. All reasons in the whole report are so; and not where the second place is told to bend
 pub record SquaresAreWorkedOut : Type 0 where
   pub components : ComponentsOfSquares
   pub bent : HasNoSize squares 0 squares_said 1 1 (SizeBent (key 1 1))

@@ -7,9 +7,9 @@ ghost use Rattle.why_values.specs.Growths.{GrowthsAreWorkedOut};
 ghost use Rattle.why_values.specs.Squares.{SquaresAreWorkedOut};
 ghost use Rattle.why_values.specs.Trips.{TripsAreWorkedOut};
 
-/// Why rules have no time and places no size, on small programs, as it was worked out by hand: linear programs that pass
-/// a limit; sizes that rest on others, that bend in a loop, that grow by a rule without a time, and that are large; and
-/// a time that is large. It has no code: its contract is these values.
+/// Why rules have no time and places no size, on small programs, as it was worked out by hand: linear programs that
+/// pass a limit; sizes that rest on others, that bend in a loop, that grow by a rule without a time, and that are
+/// large; and a time that is large. It has no code: its contract is these values.
 pub fn missing_bounds_are_as_worked_out()
     ensures trips { TripsAreWorkedOut }
     ensures squares { SquaresAreWorkedOut }
