@@ -25,4 +25,4 @@ pub use laws::{
     strengthening_changes_no_run,
 };
 pub use rounds::facts;
-pub use strengthening::strengthen;
+pub use strengthening::{facts_at, greatest_least, strengthen};

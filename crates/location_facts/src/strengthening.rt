@@ -104,7 +104,11 @@ fn room_for(rule: &Rule) -> usize
 }
 
 /// The facts of a symbol, in order.
-pub(crate) fn facts_at(alloc: Global, symbol: u32, kept: &[LocFact]) -> Result<Vec<LocFact>, Memory>
+///
+/// # Errors
+///
+/// `Memory` where an allocation fails.
+pub fn facts_at(alloc: Global, symbol: u32, kept: &[LocFact]) -> Result<Vec<LocFact>, Memory>
     ensures { IfOk result (λ facts. facts.items ≡ facts_of_symbol symbol kept.now) }
 {
     let mut found = Vec::new(alloc);
@@ -208,8 +212,8 @@ fn negation(alloc: Global, minus: u32) -> Result<Expr, Memory>
     Ok(Expr::Neg(Box::new(alloc, Expr::Var(minus - 1))?))
 }
 
-// The greatest least of the facts with these places, where there is one.
-fn greatest_least(facts: &[LocFact], plus: u32, minus: u32) -> Option<i64>
+/// The greatest least of the facts with these places, where there is one.
+pub fn greatest_least(facts: &[LocFact], plus: u32, minus: u32) -> Option<i64>
     ensures { result ≡ greatest_of plus minus None facts.now }
 {
     let mut best = None;
