@@ -1,0 +1,11 @@
+use Rattle.std.proofs.Common.{◌≡◌, ◌++◌, map, drop}
+use Rattle.its_model.specs.Views.{name_of}
+use Rattle.proof_tree.specs.Views.{facts_of}
+use Rattle.check_text.specs.Texts.{fact_lines}
+use Rattle.check_text.proofs.facts.push_facts.Given as goal
+
+-- what is written and what is left make the whole
+abbrev pub invariant-loop-fact : goal.invariant-loop-fact
+invariant-loop-fact l =
+    l.text.items ++ fact_lines (map name_of l.names) (facts_of (drop l.fact-index l.facts))
+    ≡ l.initial.text.items ++ fact_lines (map name_of l.names) (facts_of l.facts)

@@ -1,0 +1,10 @@
+use Rattle.std.proofs.Common.{◌≡◌, ◌++◌, map, drop}
+use Rattle.proof_tree.specs.AnswerViews.{gap_of}
+use Rattle.check_text.specs.Texts.{gap_lines}
+use Rattle.check_text.proofs.facts.push_gaps.Given as goal
+
+-- what is written and what is left make the whole
+abbrev pub invariant-loop-gap : goal.invariant-loop-gap
+invariant-loop-gap l =
+    l.text.items ++ gap_lines (map gap_of (drop l.gap-index l.gaps))
+    ≡ l.initial.text.items ++ gap_lines (map gap_of l.gaps)

@@ -1,0 +1,8 @@
+-- the texts of answers
+pub mod Texts
+-- what is said of a file, with its text
+pub mod Verdicts
+-- values that were worked out by hand
+pub mod WorkedTexts
+-- what the contracts of the functions inside cite
+pub mod Told

@@ -1,0 +1,117 @@
+-- The texts of the checker's answers: the facts and the gaps of a file that is accepted, what is refused first of one
+-- that isn't, and what stands first against a text that is no proof file's.
+use Rattle.std.specs.Prelude.{ℕ, List, [], ◌∷◌, ◌++◌, slice_get, Option, Some, None, codes, decimal}
+use Rattle.its_model.specs.text_core.Readers.{Fault}
+use Rattle.model.specs.Bounds.{Bound}
+use Rattle.model.specs.Facts.{Fact, Time, Size, Cost}
+use Rattle.model.specs.Programs.{Name, Symbol, Program}
+use Rattle.bound_text.specs.Texts.{text_of}
+use Rattle.proof_tree.specs.proof_nodes.GapChecks.{GapFault, WrongShape, MoveOff, FloorOff, NotKept, Unbalanced}
+use Rattle.proof_tree.specs.proof_nodes.GapChecks.{LosesNothing}
+use Rattle.proof_tree.specs.proof_nodes.Gaps.{Gap}
+use Rattle.proof_tree.specs.proof_nodes.Reasons.{Reason, Shape, NotEmpty, Reached, NotZero, Move, Floor, ArmUp, ArmLow}
+use Rattle.proof_tree.specs.proof_nodes.Reasons.{MissingTime, MissingSize, Bent, Large, NotWeaker}
+use Rattle.proof_text.specs.proof_pieces.declared.kind.ProofKind.{ProofKind}
+use Rattle.proof_text.specs.proof_pieces.declared.kind.ProofKind.TheVariants.{Syntax, NumberTooLarge, TooDeep}
+use Rattle.proof_text.specs.proof_pieces.declared.kind.ProofKind.TheVariants.{BadReference, Limit}
+
+-- a rule and a place
+abbrev pub place_text : ℕ → ℕ → List ℕ
+place_text rule place = decimal rule ++ (codes "." ++ decimal place)
+
+-- a colon, the text of a bound, and the end of its line
+abbrev pub bound_end : List Name → Bound → List ℕ
+bound_end names b = codes ": " ++ (text_of names b ++ codes "\n")
+
+-- the line of a fact; that of the virtual entry has rule 0
+abbrev pub fact_line : List Name → Fact → List ℕ
+fact_line names (Time rule b) = codes "time " ++ (decimal rule ++ bound_end names b)
+fact_line names (Size rule place b) = codes "size " ++ (place_text rule place ++ bound_end names b)
+fact_line names (Cost rule b) = codes "cost " ++ (decimal rule ++ bound_end names b)
+
+-- a line for each fact, in order
+abbrev pub fact_lines : List Name → List Fact → List ℕ
+fact_lines names [] = []
+fact_lines names (f ∷ fs) = fact_line names f ++ fact_lines names fs
+
+-- the line of a gap: the rule that no function ranks
+abbrev pub gap_line : Gap → List ℕ
+gap_line g = codes "gap " ++ (decimal g.rule ++ codes "\n")
+
+-- a line for each gap, in order
+abbrev pub gap_lines : List Gap → List ℕ
+gap_lines [] = []
+gap_lines (g ∷ gs) = gap_line g ++ gap_lines gs
+
+-- the text of a file that is accepted: its facts, and then its gaps
+unfoldable pub accepted_text : Program → List Fact → List Gap → List ℕ
+accepted_text p facts gaps = codes "accepted\n" ++ (fact_lines p.start_names facts ++ gap_lines gaps)
+
+-- an arm: its rule, its place and its side
+abbrev pub arm_text : ℕ → ℕ → List ℕ → List ℕ
+arm_text rule place side = codes "arm " ++ (place_text rule place ++ side)
+
+-- why a node isn't accepted
+abbrev pub reason_text : Reason → List ℕ
+reason_text Shape = codes "shape"
+reason_text NotEmpty = codes "empty"
+reason_text Reached = codes "reached"
+reason_text NotZero = codes "zero"
+reason_text (Move rule) = codes "move " ++ decimal rule
+reason_text Floor = codes "floor"
+reason_text (ArmUp rule place) = arm_text rule place (codes " up")
+reason_text (ArmLow rule place) = arm_text rule place (codes " low")
+reason_text (MissingTime rule) = codes "missing time " ++ decimal rule
+reason_text (MissingSize rule place) = codes "missing size " ++ place_text rule place
+reason_text (Bent rule place) = codes "bent " ++ place_text rule place
+reason_text (Large nodes) = codes "large " ++ decimal nodes
+reason_text NotWeaker = codes "weaker"
+
+-- the node of a lemma that is refused, both counted from 1, and why
+abbrev pub no_lemma_text : ℕ → ℕ → Reason → List ℕ
+no_lemma_text lemma node reason =
+    codes "no lemma " ++ (decimal lemma ++ (codes " node " ++ (decimal node ++ (codes ": "
+    ++ (reason_text reason ++ codes "\n")))))
+
+-- the name of a symbol, if there is one
+abbrev pub name_in : Option Symbol → Name
+name_in None = []
+name_in (Some s) = s.name
+
+-- the balance of a place of a symbol; place 0 is that of the constant
+abbrev pub balance_text : List Symbol → ℕ → ℕ → List ℕ
+balance_text symbols symbol place =
+    codes "balance " ++ (name_in (slice_get symbols symbol) ++ (codes "." ++ decimal place))
+
+-- why a gap doesn't hold
+abbrev pub fault_text : List Symbol → GapFault → List ℕ
+fault_text symbols WrongShape = codes "shape"
+fault_text symbols (MoveOff rule) = codes "move " ++ decimal rule
+fault_text symbols FloorOff = codes "floor"
+fault_text symbols (NotKept rule) = codes "kept " ++ decimal rule
+fault_text symbols (Unbalanced symbol place) = balance_text symbols symbol place
+fault_text symbols LosesNothing = codes "nothing"
+
+-- the gap that doesn't hold, counted from 1, and why
+abbrev pub no_gap_text : Program → ℕ → GapFault → List ℕ
+no_gap_text p gap fault =
+    codes "no gap " ++ (decimal gap ++ (codes ": " ++ (fault_text p.symbols fault ++ codes "\n")))
+
+-- the text where a proof's file is too long
+abbrev pub proof_too_long_text : List ℕ
+proof_too_long_text = codes "proof refused: too long\n"
+
+-- what is wrong with a proof's text
+abbrev pub proof_kind_text : ProofKind → List ℕ
+proof_kind_text Syntax = codes "Syntax"
+proof_kind_text NumberTooLarge = codes "NumberTooLarge"
+proof_kind_text TooDeep = codes "TooDeep"
+proof_kind_text BadReference = codes "BadReference"
+proof_kind_text Limit = codes "Limit"
+
+-- the text of a refusal: the byte, from 0, and what is wrong there
+abbrev pub proof_refusal_line : ℕ → List ℕ → List ℕ
+proof_refusal_line at kind = codes "proof refused at " ++ (decimal at ++ (codes ": " ++ (kind ++ codes "\n")))
+
+abbrev pub proof_refusal_text : Fault ProofKind → List ℕ
+proof_refusal_text x = proof_refusal_line x.at (proof_kind_text x.kind)

@@ -1,0 +1,41 @@
+//! The text of a proof's text that is refused.
+
+ghost use Rattle.std.specs.Prelude.{◌≡◌, IfOk, IfSome, IsErr, None};
+ghost use Rattle.proof_text.specs.Told.{refusal_in};
+ghost use Rattle.check_text.specs.Texts.{proof_refusal_line, proof_refusal_text};
+
+use itoa::Buffer;
+use model::Memory;
+use proof_text::ProofTextError;
+use std::alloc::{AllocError, Global};
+
+/// What stands first against a proof's text, and at which byte.
+///
+/// # Errors
+///
+/// `Memory` where an allocation fails, and where the text wasn't read for want of memory.
+pub fn refusal_text(alloc: Global, error: &ProofTextError) -> Result<Vec<u8>, Memory>
+    ensures told { IfOk result (λ text. IfSome (refusal_in error.now) (λ x. text.items ≡ proof_refusal_text x)) }
+    ensures memory { refusal_in error.now ≡ None → IsErr result }
+{
+    match error {
+        ProofTextError::Syntax { at } => refused_at(alloc, *at, b"Syntax"),
+        ProofTextError::NumberTooLarge { at } => refused_at(alloc, *at, b"NumberTooLarge"),
+        ProofTextError::TooDeep { at } => refused_at(alloc, *at, b"TooDeep"),
+        ProofTextError::BadReference { at } => refused_at(alloc, *at, b"BadReference"),
+        ProofTextError::Limit { at } => refused_at(alloc, *at, b"Limit"),
+        ProofTextError::Memory => Err(AllocError),
+    }
+}
+
+// The text of a refusal at this byte.
+fn refused_at(alloc: Global, at: u64, kind: &[u8]) -> Result<Vec<u8>, Memory>
+    ensures { IfOk result (λ text. text.items ≡ proof_refusal_line at kind.now) }
+{
+    let mut text = Vec::from_slice(alloc, b"proof refused at ")?;
+    text.extend_from_slice(Buffer::new().format(at).as_bytes())?;
+    text.extend_from_slice(b": ")?;
+    text.extend_from_slice(kind)?;
+    text.extend_from_slice(b"\n")?;
+    Ok(text)
+}
