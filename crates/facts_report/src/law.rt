@@ -3,8 +3,8 @@
 ghost use Rattle.facts_report.specs.WithFacts.{ReportsWithFactsAreOne};
 ghost use Rattle.facts_report.specs.WorkedFactTexts.{FactTextsAreWorkedOut};
 
-/// The law that within a number of pivots a program has one list of kept facts at most, and one report with them. It has
-/// no code: its contract is the law.
+/// The law that within a number of pivots a program has one list of kept facts at most, and one report with them. It
+/// has no code: its contract is the law.
 pub fn reports_with_facts_are_one()
     ensures { ReportsWithFactsAreOne }
 {}

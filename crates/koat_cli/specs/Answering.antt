@@ -94,7 +94,8 @@ pub record AreAnswered (request : Word → Request) (FindsAll Misses : Program �
       → Ends s call put → s ≢ Memory → (s ≡ ProgramRefused) ↔ SpellsNone bytes
 
 -- so it is of calls that ask for the analysis of a file, by the times that the program's analysis finds; and of those
--- that ask for it with the facts at locations, by the times that are found of the program that its kept facts strengthen
+-- that ask for it with the facts at locations, by the times that are found of the program that its kept facts
+-- strengthen
 pub record HeldFilesAreAnswered : Type 0 where
   pub analyses : (pivots : ℕ)
       → AreAnswered (Analyse pivots) (λ p. FindsAllTimes p pivots) (λ p. MissesTimes p pivots)

@@ -78,9 +78,9 @@ pub record WroteReport (call : Call) (put : Put) (pivots : ℕ) (file : Word) (r
   pub stated : States program text report
   pub appended : Appends put.written_before put.written_after text
 
--- the file spells a program within the limits, and a text was appended, whole, that tells the facts that are kept at its
--- locations, and behind them the report of the program that they strengthen; each of these facts holds on every run of
--- the program, from any integers and by any choice of rules, and so does every bound in the report
+-- the file spells a program within the limits, and a text was appended, whole, that tells the facts that are kept at
+-- its locations, and behind them the report of the program that they strengthen; each of these facts holds on every run
+-- of the program, from any integers and by any choice of rules, and so does every bound in the report
 pub record WroteFacts (call : Call) (put : Put) (pivots : ℕ) (file : Word) (report : Report) : Type 0 where
   pub program : Program
   pub given : GivesProgram call.shelf file program
@@ -195,12 +195,11 @@ TellsOfTimes (Facts pivots file) = ⊤
 -- what statuses mean: where `analyse` ends with `Done`, such a report was written, in which every rule has a time, and
 -- where it ends with `Unknown`, one in which some rule has none; so it is with `facts` and such facts with a report;
 -- where `replay` ends with `Done`, the tally along the run was written beside the bounds. With `Unknown` a call ends
--- only where its words ask for something that tells of times: `analyse`, `facts` or `selfrun`.
--- With `Usage` a call ends only where its words ask for nothing that is there, and the usage text was written; with
--- `ReadFault` only where a file may fail that is fetched for its words; with `ProgramRefused` only where a text was
--- written that refuses the first file; with `RunRefused` and `NotARun` only where its words ask for a replay, and a text
--- was written that refuses the second file, or that tells the first bad step of the run; and no status comes of which
--- nothing is said
+-- only where its words ask for something that tells of times: `analyse`, `facts` or `selfrun`. With `Usage` a call ends
+-- only where its words ask for nothing that is there, and the usage text was written; with `ReadFault` only where a
+-- file may fail that is fetched for its words; with `ProgramRefused` only where a text was written that refuses the
+-- first file; with `RunRefused` and `NotARun` only where its words ask for a replay, and a text was written that
+-- refuses the second file, or that tells the first bad step of the run; and no status comes of which nothing is said
 pub record Means (status : Status) (call : Call) (put : Put) : Type 0 where
   pub done : (pivots : ℕ) (file : Word) → Asks call.words (Analyse pivots file) → status ≡ Done
       → (report : Report) × WroteReport call put pivots file report × IsTrue (list_all is_timed report.times)

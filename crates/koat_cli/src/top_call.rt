@@ -38,19 +38,18 @@ use std::alloc::Global;
 ///   every run of the program, from any integers and by any choice of rules, each rule occurs at most as often as its
 ///   time says, there are at most as many steps as the total says, and each argument after a rule stays within its
 ///   size, where it has one. With `facts`, the same with the report behind the facts, and each fact holds on every run,
-///   too. With `replay`, the steps are a run of the program, no value passes 128 bits on the way,
-///   and the tally was written: each number of it is at most the value of the bound beside it. With `selfrun`, its
-///   figures were written, and every rule of the generated program has a time. With `generate`, that program's text was
-///   written.
+///   too. With `replay`, the steps are a run of the program, no value passes 128 bits on the way, and the tally was
+///   written: each number of it is at most the value of the bound beside it. With `selfrun`, its figures were written,
+///   and every rule of the generated program has a time. With `generate`, that program's text was written.
 /// - `Unknown`: with `analyse` and `facts`, the same, where some rule has no time: the report says why, and every bound
-///   that it gives holds on every run. With `facts` the reasons are those of the strengthened program. With `selfrun`, its figures alone were written, and some rule of the generated program
-///   has no time.
+///   that it gives holds on every run. With `facts` the reasons are those of the strengthened program. With `selfrun`,
+///   its figures alone were written, and some rule of the generated program has no time.
 /// - `Usage`: the words are no command line, or ask for `prove` or `check`, which aren't there yet.
-/// - `ReadFault`: an analysis, with facts or without, or a replay is asked for, and the shelf had a fault in this call, or tells that it lacks
-///   the file, or, where that spells a program, the file of the run.
-/// - `ProgramRefused`: an analysis, with facts or without, or a replay is asked for, and the file of the program has too many bytes, or
-///   something stands against it as the text of a program within the limits: the text says what stands first, and at
-///   which byte.
+/// - `ReadFault`: an analysis, with facts or without, or a replay is asked for, and the shelf had a fault in this call,
+///   or tells that it lacks the file, or, where that spells a program, the file of the run.
+/// - `ProgramRefused`: an analysis, with facts or without, or a replay is asked for, and the file of the program has
+///   too many bytes, or something stands against it as the text of a program within the limits: the text says what
+///   stands first, and at which byte.
 /// - `RunRefused`: with `replay`, the first file spells a program, and the second has too many bytes, or something
 ///   stands against it as the text of a run of the program within the limits: the text says what stands first, and at
 ///   which byte.
