@@ -18,6 +18,7 @@ const USAGE: &[u8] = b"usage: koat analyse [--pivots N] FILE
        koat replay FILE RUN
        koat generate N
        koat selfrun N
+       koat facts [--pivots N] FILE
 ";
 
 // A program's text with these rules.
@@ -130,6 +131,8 @@ const COMMANDS: &[(&[&str], Status, &[u8], u64)] = &[
     (&["analyse", "--", "p"], Status::Done, BOUNDED, 1),
     (&["analyse", "p", "--pivots=5"], Status::Done, BOUNDED, 1),
     (&["generate", "1"], Status::Done, GENERATED, 0),
+    (&["facts", "p"], Status::Done, BOUNDED, 1),
+    (&["facts", "--pivots=5", "-"], Status::Done, BOUNDED, 1),
     (
         &["selfrun", "0"],
         Status::Done,
@@ -146,6 +149,8 @@ const COMMANDS: &[(&[&str], Status, &[u8], u64)] = &[
     (&["analyse"], Status::Usage, USAGE, 0),
     (&["analyse", "--pivots", "01", "p"], Status::Usage, USAGE, 0),
     (&["generate", "101"], Status::Usage, USAGE, 0),
+    (&["facts"], Status::Usage, USAGE, 0),
+    (&["facts", "p", "p"], Status::Usage, USAGE, 0),
     (&["selfrun", "--pivots=5", "1"], Status::Usage, USAGE, 0),
     (&["prove", "p"], Status::Usage, USAGE, 0),
     (&["check", "p", "p"], Status::Usage, USAGE, 0),
