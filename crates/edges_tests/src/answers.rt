@@ -15,6 +15,8 @@ size 1.1: A
 ";
 
 const USAGE: &[u8] = b"usage: koat analyse [--pivots N] FILE
+       koat prove [--pivots N] FILE
+       koat check FILE PROOF
        koat replay FILE RUN
        koat generate N
        koat selfrun N
@@ -152,8 +154,14 @@ const COMMANDS: &[(&[&str], Status, &[u8], u64)] = &[
     (&["facts"], Status::Usage, USAGE, 0),
     (&["facts", "p", "p"], Status::Usage, USAGE, 0),
     (&["selfrun", "--pivots=5", "1"], Status::Usage, USAGE, 0),
-    (&["prove", "p"], Status::Usage, USAGE, 0),
-    (&["check", "p", "p"], Status::Usage, USAGE, 0),
+    (&["prove", "p", "p"], Status::Usage, USAGE, 0),
+    (&["check", "p"], Status::Usage, USAGE, 0),
+    (
+        &["check", "p", "-"],
+        Status::ProofRefused,
+        b"proof refused at 0: Syntax\n",
+        2,
+    ),
     (&["--help"], Status::Usage, USAGE, 0),
 ];
 

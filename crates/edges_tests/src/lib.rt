@@ -11,6 +11,8 @@ mod processes;
 #[cfg(test)]
 mod programs;
 #[cfg(test)]
+mod proofs;
+#[cfg(test)]
 mod replays;
 #[cfg(test)]
 mod shelves;

@@ -9,6 +9,8 @@ use std::process::ExitCode;
 use std::test::Fail;
 
 const USAGE: &[u8] = b"usage: koat analyse [--pivots N] FILE
+       koat prove [--pivots N] FILE
+       koat check FILE PROOF
        koat replay FILE RUN
        koat generate N
        koat selfrun N
@@ -42,7 +44,7 @@ fn a_process_ends_by_its_words(rt: HostRuntime) -> Result<(), Fail> {
     ];
     for (words, status, output) in table {
         let mut shelf = MemoryShelf::new(Vec::new(alloc), Vec::new(alloc));
-        let mut sink = MemorySink::new(alloc, 199, Vec::new(alloc))?;
+        let mut sink = MemorySink::new(alloc, 299, Vec::new(alloc))?;
         let ended = run_program(alloc, words, &mut shelf, &mut sink);
         assert!(rt; ended == ExitCode::from(status), "status {status}");
         assert_eq!(rt; sink.bytes(), output);

@@ -14,15 +14,17 @@ use Rattle.its_reader.specs.its_text.Kinds.{Kind}
 use Rattle.its_reader.specs.its_text.Spelling.{SpellsWithin}
 use Rattle.its_reader.specs.its_text.Answers.{verdict}
 use Rattle.outcome.specs.Reports.{Report, is_timed}
+use Rattle.outcome.specs.Views.{report_of}
 use Rattle.time_bounds.specs.Analysis.{IsAnalysis}
 use Rattle.asks.specs.Lines.{Word}
-use Rattle.asks.specs.Requests.{Request, Analyse, Facts}
+use Rattle.asks.specs.Requests.{Request, Analyse, Prove, Facts}
 use Rattle.location_facts.specs.declared.fact.LocFact.{LocFact}
 use Rattle.location_facts.specs.Strengthening.{strengthened}
 use Rattle.koat_cli.specs.declared.status.Status.{Status}
 use Rattle.koat_cli.specs.declared.status.Status.TheVariants.{Done, Unknown, Usage, ReadFault, WriteFault, Memory}
 use Rattle.koat_cli.specs.declared.status.Status.TheVariants.{ProgramRefused, ProofRefused, No, RunRefused, NotARun}
 use Rattle.koat_cli.specs.Calls.{Seen, Call, Put}
+use Rattle.koat_cli.specs.Checks.{IsProofOf}
 use Rattle.koat_cli.specs.Outputs.{IsReportOf, IsFactsReportOf, status_of}
 use Rattle.koat_cli.specs.OnFiles.{program_limit, IsNoProgram, OnProgram, Unread, TooLong, Without, Of}
 use Rattle.koat_cli.specs.OnFiles as files
@@ -234,6 +236,10 @@ held_files_answered laws = record {
   analyses = λ pivots.
       are_answered laws (λ p. FindsAllTimes p pivots) (λ p. MissesTimes p pivots) (λ p. timing_apart laws p pivots) (Analyse pivots)
       (λ p. IsReportOf p pivots) (λ p s x h. timing_of p pivots s h.report h.found.found h.ends) (λ seen f s x h. h);
+  proofs = λ pivots.
+      are_answered laws (λ p. FindsAllTimes p pivots) (λ p. MissesTimes p pivots) (λ p. timing_apart laws p pivots) (Prove pivots)
+      (λ p. IsProofOf p pivots)
+      (λ p s x h. timing_of p pivots s (report_of h.outcome) h.proved.found.found h.ends) (λ seen f s x h. h);
   with_facts = λ pivots.
       are_answered laws (λ p. FindsAllWithFacts p pivots) (λ p. MissesWithFacts p pivots) (λ p. facts_apart laws p pivots) (Facts pivots)
       (λ p. IsFactsReportOf p pivots) (λ p s x h. facts_timing p pivots s x h) (λ seen f s x h. h);

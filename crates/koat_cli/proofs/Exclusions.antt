@@ -1,5 +1,5 @@
 -- One answer fits a call, where the shelf tells what it holds.
-use Rattle.std.proofs.Common.{◌≡◌, ℕ, ◌≤◌, ◌<◌, List, length, Option, Some, None, IsSome, refl, sym, ◌∙◌}
+use Rattle.std.proofs.Common.{◌≡◌, map, ℕ, ◌≤◌, ◌<◌, List, length, Option, Some, None, IsSome, refl, sym, ◌∙◌}
 use Rattle.std.proofs.Common.{ap, subst, inl, inr, arith, true, false, Bool, cond, nat_lt}
 use Rattle.std.proofs.lemmas.Bool.Decides.{nat_tests}
 use Rattle.std.proofs.lemmas.List.{length-map}
@@ -26,6 +26,10 @@ use Rattle.facts_report.specs.WithFacts.{ReportsWithFactsAreOne}
 use Rattle.outcome.specs.Reports.{Report}
 use Rattle.outcome.specs.Views.{report_of}
 use Rattle.outcome.specs.proof_tree.Views.{proof_of}
+use Rattle.proof_text.specs.Texts.{text_of}
+use Rattle.proof_tree.specs.AnswerViews.{gap_of}
+use Rattle.proof_tree.specs.proof_nodes.Gaps.{Gap}
+use Rattle.proof_tree.specs.proof_nodes.Nodes.{Proof}
 use Rattle.report_text.specs.Reports.{text_of_report}
 use Rattle.model.specs.Runs.{sizes_of_start}
 use Rattle.run_replay.specs.ReplayAnswers.{last_first}
@@ -42,13 +46,16 @@ use Rattle.koat_cli.specs.OnTexts.{OnText, OnProgramFirst, NoProgram, Behind}
 use Rattle.koat_cli.specs.Outputs.{IsReportOf, IsReplayOf, Tallied, NoRun, IsSummaryOf, IsFactsReportOf}
 use Rattle.koat_cli.specs.Outputs.{status_of}
 use Rattle.koat_cli.specs.ReplayTexts.{text_of_replay}
+use Rattle.koat_cli.specs.Checks.{IsProofOf, IsCheckOf}
+use Rattle.koat_cli.specs.ProofTexts.{proofs}
 use Rattle.koat_cli.specs.RunTexts.{runs, bad_step_text}
 use Rattle.koat_cli.specs.OnFiles.{program_limit, OnProgram, Unread, TooLong, Refused, Without, Of}
 use Rattle.koat_cli.specs.Answers.{FetchesFile, Answers, Says, ToNothing, ToRequest}
 use Rattle.koat_cli.specs.Exclusion.{AreOneAnswer, AnswersExcludeEachOther}
 use Rattle.koat_cli.proofs.GivenFiles.{given, given_more, given_none}
+use Rattle.koat_cli.proofs.ProofAnswers.{proof_texts_decided, one_check}
 use Rattle.koat_cli.proofs.TextExclusions.{one_of_text, run_texts_decided}
-use Rattle.koat_cli.proofs.OneRequest.{answer_of, usage_not_there, not_there_usage}
+use Rattle.koat_cli.proofs.OneRequest.{answer_of, never_usage_of}
 
 -- the laws on which this rests: a text spells one program, and is read as it exactly where it spells it within the
 -- limits, an analysis has one outcome, one list of facts is kept, and one report found with it, and steps are a run in
@@ -170,6 +177,18 @@ one_summary laws p s t x y a b =
           ∙ (ap (λ (n : ℕ). text_of_figures p (report_of b.outcome) n) many ∙ sym b.told)),
     )
 
+-- so are two proof files of what was found, and their texts
+one_proof : Determined → (p : Program) (n : ℕ) (s t : Status) (x y : List ℕ) → IsProofOf p n s x → IsProofOf p n t y
+    → (s ≡ t) × (x ≡ y)
+one_proof laws p n s t x y a b =
+    let one = laws.reports.outcomes p n a.outcome b.outcome a.proved.found.found a.proved.lemmas b.proved.found.found b.proved.lemmas in (
+      a.ends ∙ (ap (λ (r : Report). status_of r) one.report ∙ sym b.ends),
+      sym a.proved.told.text
+          ∙ (ap (λ (ls : List Proof). text_of p (record { lemmas = ls; gaps = map gap_of a.outcome.gaps.items })) one.lemmas
+          ∙ (ap (λ (gs : List Gap). text_of p (record { lemmas = map proof_of b.outcome.lemmas.items; gaps = gs })) one.gaps
+          ∙ b.proved.told.text)),
+    )
+
 -- a run has one replay
 one_replay : Determined → (p : Program) (r : Run) (s t : Status) (x y : List ℕ) → IsReplayOf p r s x → IsReplayOf p r t y
     → (s ≡ t) × (x ≡ y)
@@ -190,8 +209,8 @@ one_replay laws p r s t x y (NoRun a) (NoRun b) =
 one_without : Determined → (seen : Seen) (r : Request) (s t : Status) (x y : List ℕ) → ¬ (FetchesFile r) → Answers seen r s x
     → Answers seen r t y → (s ≡ t) × (x ≡ y)
 one_without laws seen (Analyse n f) s t x y none a b = absurd (none tt)
-one_without laws seen (Prove n f) s t x y none a b = (a.ends ∙ sym b.ends, a.told ∙ sym b.told)
-one_without laws seen (Check f q) s t x y none a b = (a.ends ∙ sym b.ends, a.told ∙ sym b.told)
+one_without laws seen (Prove n f) s t x y none a b = absurd (none tt)
+one_without laws seen (Check f q) s t x y none a b = absurd (none tt)
 one_without laws seen (Replay f q) s t x y none a b = absurd (none tt)
 one_without laws seen (Generate n) s t x y none a b = (a.ends ∙ sym b.ends, a.told ∙ sym b.told)
 one_without laws seen (Selfrun n) s t x y none a b = one_summary laws (generated n) s t x y a b
@@ -205,8 +224,15 @@ one_answer : Determined → (seen : Seen) (files : Files) → seen.held ≡ Some
 one_answer laws seen files e (Analyse n f) s t x y ls lt a b =
     one_told (λ p. IsReportOf p n) s t x y (λ p. one_report laws p n s t x y) (file_of (get files f))
     (file_tells (λ p. IsReportOf p n) s x laws seen files f e (λ h. ls h f) a) (file_tells (λ p. IsReportOf p n) t y laws seen files f e (λ h. lt h f) b)
-one_answer laws seen files e (Prove n f) s t x y ls lt a b = one_without laws seen (Prove n f) s t x y (λ no. no) a b
-one_answer laws seen files e (Check f q) s t x y ls lt a b = one_without laws seen (Check f q) s t x y (λ no. no) a b
+one_answer laws seen files e (Prove n f) s t x y ls lt a b =
+    one_told (λ p. IsProofOf p n) s t x y (λ p. one_proof laws p n s t x y) (file_of (get files f))
+    (file_tells (λ p. IsProofOf p n) s x laws seen files f e (λ h. ls h f) a) (file_tells (λ p. IsProofOf p n) t y laws seen files f e (λ h. lt h f) b)
+one_answer laws seen files e (Check f q) s t x y ls lt a b =
+    let out : Program → Status → List ℕ → Type 0 = λ p. OnText (proofs p) seen q (IsCheckOf p) in
+    one_told out s t x y
+    (λ p. one_of_text (proofs p) (proof_texts_decided p) (IsCheckOf p) s t x y seen files q e (λ h. ls h q) (λ h. lt h q)
+    (λ f. one_check p f s t x y)) (file_of (get files f))
+    (first_tells out s x laws seen files f e (λ h. ls h f) a) (first_tells out t y laws seen files f e (λ h. lt h f) b)
 one_answer laws seen files e (Replay f q) s t x y ls lt a b =
     let out : Program → Status → List ℕ → Type 0 = λ p. OnText (runs p) seen q (IsReplayOf p) in
     one_told out s t x y
@@ -252,7 +278,7 @@ pub only_usage : (call : Call) (t : Status) (x y : List ℕ) → Says call Usage
 only_usage call t x y (ToNothing none a) (ToNothing too b) = b.ends
 only_usage call t x y (ToNothing none a) (ToRequest r asked b) = absurd (none r asked)
 only_usage call t x y (ToRequest r asked a) said =
-    not_there_usage call.shelf r t y (usage_not_there call.shelf r x a) (answer_of call r t y asked said)
+    absurd (never_usage_of call.shelf r x a)
 
 -- the law
 pub answers_exclude : Determined → AnswersExcludeEachOther

@@ -1,7 +1,10 @@
 pub mod Counts
 pub mod ReplayStatuses
+pub mod CheckStatuses
 pub mod Sayings
 pub mod RunRefusals
+pub mod ProofRefusals
+pub mod ProofFiles
 pub mod WithinBounds
 pub mod OneRequest
 pub mod Endings
@@ -9,6 +12,7 @@ pub mod Preparing
 pub mod GivenFiles
 pub mod RunAnswers
 pub mod TextExclusions
+pub mod ProofAnswers
 pub mod Exclusions
 pub mod DeterminedCalls
 pub mod Answering

@@ -6,10 +6,10 @@ use Rattle.outcome.specs.Views.{report_of}
 use Rattle.koat_cli.specs.declared.status.Status.{Status}
 use Rattle.koat_cli.specs.declared.status.Status.TheVariants.{Done, Unknown, Usage}
 use Rattle.koat_cli.specs.Calls.{Call, Put}
-use Rattle.koat_cli.specs.Answers.{AsksForNothingThere, Says, ToNothing, ToRequest}
+use Rattle.koat_cli.specs.Answers.{AsksForNothing, Says, ToNothing, ToRequest}
 use Rattle.koat_cli.specs.Ends.{WroteWhole}
 use Rattle.koat_cli.specs.Answering.{EndsWell, FindsAllTimes, MissesTimes, NumbersAreAnswered}
-use Rattle.koat_cli.proofs.OneRequest.{answer_of, not_there_usage, usage_for_nothing}
+use Rattle.koat_cli.proofs.OneRequest.{answer_of, usage_for_nothing}
 use Rattle.koat_cli.proofs.Exclusions.{Determined}
 use Rattle.koat_cli.proofs.Answering.{TimingOf, AllTimed, SomeUntimed, timing_of, timing_apart}
 
@@ -17,12 +17,12 @@ use Rattle.koat_cli.proofs.Answering.{TimingOf, AllTimed, SomeUntimed, timing_of
 wrote : (call : Call) (put : Put) (s : Status) → EndsWell s call put → WroteWhole s call put
 wrote call put s h = h.ends.wrote h.no_write_fault h.memory
 
--- where nothing that is there is asked for, the usage text comes
-nothing_gets_usage : (call : Call) (s : Status) (x : List ℕ) → AsksForNothingThere call.words → Says call s x → s ≡ Usage
+-- where nothing is asked for, the usage text comes
+nothing_gets_usage : (call : Call) (s : Status) (x : List ℕ) → AsksForNothing call.words → Says call s x → s ≡ Usage
 nothing_gets_usage call s x none (ToNothing nothing h) = h.ends
-nothing_gets_usage call s x none (ToRequest r asked h) = not_there_usage call.shelf r s x (none r asked) h
+nothing_gets_usage call s x none (ToRequest r asked h) = absurd (none r asked)
 
-usage : (call : Call) (put : Put) (s : Status) → EndsWell s call put → (s ≡ Usage) ↔ AsksForNothingThere call.words
+usage : (call : Call) (put : Put) (s : Status) → EndsWell s call put → (s ≡ Usage) ↔ AsksForNothing call.words
 usage call put s h =
     let w = wrote call put s h in (
       (λ e. usage_for_nothing call w.text (subst (λ (t : Status). Says call t w.text) e w.says)),

@@ -17,13 +17,17 @@ use Rattle.koat_cli.specs.declared.status.Status.TheVariants.{Done, Unknown, Usa
 use Rattle.koat_cli.specs.declared.status.Status.TheVariants.{ProgramRefused, ProofRefused, No, RunRefused, NotARun}
 use Rattle.koat_cli.specs.Calls.{Seen, Call, Put}
 use Rattle.koat_cli.specs.Report.{usage_text}
+use Rattle.koat_cli.specs.Checks.{IsProofOf}
 use Rattle.koat_cli.specs.Outputs.{IsReportOf, IsFactsReportOf, status_of}
 use Rattle.koat_cli.specs.OnFiles.{IsNoProgram, IsOfProgram, OnProgram, Unread, TooLong, Refused, Without, Of}
-use Rattle.koat_cli.specs.Answers.{IsThere, AsksForNothingThere, Answers, Says, ToNothing, ToRequest}
+use Rattle.koat_cli.specs.Answers.{AsksForNothing, Answers, Says, ToNothing, ToRequest}
 use Rattle.koat_cli.specs.Ends.{Ends, WroteReport, WroteFacts, WroteRefusal, IsFirstFile, MayMiss, WroteTally}
-use Rattle.koat_cli.specs.Ends.{WroteBadStep, WroteRunRefusal, IsStatusThere, TellsOfTimes, Means}
+use Rattle.koat_cli.specs.Ends.{WroteBadStep, WroteRunRefusal, TellsOfTimes, Means}
+use Rattle.koat_cli.specs.ProofEnds.{WroteProof, WroteAcceptance, WroteNo, WroteProofRefusal}
+use Rattle.outcome.specs.declared.outcome_of.Outcome.{Outcome}
 use Rattle.koat_cli.proofs.ReplayStatuses.{Tells, replay_tells}
-use Rattle.koat_cli.proofs.Sayings.{of_other_answer, says_there}
+use Rattle.koat_cli.proofs.CheckStatuses.{Tells as CheckTells, check_tells}
+use Rattle.koat_cli.proofs.Sayings.{of_no_replay, of_no_check}
 use Rattle.its_reader.proofs.its_text.ValidPrograms.{spelled_valid}
 use Rattle.koat_cli.proofs.WithinBounds.{tally_within}
 
@@ -87,52 +91,33 @@ never_refused r e = go (list_all is_timed r.times) e
     go true h = let no_way : ⊥ = cc in no_way
     go false h = let no_way : ⊥ = cc in no_way
 
--- a request that is there isn't answered with the usage text, and one that isn't is answered with nothing else
-pub usage_not_there : (seen : Seen) (r : Request) (x : List ℕ) → Answers seen r Usage x → ¬ (IsThere r)
-usage_not_there seen (Analyse n f) x (Without h) there = no_usage seen f x h
-usage_not_there seen (Analyse n f) x (Of h) there = never_usage h.said.report h.said.ends
-usage_not_there seen (Prove n f) x h there = there
-usage_not_there seen (Check f q) x h there = there
-usage_not_there seen (Replay f q) x h there = replay_tells seen f q Usage x h
-usage_not_there seen (Generate n) x h there = let e : Usage ≡ Done = h.ends in cc
-usage_not_there seen (Selfrun n) x h there = never_usage (report_of h.outcome) h.ends
-usage_not_there seen (Facts n f) x (Without h) there = no_usage seen f x h
-usage_not_there seen (Facts n f) x (Of h) there = never_usage h.said.report h.said.ends
+-- a request isn't answered with the usage text
+pub never_usage_of : (seen : Seen) (r : Request) (x : List ℕ) → ¬ (Answers seen r Usage x)
+never_usage_of seen (Analyse n f) x (Without h) = no_usage seen f x h
+never_usage_of seen (Analyse n f) x (Of h) = never_usage h.said.report h.said.ends
+never_usage_of seen (Prove n f) x (Without h) = no_usage seen f x h
+never_usage_of seen (Prove n f) x (Of h) = never_usage (report_of h.said.outcome) h.said.ends
+never_usage_of seen (Check f q) x h = check_tells seen f q Usage x h
+never_usage_of seen (Replay f q) x h = replay_tells seen f q Usage x h
+never_usage_of seen (Generate n) x h = let e : Usage ≡ Done = h.ends in cc
+never_usage_of seen (Selfrun n) x h = never_usage (report_of h.outcome) h.ends
+never_usage_of seen (Facts n f) x (Without h) = no_usage seen f x h
+never_usage_of seen (Facts n f) x (Of h) = never_usage h.said.report h.said.ends
 
-pub not_there_usage : (seen : Seen) (r : Request) (s : Status) (x : List ℕ) → ¬ (IsThere r) → Answers seen r s x → s ≡ Usage
-not_there_usage seen (Analyse n f) s x none h = absurd (none tt)
-not_there_usage seen (Prove n f) s x none h = h.ends
-not_there_usage seen (Check f q) s x none h = h.ends
-not_there_usage seen (Replay f q) s x none h = absurd (none tt)
-not_there_usage seen (Generate n) s x none h = absurd (none tt)
-not_there_usage seen (Selfrun n) s x none h = absurd (none tt)
-not_there_usage seen (Facts n f) s x none h = absurd (none tt)
-
--- where a call answers with the status of the usage text, nothing that is there is asked for
-pub usage_for_nothing : (call : Call) (x : List ℕ) → Says call Usage x → AsksForNothingThere call.words
-usage_for_nothing call x said r asked = usage_not_there call.shelf r x (answer_of call r Usage x asked said)
+-- where a call answers with the status of the usage text, nothing is asked for
+pub usage_for_nothing : (call : Call) (x : List ℕ) → Says call Usage x → AsksForNothing call.words
+usage_for_nothing call x said r asked = never_usage_of call.shelf r x (answer_of call r Usage x asked said)
 
 -- and the text is the usage text
-usage_told : (seen : Seen) (r : Request) (x : List ℕ) → Answers seen r Usage x → x ≡ usage_text
-usage_told seen (Analyse n f) x (Without h) = absurd (no_usage seen f x h)
-usage_told seen (Analyse n f) x (Of h) = absurd (never_usage h.said.report h.said.ends)
-usage_told seen (Prove n f) x h = h.told
-usage_told seen (Check f q) x h = h.told
-usage_told seen (Replay f q) x h = absurd (replay_tells seen f q Usage x h)
-usage_told seen (Generate n) x h = absurd (let e : Usage ≡ Done = h.ends in let no_way : ⊥ = cc in no_way)
-usage_told seen (Selfrun n) x h = absurd (never_usage (report_of h.outcome) h.ends)
-usage_told seen (Facts n f) x (Without h) = absurd (no_usage seen f x h)
-usage_told seen (Facts n f) x (Of h) = absurd (never_usage h.said.report h.said.ends)
-
 pub usage_says : (call : Call) (x : List ℕ) → Says call Usage x → x ≡ usage_text
 usage_says call x (ToNothing none h) = h.told
-usage_says call x (ToRequest r asked h) = usage_told call.shelf r x h
+usage_says call x (ToRequest r asked h) = absurd (never_usage_of call.shelf r x h)
 
 -- a time that is unknown is one of a program that is analysed
 unknown_asks : (seen : Seen) (r : Request) (x : List ℕ) → Answers seen r Unknown x → TellsOfTimes r
 unknown_asks seen (Analyse n f) x h = tt
-unknown_asks seen (Prove n f) x h = let e : Unknown ≡ Usage = h.ends in let no_way : ⊥ = cc in no_way
-unknown_asks seen (Check f q) x h = let e : Unknown ≡ Usage = h.ends in let no_way : ⊥ = cc in no_way
+unknown_asks seen (Prove n f) x h = tt
+unknown_asks seen (Check f q) x h = check_tells seen f q Unknown x h
 unknown_asks seen (Replay f q) x h = replay_tells seen f q Unknown x h
 unknown_asks seen (Generate n) x h = let e : Unknown ≡ Done = h.ends in let no_way : ⊥ = cc in no_way
 unknown_asks seen (Selfrun n) x h = tt
@@ -162,8 +147,20 @@ fault_of call (Analyse n f) x asked (Without h) = (
   },
 )
 fault_of call (Analyse n f) x asked (Of h) = absurd (never_read_fault h.said.report h.said.ends)
-fault_of call (Prove n f) x asked h = absurd (let e : ReadFault ≡ Usage = h.ends in let no_way : ⊥ = cc in no_way)
-fault_of call (Check f q) x asked h = absurd (let e : ReadFault ≡ Usage = h.ends in let no_way : ⊥ = cc in no_way)
+fault_of call (Prove n f) x asked (Without h) = (
+  f,
+  record {
+    request = Prove n f;
+    asked = asked;
+    named = inl refl;
+    fetched = inl refl;
+    fault = no_other_fault call.shelf f x h;
+  },
+)
+fault_of call (Prove n f) x asked (Of h) = absurd (never_read_fault (report_of h.said.outcome) h.said.ends)
+fault_of call (Check f q) x asked h =
+    let told : CheckTells call.shelf f q ReadFault x = check_tells call.shelf f q ReadFault x h in
+    (told.0, record { request = Check f q; asked = asked; named = told.1; fetched = told.2; fault = told.3 })
 fault_of call (Replay f q) x asked h =
     let told : Tells call.shelf f q ReadFault x = replay_tells call.shelf f q ReadFault x h in
     (told.0, record { request = Replay f q; asked = asked; named = told.1; fetched = told.2; fault = told.3 })
@@ -195,8 +192,14 @@ refused_of call put (Analyse n f) x asked (Without (TooLong h)) a =
 refused_of call put (Analyse n f) x asked (Without (Refused h)) a =
     (Analyse n f, (f, asked, refl, record { text = x; refused = inr h; appended = a }))
 refused_of call put (Analyse n f) x asked (Of h) a = absurd (never_refused h.said.report h.said.ends)
-refused_of call put (Prove n f) x asked h a = absurd (let e : ProgramRefused ≡ Usage = h.ends in let no_way : ⊥ = cc in no_way)
-refused_of call put (Check f q) x asked h a = absurd (let e : ProgramRefused ≡ Usage = h.ends in let no_way : ⊥ = cc in no_way)
+refused_of call put (Prove n f) x asked (Without (Unread h)) a = absurd (let e : ProgramRefused ≡ ReadFault = h.ends in let no_way : ⊥ = cc in no_way)
+refused_of call put (Prove n f) x asked (Without (TooLong h)) a =
+    (Prove n f, (f, asked, refl, record { text = x; refused = inl h; appended = a }))
+refused_of call put (Prove n f) x asked (Without (Refused h)) a =
+    (Prove n f, (f, asked, refl, record { text = x; refused = inr h; appended = a }))
+refused_of call put (Prove n f) x asked (Of h) a = absurd (never_refused (report_of h.said.outcome) h.said.ends)
+refused_of call put (Check f q) x asked h a =
+    (Check f q, (f, asked, refl, record { text = x; refused = check_tells call.shelf f q ProgramRefused x h; appended = a }))
 refused_of call put (Replay f q) x asked h a =
     (Replay f q, (f, asked, refl, record { text = x; refused = replay_tells call.shelf f q ProgramRefused x h; appended = a }))
 refused_of call put (Generate n) x asked h a = absurd (let e : ProgramRefused ≡ Done = h.ends in let no_way : ⊥ = cc in no_way)
@@ -229,7 +232,7 @@ IsNotOfRuns NotARun = ⊥
 
 no_run : (seen : Seen) (r : Request) (s : Status) (x : List ℕ) → ((f q : Word) → r ≢ Replay f q) → Answers seen r s x
     → IsNotOfRuns s
-no_run = of_other_answer IsNotOfRuns tt tt tt tt tt
+no_run = of_no_replay IsNotOfRuns tt tt tt tt tt tt tt
 
 -- so what they say is said of a replay
 runs_of : (call : Call) (r : Request) (s : Status) (x : List ℕ) → (IsNotOfRuns s → ⊥) → Asks call.words r
@@ -286,6 +289,95 @@ bad_step_wrote call put x said a =
         },
       ),
     )
+
+-- the statuses of a proof's file that is refused, and of a proof that isn't accepted, are those of checks alone
+abbrev IsNotOfChecks : Status → Type 0
+IsNotOfChecks Done = ⊤
+IsNotOfChecks Unknown = ⊤
+IsNotOfChecks Usage = ⊤
+IsNotOfChecks ReadFault = ⊤
+IsNotOfChecks WriteFault = ⊤
+IsNotOfChecks Memory = ⊤
+IsNotOfChecks ProgramRefused = ⊤
+IsNotOfChecks ProofRefused = ⊥
+IsNotOfChecks No = ⊥
+IsNotOfChecks RunRefused = ⊤
+IsNotOfChecks NotARun = ⊤
+
+not_checked : (seen : Seen) (r : Request) (s : Status) (x : List ℕ) → ((f q : Word) → r ≢ Check f q) → Answers seen r s x
+    → IsNotOfChecks s
+not_checked = of_no_check IsNotOfChecks tt tt tt tt tt tt tt
+
+-- so what they say is said of a check
+checks_of : (call : Call) (r : Request) (s : Status) (x : List ℕ) → (IsNotOfChecks s → ⊥) → Asks call.words r
+    → Answers call.shelf r s x → (f : Word) × ((q : Word) × Asks call.words (Check f q) × CheckTells call.shelf f q s x)
+checks_of call (Analyse n f) s x check asked h = absurd (check (not_checked call.shelf (Analyse n f) s x (λ g q e. cc) h))
+checks_of call (Prove n f) s x check asked h = absurd (check (not_checked call.shelf (Prove n f) s x (λ g q e. cc) h))
+checks_of call (Check f q) s x check asked h = (f, (q, asked, check_tells call.shelf f q s x h))
+checks_of call (Replay f q) s x check asked h = absurd (check (not_checked call.shelf (Replay f q) s x (λ g p e. cc) h))
+checks_of call (Generate n) s x check asked h = absurd (check (not_checked call.shelf (Generate n) s x (λ g q e. cc) h))
+checks_of call (Selfrun n) s x check asked h = absurd (check (not_checked call.shelf (Selfrun n) s x (λ g q e. cc) h))
+checks_of call (Facts n f) s x check asked h = absurd (check (not_checked call.shelf (Facts n f) s x (λ g q e. cc) h))
+
+checks_said : (call : Call) (s : Status) (x : List ℕ) → (s ≡ Usage → ⊥) → (IsNotOfChecks s → ⊥) → Says call s x
+    → (f : Word) × ((q : Word) × Asks call.words (Check f q) × CheckTells call.shelf f q s x)
+checks_said call s x other check (ToNothing none h) = absurd (other h.ends)
+checks_said call s x other check (ToRequest r asked h) = checks_of call r s x check asked h
+
+-- a refusal of a proof's file was written, and so was what isn't accepted
+proof_refused_wrote : (call : Call) (put : Put) (x : List ℕ) → Says call ProofRefused x
+    → Appends put.written_before put.written_after x
+    → (f : Word) × ((q : Word) × Asks call.words (Check f q) × WroteProofRefusal call put f q)
+proof_refused_wrote call put x said a =
+    let told = checks_said call ProofRefused x (λ e. let no_way : ⊥ = cc in no_way) (λ h. h) said in
+    let parts : CheckTells call.shelf told.0 told.1.0 ProofRefused x = told.1.2 in (
+      told.0,
+      (
+        told.1.0,
+        told.1.1,
+        record {
+          program = parts.0;
+          program_given = parts.1;
+          text = x;
+          refused = parts.2;
+          appended = a;
+        },
+      ),
+    )
+
+no_wrote : (call : Call) (put : Put) (x : List ℕ) → Says call No x → Appends put.written_before put.written_after x
+    → (f : Word) × ((q : Word) × Asks call.words (Check f q) × WroteNo call put f q)
+no_wrote call put x said a =
+    let told = checks_said call No x (λ e. let no_way : ⊥ = cc in no_way) (λ h. h) said in
+    let parts : CheckTells call.shelf told.0 told.1.0 No x = told.1.2 in (
+      told.0,
+      (
+        told.1.0,
+        told.1.1,
+        record {
+          program = parts.0;
+          proof = parts.1.0;
+          given = parts.1.1;
+          text = x;
+          refused = parts.1.2;
+          appended = a;
+        },
+      ),
+    )
+
+-- the facts of a proof that is accepted were written with `Done`
+acceptance_wrote : (call : Call) (put : Put) (f q : Word) (x : List ℕ) → Answers call.shelf (Check f q) Done x
+    → Appends put.written_before put.written_after x → WroteAcceptance call put f q
+acceptance_wrote call put f q x h a =
+    let told : CheckTells call.shelf f q Done x = check_tells call.shelf f q Done x h in
+    record {
+      program = told.0;
+      proof = told.1.0;
+      given = told.1.1;
+      text = x;
+      accepted = told.1.2;
+      appended = a;
+    }
 
 -- the tally of a run was written with `Done`, and it is within the bounds
 tally_wrote : ReplaysAreDecided → (call : Call) (put : Put) (f q : Word) (x : List ℕ) → Answers call.shelf (Replay f q) Done x
@@ -360,6 +452,27 @@ facts_unknown call put n f x (Without h) a = absurd (no_unknown call.shelf f x h
 facts_unknown call put n f x (Of h) a =
     (h.said.report, facts_written call put n f Unknown x h a, untimed_where_unknown h.said.report h.said.ends)
 
+-- so was a proof file of what was found
+proof_written : (call : Call) (put : Put) (n : ℕ) (f : Word) (s : Status) (x : List ℕ)
+    → (h : IsOfProgram call.shelf f (λ p. IsProofOf p n) s x) → Appends put.written_before put.written_after x
+    → WroteProof call put n f h.said.outcome
+proof_written call put n f s x h a =
+    record { program = h.program; given = h.given; text = x; proved = h.said.proved; appended = a }
+
+proof_done : (call : Call) (put : Put) (n : ℕ) (f : Word) (x : List ℕ)
+    → OnProgram call.shelf f (λ p. IsProofOf p n) Done x → Appends put.written_before put.written_after x
+    → (outcome : Outcome) × WroteProof call put n f outcome × IsTrue (list_all is_timed (report_of outcome).times)
+proof_done call put n f x (Without h) a = absurd (no_done call.shelf f x h)
+proof_done call put n f x (Of h) a =
+    (h.said.outcome, proof_written call put n f Done x h a, timed_where_done (report_of h.said.outcome) h.said.ends)
+
+proof_in_part : (call : Call) (put : Put) (n : ℕ) (f : Word) (x : List ℕ)
+    → OnProgram call.shelf f (λ p. IsProofOf p n) Unknown x → Appends put.written_before put.written_after x
+    → (outcome : Outcome) × WroteProof call put n f outcome × IsFalse (list_all is_timed (report_of outcome).times)
+proof_in_part call put n f x (Without h) a = absurd (no_unknown call.shelf f x h)
+proof_in_part call put n f x (Of h) a =
+    (h.said.outcome, proof_written call put n f Unknown x h a, untimed_where_unknown (report_of h.said.outcome) h.said.ends)
+
 -- statuses that differ
 done_whole : (s : Status) → s ≡ Done → (s ≢ WriteFault) × (s ≢ Memory)
 done_whole s e = ((λ f. let g : Done ≡ WriteFault = sym e ∙ f in cc), (λ f. let g : Done ≡ Memory = sym e ∙ f in cc))
@@ -376,32 +489,19 @@ run_refused_whole s e = ((λ f. let g : RunRefused ≡ WriteFault = sym e ∙ f 
 bad_step_whole : (s : Status) → s ≡ NotARun → (s ≢ WriteFault) × (s ≢ Memory)
 bad_step_whole s e = ((λ f. let g : NotARun ≡ WriteFault = sym e ∙ f in cc), (λ f. let g : NotARun ≡ Memory = sym e ∙ f in cc))
 
+proof_refused_whole : (s : Status) → s ≡ ProofRefused → (s ≢ WriteFault) × (s ≢ Memory)
+proof_refused_whole s e =
+    ((λ f. let g : ProofRefused ≡ WriteFault = sym e ∙ f in cc), (λ f. let g : ProofRefused ≡ Memory = sym e ∙ f in cc))
+
+no_whole : (s : Status) → s ≡ No → (s ≢ WriteFault) × (s ≢ Memory)
+no_whole s e = ((λ f. let g : No ≡ WriteFault = sym e ∙ f in cc), (λ f. let g : No ≡ Memory = sym e ∙ f in cc))
+
 usage_whole : (s : Status) → s ≡ Usage → (s ≢ WriteFault) × (s ≢ Memory)
 usage_whole s e = ((λ f. let g : Usage ≡ WriteFault = sym e ∙ f in cc), (λ f. let g : Usage ≡ Memory = sym e ∙ f in cc))
 
 refused_whole : (s : Status) → s ≡ ProgramRefused → (s ≢ WriteFault) × (s ≢ Memory)
 refused_whole s e =
     ((λ f. let g : ProgramRefused ≡ WriteFault = sym e ∙ f in cc), (λ f. let g : ProgramRefused ≡ Memory = sym e ∙ f in cc))
-
--- with a status of which no text is said no call ends
-said_there : (s : Status) (call : Call) (put : Put) → Ends s call put → s ≢ WriteFault → s ≢ Memory → IsStatusThere s
-said_there s call put ends other memory =
-    let wrote = ends.wrote other memory in
-    says_there call s wrote.text wrote.says
-
-status_there : (s : Status) (call : Call) (put : Put) → Ends s call put → IsStatusThere s
-status_there Done call put ends = tt
-status_there Unknown call put ends = tt
-status_there Usage call put ends = tt
-status_there ReadFault call put ends = tt
-status_there WriteFault call put ends = tt
-status_there Memory call put ends = tt
-status_there ProgramRefused call put ends = tt
-status_there ProofRefused call put ends =
-    said_there ProofRefused call put ends (λ e. let no_way : ⊥ = cc in no_way) (λ e. let no_way : ⊥ = cc in no_way)
-status_there No call put ends = said_there No call put ends (λ e. let no_way : ⊥ = cc in no_way) (λ e. let no_way : ⊥ = cc in no_way)
-status_there RunRefused call put ends = tt
-status_there NotARun call put ends = tt
 
 -- how a call ends says this of its status
 pub ends_mean : ReplaysAreDecided → (s : Status) (call : Call) (put : Put) → Ends s call put → Means s call put
@@ -426,6 +526,21 @@ ends_mean law s call put ends = record {
       let wrote = ends.wrote whole.0 whole.1 in
       facts_unknown call put n f wrote.text
       (answer_of call (Facts n f) Unknown wrote.text asked (subst (λ (t : Status). Says call t wrote.text) e wrote.says)) wrote.appended;
+  proved = λ n f asked e.
+      let whole = done_whole s e in
+      let wrote = ends.wrote whole.0 whole.1 in
+      proof_done call put n f wrote.text
+      (answer_of call (Prove n f) Done wrote.text asked (subst (λ (t : Status). Says call t wrote.text) e wrote.says)) wrote.appended;
+  proved_in_part = λ n f asked e.
+      let whole = unknown_whole s e in
+      let wrote = ends.wrote whole.0 whole.1 in
+      proof_in_part call put n f wrote.text
+      (answer_of call (Prove n f) Unknown wrote.text asked (subst (λ (t : Status). Says call t wrote.text) e wrote.says)) wrote.appended;
+  checked = λ f q asked e.
+      let whole = done_whole s e in
+      let wrote = ends.wrote whole.0 whole.1 in
+      acceptance_wrote call put f q wrote.text
+      (answer_of call (Check f q) Done wrote.text asked (subst (λ (t : Status). Says call t wrote.text) e wrote.says)) wrote.appended;
   replayed = λ f q asked e.
       let whole = done_whole s e in
       let wrote = ends.wrote whole.0 whole.1 in
@@ -454,7 +569,14 @@ ends_mean law s call put ends = record {
       let whole = bad_step_whole s e in
       let wrote = ends.wrote whole.0 whole.1 in
       bad_step_wrote call put wrote.text (subst (λ (t : Status). Says call t wrote.text) e wrote.says) wrote.appended;
-  no_other = status_there s call put ends;
+  proof_refused = λ e.
+      let whole = proof_refused_whole s e in
+      let wrote = ends.wrote whole.0 whole.1 in
+      proof_refused_wrote call put wrote.text (subst (λ (t : Status). Says call t wrote.text) e wrote.says) wrote.appended;
+  no = λ e.
+      let whole = no_whole s e in
+      let wrote = ends.wrote whole.0 whole.1 in
+      no_wrote call put wrote.text (subst (λ (t : Status). Says call t wrote.text) e wrote.says) wrote.appended;
   read_fault = λ e.
       let whole = fault_whole s e in
       let wrote = ends.wrote whole.0 whole.1 in

@@ -16,18 +16,16 @@ use Rattle.time_bounds.specs.Analysis.{IsAnalysis}
 use Rattle.time_bounds.specs.AnalysisLemmas.{HasLemmas}
 use Rattle.time_bounds.specs.Whys.{ReasonsAreTrue}
 use Rattle.koat_cli.specs.declared.status.Status.{Status}
-use Rattle.koat_cli.specs.declared.status.Status.TheVariants.{Done, Usage}
+use Rattle.koat_cli.specs.declared.status.Status.TheVariants.{Done}
 use Rattle.koat_cli.specs.declared.status_text.StatusText.{StatusText}
 use Rattle.outside_io.specs.Files.{Files}
 use Rattle.outside_io.specs.declared.shelf.Shelf as shelf
 use Rattle.asks.specs.Lines.{Word}
 use Rattle.koat_cli.specs.Calls.{Seen, Call, seen_of}
 use Rattle.koat_cli.specs.OnFiles.{GivesProgram}
-use Rattle.koat_cli.specs.OnTexts.{OnText, OnProgramFirst, Behind}
-use Rattle.koat_cli.specs.RunTexts.{runs}
+use Rattle.koat_cli.specs.OnTexts.{OnProgramFirst, Behind}
 use Rattle.koat_cli.specs.Figures.{text_of_figures}
-use Rattle.koat_cli.specs.Report.{usage_text}
-use Rattle.koat_cli.specs.Outputs.{IsReplayOf, IsGenerated, IsSummaryOf, IsUsage, status_of}
+use Rattle.koat_cli.specs.Outputs.{IsGenerated, IsSummaryOf, status_of}
 use Rattle.koat_cli.specs.Answers.{Answers, Says, ToRequest}
 
 -- the words ask for the request that was read of them
@@ -44,12 +42,6 @@ pub said_of : {E : Type 0} (call : Call) (o : Option declared.Request) (r : decl
 said_of call o r given e h answered =
     IfOk-weaker given (λ (said : StatusText). Answers call.shelf (request_of r) said.status said.text.items)
     (λ (said : StatusText). Says call said.status said.text.items) (λ said a. ToRequest (request_of r) (asked call.words o r e h) a) answered
-
--- the usage text with its status
-pub usage_of : {E : Type 0} (given : Result StatusText E) → IfOk given (λ said. said.status ≡ Usage)
-    → IfOk given (λ said. said.text.items ≡ usage_text) → IfOk given (λ said. IsUsage said.status said.text.items)
-usage_of (Err e) s t = tt
-usage_of (Ok said) s t = record { told = t; ends = s }
 
 -- the text of a program that is the generated one
 pub generated_text : (n : ℕ) (p : Program) (x : List ℕ) → p ≡ generated n → x ≡ canonical_text p
@@ -82,17 +74,18 @@ seen_same : (held other : Option Files) (before middle after taken : ℕ) → he
     (record { held = other; faults_before = middle; faults_after = after; taken = taken })
 seen_same held other before middle after taken h e = cc
 
--- what is answered of a run behind the program that another file gave is answered of both files
-pub behind_program : {F E : Type 0} (means : shelf.Ghosts F) (before middle after : F) (file run : Word) (p : Program)
-    (given : Result StatusText E) → means.held middle ≡ means.held before → means.faults before ≤ means.faults middle
+-- what is answered behind the program that another file gave is answered of both files
+pub behind_program : {F E : Type 0} (means : shelf.Ghosts F) (before middle after : F) (file : Word) (p : Program)
+    (Out : Program → Seen → Status → List ℕ → Type 0) (given : Result StatusText E)
+    → means.held middle ≡ means.held before → means.faults before ≤ means.faults middle
     → ¬ (means.faults before < means.faults middle) → GivesProgram (seen_of means before middle) file p
-    → IfOk given (λ said. OnText (runs p) (seen_of means middle after) run (IsReplayOf p) said.status said.text.items)
+    → IfOk given (λ said. Out p (seen_of means middle after) said.status said.text.items)
     → IfOk given (λ said. OnProgramFirst (seen_of means before after) file
-    (λ q. OnText (runs q) (seen_of means before after) run (IsReplayOf q)) said.status said.text.items)
-behind_program means before middle after file run p given held most few h answered =
-    IfOk-weaker given (λ (said : StatusText). OnText (runs p) (seen_of means middle after) run (IsReplayOf p) said.status said.text.items)
+    (λ q. Out q (seen_of means before after)) said.status said.text.items)
+behind_program means before middle after file p Out given held most few h answered =
+    IfOk-weaker given (λ (said : StatusText). Out p (seen_of means middle after) said.status said.text.items)
     (λ (said : StatusText). OnProgramFirst (seen_of means before after) file
-    (λ q. OnText (runs q) (seen_of means before after) run (IsReplayOf q)) said.status said.text.items) each answered
+    (λ q. Out q (seen_of means before after)) said.status said.text.items) each answered
   where
     steady : means.faults middle ≡ means.faults before
     steady = grind (arith, most, few)
@@ -101,8 +94,8 @@ behind_program means before middle after file run p given held most few h answer
     same = seen_same (means.held middle) (means.held before) (means.faults middle) (means.faults before) (means.faults after)
         (means.taken after) held steady
 
-    each : (said : StatusText) → OnText (runs p) (seen_of means middle after) run (IsReplayOf p) said.status said.text.items
-        → OnProgramFirst (seen_of means before after) file (λ q. OnText (runs q) (seen_of means before after) run (IsReplayOf q))
+    each : (said : StatusText) → Out p (seen_of means middle after) said.status said.text.items
+        → OnProgramFirst (seen_of means before after) file (λ q. Out q (seen_of means before after))
         said.status said.text.items
     each said a = Behind (record {
       program = p;
@@ -112,5 +105,5 @@ behind_program means before middle after file run p given held most few h answer
         within = h.fetched.within;
         spelled = h.spelled;
       };
-      said = subst (λ (seen : Seen). OnText (runs p) seen run (IsReplayOf p) said.status said.text.items) same a;
+      said = subst (λ (seen : Seen). Out p seen said.status said.text.items) same a;
     })

@@ -29,9 +29,9 @@ use Rattle.koat_cli.specs.Outputs.{status_of}
 use Rattle.koat_cli.specs.OnFiles as files
 use Rattle.koat_cli.specs.OnFiles.{Fetches, IsNoProgram, program_limit}
 use Rattle.koat_cli.specs.Answers.{Answers, Says, ToNothing, ToRequest}
-use Rattle.koat_cli.specs.Ends.{IsStatusThere}
 use Rattle.koat_cli.specs.Steps.{IsSaid}
 use Rattle.report_text.proofs.Entries.{all_known as all_timed}
+use Rattle.koat_cli.proofs.CheckStatuses.{Tells as CheckTells, check_tells}
 use Rattle.koat_cli.proofs.ReplayStatuses.{Tells, replay_tells}
 
 -- what may be there is one
@@ -112,20 +112,22 @@ module _ (Holds : Status → Type 0) (done : Holds Done) (unknown : Holds Unknow
   of_no_program seen file s x (files.TooLong h) = subst Holds (sym h.ends) refused
   of_no_program seen file s x (files.Refused h) = subst Holds (sym h.ends) refused
 
-  -- of each with which another request is answered than one for a replay
-  pub of_other_answer : (seen : Seen) (r : Request) (s : Status) (x : List ℕ) → ((f q : Word) → r ≢ Replay f q)
-      → Answers seen r s x → Holds s
-  of_other_answer seen (Analyse n f) s x other (files.Without h) = of_no_program seen f s x h
-  of_other_answer seen (Analyse n f) s x other (files.Of h) = subst Holds (sym h.said.ends) (of_report h.said.report)
-  of_other_answer seen (Prove n f) s x other h = subst Holds (sym h.ends) usage
-  of_other_answer seen (Check f q) s x other h = subst Holds (sym h.ends) usage
-  of_other_answer seen (Replay f q) s x other h = absurd (other f q refl)
-  of_other_answer seen (Generate n) s x other h = subst Holds (sym h.ends) done
-  of_other_answer seen (Selfrun n) s x other h = subst Holds (sym h.ends) (of_report (report_of h.outcome))
-  of_other_answer seen (Facts n f) s x other (files.Without h) = of_no_program seen f s x h
-  of_other_answer seen (Facts n f) s x other (files.Of h) = subst Holds (sym h.said.ends) (of_report h.said.report)
+  -- of each with which a request with one file, or none, is answered
+  of_single : (seen : Seen) (r : Request) (s : Status) (x : List ℕ) → ((f q : Word) → r ≢ Replay f q)
+      → ((f q : Word) → r ≢ Check f q) → Answers seen r s x → Holds s
+  of_single seen (Analyse n f) s x replay check (files.Without h) = of_no_program seen f s x h
+  of_single seen (Analyse n f) s x replay check (files.Of h) = subst Holds (sym h.said.ends) (of_report h.said.report)
+  of_single seen (Prove n f) s x replay check (files.Without h) = of_no_program seen f s x h
+  of_single seen (Prove n f) s x replay check (files.Of h) =
+      subst Holds (sym h.said.ends) (of_report (report_of h.said.outcome))
+  of_single seen (Check f q) s x replay check h = absurd (check f q refl)
+  of_single seen (Replay f q) s x replay check h = absurd (replay f q refl)
+  of_single seen (Generate n) s x replay check h = subst Holds (sym h.ends) done
+  of_single seen (Selfrun n) s x replay check h = subst Holds (sym h.ends) (of_report (report_of h.outcome))
+  of_single seen (Facts n f) s x replay check (files.Without h) = of_no_program seen f s x h
+  of_single seen (Facts n f) s x replay check (files.Of h) = subst Holds (sym h.said.ends) (of_report h.said.report)
 
-  -- and, with two more, of each with which a replay is
+  -- with two more, of each with which a replay is
   of_replay : Holds RunRefused → Holds NotARun → (seen : Seen) (f q : Word) (s : Status) (x : List ℕ) → Tells seen f q s x
       → Holds s
   of_replay run_refused not_a_run seen f q Done x h = done
@@ -140,28 +142,66 @@ module _ (Holds : Status → Type 0) (done : Holds Done) (unknown : Holds Unknow
   of_replay run_refused not_a_run seen f q RunRefused x h = run_refused
   of_replay run_refused not_a_run seen f q NotARun x h = not_a_run
 
-  of_answer : Holds RunRefused → Holds NotARun → (seen : Seen) (r : Request) (s : Status) (x : List ℕ) → Answers seen r s x
-      → Holds s
-  of_answer run_refused not_a_run seen (Analyse n f) s x h = of_other_answer seen (Analyse n f) s x (λ g q e. cc) h
-  of_answer run_refused not_a_run seen (Prove n f) s x h = of_other_answer seen (Prove n f) s x (λ g q e. cc) h
-  of_answer run_refused not_a_run seen (Check f g) s x h = of_other_answer seen (Check f g) s x (λ g q e. cc) h
-  of_answer run_refused not_a_run seen (Replay f q) s x h = of_replay run_refused not_a_run seen f q s x (replay_tells seen f q s x h)
-  of_answer run_refused not_a_run seen (Generate n) s x h = of_other_answer seen (Generate n) s x (λ g q e. cc) h
-  of_answer run_refused not_a_run seen (Selfrun n) s x h = of_other_answer seen (Selfrun n) s x (λ g q e. cc) h
-  of_answer run_refused not_a_run seen (Facts n f) s x h = of_other_answer seen (Facts n f) s x (λ g q e. cc) h
+  -- with two others, of each with which a check is
+  of_check : Holds ProofRefused → Holds No → (seen : Seen) (f q : Word) (s : Status) (x : List ℕ)
+      → CheckTells seen f q s x → Holds s
+  of_check proof_refused no_proof seen f q Done x h = done
+  of_check proof_refused no_proof seen f q Unknown x h = absurd h
+  of_check proof_refused no_proof seen f q Usage x h = absurd h
+  of_check proof_refused no_proof seen f q ReadFault x h = read_fault
+  of_check proof_refused no_proof seen f q WriteFault x h = absurd h
+  of_check proof_refused no_proof seen f q Memory x h = absurd h
+  of_check proof_refused no_proof seen f q ProgramRefused x h = refused
+  of_check proof_refused no_proof seen f q ProofRefused x h = proof_refused
+  of_check proof_refused no_proof seen f q No x h = no_proof
+  of_check proof_refused no_proof seen f q RunRefused x h = absurd h
+  of_check proof_refused no_proof seen f q NotARun x h = absurd h
 
-  -- so of each with which a call answers
-  pub of_says : Holds RunRefused → Holds NotARun → (call : Call) (s : Status) (x : List ℕ) → Says call s x → Holds s
-  of_says run_refused not_a_run call s x (ToNothing none h) = subst Holds (sym h.ends) usage
-  of_says run_refused not_a_run call s x (ToRequest r asked h) = of_answer run_refused not_a_run call.shelf r s x h
+  -- so of each with which another request is answered than one for a replay
+  pub of_no_replay : Holds ProofRefused → Holds No → (seen : Seen) (r : Request) (s : Status) (x : List ℕ)
+      → ((f q : Word) → r ≢ Replay f q) → Answers seen r s x → Holds s
+  of_no_replay proof_refused no_proof seen (Check f q) s x other h =
+      of_check proof_refused no_proof seen f q s x (check_tells seen f q s x h)
+  of_no_replay proof_refused no_proof seen (Replay f q) s x other h = absurd (other f q refl)
+  of_no_replay proof_refused no_proof seen (Analyse n f) s x other h =
+      of_single seen (Analyse n f) s x other (λ g q e. cc) h
+  of_no_replay proof_refused no_proof seen (Prove n f) s x other h = of_single seen (Prove n f) s x other (λ g q e. cc) h
+  of_no_replay proof_refused no_proof seen (Generate n) s x other h = of_single seen (Generate n) s x other (λ g q e. cc) h
+  of_no_replay proof_refused no_proof seen (Selfrun n) s x other h = of_single seen (Selfrun n) s x other (λ g q e. cc) h
+  of_no_replay proof_refused no_proof seen (Facts n f) s x other h = of_single seen (Facts n f) s x other (λ g q e. cc) h
+
+  -- and than one for a check
+  pub of_no_check : Holds RunRefused → Holds NotARun → (seen : Seen) (r : Request) (s : Status) (x : List ℕ)
+      → ((f q : Word) → r ≢ Check f q) → Answers seen r s x → Holds s
+  of_no_check run_refused not_a_run seen (Check f q) s x other h = absurd (other f q refl)
+  of_no_check run_refused not_a_run seen (Replay f q) s x other h =
+      of_replay run_refused not_a_run seen f q s x (replay_tells seen f q s x h)
+  of_no_check run_refused not_a_run seen (Analyse n f) s x other h =
+      of_single seen (Analyse n f) s x (λ g q e. cc) other h
+  of_no_check run_refused not_a_run seen (Prove n f) s x other h = of_single seen (Prove n f) s x (λ g q e. cc) other h
+  of_no_check run_refused not_a_run seen (Generate n) s x other h = of_single seen (Generate n) s x (λ g q e. cc) other h
+  of_no_check run_refused not_a_run seen (Selfrun n) s x other h = of_single seen (Selfrun n) s x (λ g q e. cc) other h
+  of_no_check run_refused not_a_run seen (Facts n f) s x other h = of_single seen (Facts n f) s x (λ g q e. cc) other h
+
+  module _ (proof_refused : Holds ProofRefused) (no_proof : Holds No) (run_refused : Holds RunRefused)
+      (not_a_run : Holds NotARun) where
+    of_answer : (seen : Seen) (r : Request) (s : Status) (x : List ℕ) → Answers seen r s x → Holds s
+    of_answer seen (Check f q) s x h = of_check proof_refused no_proof seen f q s x (check_tells seen f q s x h)
+    of_answer seen (Replay f q) s x h = of_replay run_refused not_a_run seen f q s x (replay_tells seen f q s x h)
+    of_answer seen (Analyse n f) s x h = of_single seen (Analyse n f) s x (λ g q e. cc) (λ g q e. cc) h
+    of_answer seen (Prove n f) s x h = of_single seen (Prove n f) s x (λ g q e. cc) (λ g q e. cc) h
+    of_answer seen (Generate n) s x h = of_single seen (Generate n) s x (λ g q e. cc) (λ g q e. cc) h
+    of_answer seen (Selfrun n) s x h = of_single seen (Selfrun n) s x (λ g q e. cc) (λ g q e. cc) h
+    of_answer seen (Facts n f) s x h = of_single seen (Facts n f) s x (λ g q e. cc) (λ g q e. cc) h
+
+    -- so of each with which a call answers
+    of_says : (call : Call) (s : Status) (x : List ℕ) → Says call s x → Holds s
+    of_says call s x (ToNothing none h) = subst Holds (sym h.ends) usage
+    of_says call s x (ToRequest r asked h) = of_answer call.shelf r s x h
 
 -- a call answers neither with the status of a fault of the sink nor with that of want of memory
 pub says_said : (call : Call) (s : Status) (x : List ℕ) → Says call s x → IsSaid s
-says_said = of_says IsSaid tt tt tt tt tt tt tt
-
--- and with one that is there
-pub says_there : (call : Call) (s : Status) (x : List ℕ) → Says call s x → IsStatusThere s
-says_there = of_says IsStatusThere tt tt tt tt tt tt tt
+says_said = of_says IsSaid tt tt tt tt tt tt tt tt tt
 
 -- what is said with a status that no call answers with
 pub never_write_fault : (call : Call) (x : List ℕ) → ¬ (Says call WriteFault x)

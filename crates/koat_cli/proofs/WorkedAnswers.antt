@@ -6,18 +6,21 @@ use Rattle.its_writer.specs.Texts.{canonical_text}
 use Rattle.its_writer.proofs.GeneratedWithin.{generated_spelled}
 use Rattle.asks.specs.Lines.{Words, Positional}
 use Rattle.asks.specs.Numerals.{IsNumber}
-use Rattle.asks.specs.Requests.{Analyse, Prove, Replay, Generate, Selfrun, Facts, Asks}
+use Rattle.asks.specs.Requests.{Analyse, Prove, Check, Replay, Generate, Selfrun, Facts, Asks}
 use Rattle.asks.proofs.Firsts.{gives_of}
 use Rattle.asks.proofs.WorkedLines.{command_lines}
 use Rattle.outcome.specs.Views.{report_of}
 use Rattle.koat_cli.specs.declared.status.Status.{Status}
-use Rattle.koat_cli.specs.declared.status.Status.TheVariants.{Done, Unknown, Usage, ReadFault}
+use Rattle.koat_cli.specs.declared.status.Status.TheVariants.{Done, Unknown, Usage, ReadFault, No, RunRefused}
 use Rattle.koat_cli.specs.Calls.{Seen, Call}
 use Rattle.koat_cli.specs.Report.{usage_text}
 use Rattle.koat_cli.specs.Answers.{ToRequest}
 use Rattle.koat_cli.specs.WorkedAnswers.{Answered, FiguresAreWorkedOut, AnswersAreWorkedOut}
-use Rattle.koat_cli.proofs.OneRequest.{answer_of, usage_not_there, never_read_fault}
+use Rattle.koat_cli.proofs.OneRequest.{answer_of, never_usage_of, never_read_fault}
+use Rattle.koat_cli.proofs.CheckStatuses.{Tells as CheckTells, check_tells}
 use Rattle.koat_cli.proofs.ReplayStatuses.{Tells, replay_tells}
+use Rattle.koat_cli.proofs.Sayings.{of_no_check}
+use Rattle.std.specs.Prelude.{⊤}
 
 pub figures_worked : FiguresAreWorkedOut
 unfolding digits
@@ -47,16 +50,6 @@ selfrun_asked = record {
   parts = record { no_option = refl; word = codes "0"; one = refl; number = no_loop };
 }
 
-prove_asked : Asks (codes "prove" ∷ codes "p" ∷ []) (Prove 10000 (codes "p"))
-prove_asked = record {
-  others = codes "p" ∷ [];
-  values = [];
-  positionals = codes "p" ∷ [];
-  command = refl;
-  gives = gives_of (Positional (codes "p") ∷ []) None (refl, tt);
-  parts = record { allowed = refl; one = refl };
-}
-
 -- the call with these words
 abbrev call_with : Words → Seen → Call
 call_with words seen = record { words = words; shelf = seen }
@@ -78,24 +71,48 @@ generate_its_text seen status said =
     let bracket : 117 ≡ 40 = ap (λ (w : List ℕ). get_or w 0 0) e in
     omega (arith, bracket)
 
-prove : (seen : Seen) → Answered (codes "prove" ∷ codes "p" ∷ []) seen Usage usage_text
-prove seen = ToRequest (Prove 10000 (codes "p")) prove_asked (record { told = refl; ends = refl })
+prove : (seen : Seen) (text : List ℕ) → ¬ (Answered (codes "prove" ∷ codes "--pivots=5" ∷ codes "p" ∷ []) seen Usage text)
+prove seen text said =
+    never_usage_of seen (Prove 5 (codes "p")) text
+    (answer_of (call_with (codes "prove" ∷ codes "--pivots=5" ∷ codes "p" ∷ []) seen) (Prove 5 (codes "p")) Usage text command_lines.proofs said)
 
-prove_alone : (seen : Seen) (status : Status) (text : List ℕ) → Answered (codes "prove" ∷ codes "p" ∷ []) seen status text
-    → status ≡ Usage
-prove_alone seen status text said =
-    let answer = answer_of (call_with (codes "prove" ∷ codes "p" ∷ []) seen) (Prove 10000 (codes "p")) status text prove_asked said in
-    answer.ends
+-- what is answered to another request than one for a check isn't that a proof isn't accepted
+abbrev IsNotNo : Status → Type 0
+IsNotNo No = ⊥
+IsNotNo status = ⊤
+
+prove_accepted : (seen : Seen) (text : List ℕ) → ¬ (Answered (codes "prove" ∷ codes "--pivots=5" ∷ codes "p" ∷ []) seen No text)
+prove_accepted seen text said =
+    of_no_check IsNotNo tt tt tt tt tt tt tt seen (Prove 5 (codes "p")) No text (λ f q e. cc)
+    (answer_of (call_with (codes "prove" ∷ codes "--pivots=5" ∷ codes "p" ∷ []) seen) (Prove 5 (codes "p")) No text command_lines.proofs said)
+
+-- what is answered to a check
+check_answered : (seen : Seen) (status : Status) (text : List ℕ)
+    → Answered (codes "check" ∷ codes "p" ∷ codes "q" ∷ []) seen status text
+    → CheckTells seen (codes "p") (codes "q") status text
+check_answered seen status text said =
+    check_tells seen (codes "p") (codes "q") status text
+    (answer_of (call_with (codes "check" ∷ codes "p" ∷ codes "q" ∷ []) seen)
+    (Check (codes "p") (codes "q")) status text command_lines.check said)
+
+check : (seen : Seen) (text : List ℕ) → ¬ (Answered (codes "check" ∷ codes "p" ∷ codes "q" ∷ []) seen Usage text)
+check seen text said = check_answered seen Usage text said
+
+check_known : (seen : Seen) (text : List ℕ) → ¬ (Answered (codes "check" ∷ codes "p" ∷ codes "q" ∷ []) seen Unknown text)
+check_known seen text said = check_answered seen Unknown text said
+
+check_no_run : (seen : Seen) (text : List ℕ) → ¬ (Answered (codes "check" ∷ codes "p" ∷ codes "q" ∷ []) seen RunRefused text)
+check_no_run seen text said = check_answered seen RunRefused text said
 
 analyse : (seen : Seen) (text : List ℕ) → ¬ (Answered (codes "analyse" ∷ codes "p" ∷ []) seen Usage text)
 analyse seen text said =
-    usage_not_there seen (Analyse 10000 (codes "p")) text
-    (answer_of (call_with (codes "analyse" ∷ codes "p" ∷ []) seen) (Analyse 10000 (codes "p")) Usage text command_lines.file_alone said) tt
+    never_usage_of seen (Analyse 10000 (codes "p")) text
+    (answer_of (call_with (codes "analyse" ∷ codes "p" ∷ []) seen) (Analyse 10000 (codes "p")) Usage text command_lines.file_alone said)
 
 facts : (seen : Seen) (text : List ℕ) → ¬ (Answered (codes "facts" ∷ codes "p" ∷ []) seen Usage text)
 facts seen text said =
-    usage_not_there seen (Facts 10000 (codes "p")) text
-    (answer_of (call_with (codes "facts" ∷ codes "p" ∷ []) seen) (Facts 10000 (codes "p")) Usage text command_lines.facts said) tt
+    never_usage_of seen (Facts 10000 (codes "p")) text
+    (answer_of (call_with (codes "facts" ∷ codes "p" ∷ []) seen) (Facts 10000 (codes "p")) Usage text command_lines.facts said)
 
 -- what is answered to a replay
 replay_answered : (seen : Seen) (status : Status) (text : List ℕ)
@@ -125,7 +142,10 @@ answers_worked = record {
   generate_known = generate_known;
   generate_its_text = generate_its_text;
   prove = prove;
-  prove_alone = prove_alone;
+  prove_accepted = prove_accepted;
+  check = check;
+  check_known = check_known;
+  check_no_run = check_no_run;
   analyse = analyse;
   facts = facts;
   replay = replay;

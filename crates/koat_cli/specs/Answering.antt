@@ -7,7 +7,7 @@ use Rattle.model.specs.Programs.{Program}
 use Rattle.its_reader.specs.its_text.Spelling.{SpellsWithin}
 use Rattle.its_writer.specs.Generated.{generated}
 use Rattle.asks.specs.Lines.{Word}
-use Rattle.asks.specs.Requests.{Request, Analyse, Generate, Selfrun, Facts, Asks, default_pivots}
+use Rattle.asks.specs.Requests.{Request, Analyse, Prove, Generate, Selfrun, Facts, Asks, default_pivots}
 use Rattle.location_facts.specs.declared.fact.LocFact.{LocFact}
 use Rattle.location_facts.specs.Kept.{AreKept}
 use Rattle.location_facts.specs.Strengthening.{strengthened}
@@ -18,7 +18,7 @@ use Rattle.koat_cli.specs.declared.status.Status.TheVariants.{Done, Unknown, Usa
 use Rattle.koat_cli.specs.declared.status.Status.TheVariants.{ProgramRefused, ProofRefused, No, RunRefused, NotARun}
 use Rattle.koat_cli.specs.Calls.{Call, Put}
 use Rattle.koat_cli.specs.OnFiles.{program_limit}
-use Rattle.koat_cli.specs.Answers.{AsksForNothingThere}
+use Rattle.koat_cli.specs.Answers.{AsksForNothing}
 use Rattle.koat_cli.specs.Ends.{Ends}
 
 -- the words ask so of a file, the shelf tells that it holds the file, with these bytes, and neither the shelf's nor the
@@ -93,12 +93,14 @@ pub record AreAnswered (request : Word → Request) (FindsAll Misses : Program �
   pub refused : (call : Call) (put : Put) (bytes : List ℕ) (s : Status) → AsksOfHeld call put bytes request
       → Ends s call put → s ≢ Memory → (s ≡ ProgramRefused) ↔ SpellsNone bytes
 
--- so it is of calls that ask for the analysis of a file, by the times that the program's analysis finds; and of those
--- that ask for it with the facts at locations, by the times that are found of the program that its kept facts
+-- so it is of calls that ask for the analysis of a file, or for its proof file, by the times that the program's analysis
+-- finds; and of those that ask for it with the facts at locations, by the times that are found of the program that its kept facts
 -- strengthen
 pub record HeldFilesAreAnswered : Type 0 where
   pub analyses : (pivots : ℕ)
       → AreAnswered (Analyse pivots) (λ p. FindsAllTimes p pivots) (λ p. MissesTimes p pivots)
+  pub proofs : (pivots : ℕ)
+      → AreAnswered (Prove pivots) (λ p. FindsAllTimes p pivots) (λ p. MissesTimes p pivots)
   pub with_facts : (pivots : ℕ)
       → AreAnswered (Facts pivots) (λ p. FindsAllWithFacts p pivots) (λ p. MissesWithFacts p pivots)
 
@@ -109,12 +111,12 @@ pub record EndsWell (status : Status) (call : Call) (put : Put) : Type 0 where
   pub memory : status ≢ Memory
 
 -- the status of a fault of the sink and that of want of memory aside, a call ends with `Usage` exactly where its words
--- ask for nothing that is there; one that asks for a generated program ends with `Done`; and one that asks for the
+-- ask for nothing; one that asks for a generated program ends with `Done`; and one that asks for the
 -- figures of its analysis ends with `Done` exactly where this has a time for every rule, with `Unknown` exactly where
 -- it has none for some, and with no other status
 pub record NumbersAreAnswered : Type 0 where
   pub usage : (call : Call) (put : Put) (s : Status) → EndsWell s call put
-      → (s ≡ Usage) ↔ AsksForNothingThere call.words
+      → (s ≡ Usage) ↔ AsksForNothing call.words
   pub program : (call : Call) (put : Put) (n : ℕ) (s : Status) → Asks call.words (Generate n) → EndsWell s call put
       → s ≡ Done
   pub few : (call : Call) (put : Put) (n : ℕ) (s : Status) → Asks call.words (Selfrun n) → EndsWell s call put

@@ -8,13 +8,16 @@ use Rattle.koat_cli.specs.Calls.{Seen, Call}
 use Rattle.koat_cli.specs.OnFiles.{OnProgram}
 use Rattle.koat_cli.specs.OnTexts.{OnText, OnProgramFirst}
 use Rattle.koat_cli.specs.Outputs.{IsReportOf, IsReplayOf, IsGenerated, IsSummaryOf, IsFactsReportOf, IsUsage}
+use Rattle.koat_cli.specs.Checks.{IsProofOf, IsCheckOf}
+use Rattle.koat_cli.specs.ProofTexts.{proofs}
 use Rattle.koat_cli.specs.RunTexts.{runs}
 
--- what is answered of a request; `prove` and `check` aren't there
+-- what is answered of a request
 abbrev pub Answers : Seen → Request → Status → List ℕ → Type 0
 Answers seen (Analyse pivots file) status text = OnProgram seen file (λ program. IsReportOf program pivots) status text
-Answers seen (Prove pivots file) status text = IsUsage status text
-Answers seen (Check file proof) status text = IsUsage status text
+Answers seen (Prove pivots file) status text = OnProgram seen file (λ program. IsProofOf program pivots) status text
+Answers seen (Check file proof) status text =
+    OnProgramFirst seen file (λ program. OnText (proofs program) seen proof (IsCheckOf program)) status text
 Answers seen (Replay file run) status text =
     OnProgramFirst seen file (λ program. OnText (runs program) seen run (IsReplayOf program)) status text
 Answers seen (Generate n) status text = IsGenerated n status text
@@ -22,21 +25,11 @@ Answers seen (Selfrun n) status text = IsSummaryOf (generated n) status text
 Answers seen (Facts pivots file) status text =
     OnProgram seen file (λ program. IsFactsReportOf program pivots) status text
 
--- there is a command for this request
-abbrev pub IsThere : Request → Type 0
-IsThere (Analyse pivots file) = ⊤
-IsThere (Prove pivots file) = ⊥
-IsThere (Check file proof) = ⊥
-IsThere (Replay file run) = ⊤
-IsThere (Generate n) = ⊤
-IsThere (Selfrun n) = ⊤
-IsThere (Facts pivots file) = ⊤
-
 -- a file is fetched for this request
 abbrev pub FetchesFile : Request → Type 0
 FetchesFile (Analyse pivots file) = ⊤
-FetchesFile (Prove pivots file) = ⊥
-FetchesFile (Check file proof) = ⊥
+FetchesFile (Prove pivots file) = ⊤
+FetchesFile (Check file proof) = ⊤
 FetchesFile (Replay file run) = ⊤
 FetchesFile (Generate n) = ⊥
 FetchesFile (Selfrun n) = ⊥
@@ -45,10 +38,6 @@ FetchesFile (Facts pivots file) = ⊤
 -- the words are no command line
 abbrev pub AsksForNothing : Words → Type 0
 AsksForNothing words = (request : Request) → ¬ (Asks words request)
-
--- the words ask for nothing that is there
-abbrev pub AsksForNothingThere : Words → Type 0
-AsksForNothingThere words = (request : Request) → Asks words request → ¬ (IsThere request)
 
 -- no file is fetched for the words
 abbrev pub FetchesNothing : Words → Type 0

@@ -10,6 +10,8 @@ use Rattle.model.specs.Runs.{sizes_of_start}
 use Rattle.asks.specs.Lines.{Word}
 use Rattle.asks.specs.Requests.{Request, Analyse, Prove, Check, Replay, Generate, Selfrun, Facts, Asks}
 use Rattle.outcome.specs.Reports.{Report, is_timed}
+use Rattle.outcome.specs.Views.{report_of}
+use Rattle.outcome.specs.declared.outcome_of.Outcome.{Outcome}
 use Rattle.location_facts.specs.declared.fact.LocFact.{LocFact}
 use Rattle.report_text.specs.States.{States}
 use Rattle.facts_report.specs.FactTexts.{text_with_facts}
@@ -27,7 +29,8 @@ use Rattle.koat_cli.specs.OnTexts.{GaveProgram, IsOverLimit, IsTextRefused, Give
 use Rattle.koat_cli.specs.RunTexts.{runs}
 use Rattle.koat_cli.specs.Outputs.{IsFound, IsTallyOf, IsBadStepOf}
 use Rattle.koat_cli.specs.WithinBounds.{IsWithinBounds}
-use Rattle.koat_cli.specs.Answers.{AsksForNothingThere, Says}
+use Rattle.koat_cli.specs.ProofEnds.{WroteProof, WroteAcceptance, WroteNo, WroteProofRefusal}
+use Rattle.koat_cli.specs.Answers.{AsksForNothing, Says}
 
 -- a text that the call answers with this status was appended, whole, to what was written
 pub record WroteWhole (status : Status) (call : Call) (put : Put) : Type 0 where
@@ -100,8 +103,8 @@ pub record WroteRefusal (call : Call) (put : Put) (file : Word) : Type 0 where
 -- the first file of a request, and the second one, where files are fetched for it
 abbrev pub IsFirstFile : Request → Word → Type 0
 IsFirstFile (Analyse pivots file) f = f ≡ file
-IsFirstFile (Prove pivots file) f = ⊥
-IsFirstFile (Check file proof) f = ⊥
+IsFirstFile (Prove pivots file) f = f ≡ file
+IsFirstFile (Check file proof) f = f ≡ file
 IsFirstFile (Replay file run) f = f ≡ file
 IsFirstFile (Generate n) f = ⊥
 IsFirstFile (Selfrun n) f = ⊥
@@ -110,7 +113,7 @@ IsFirstFile (Facts pivots file) f = f ≡ file
 abbrev pub IsSecondFile : Request → Word → Type 0
 IsSecondFile (Analyse pivots file) f = ⊥
 IsSecondFile (Prove pivots file) f = ⊥
-IsSecondFile (Check file proof) f = ⊥
+IsSecondFile (Check file proof) f = f ≡ proof
 IsSecondFile (Replay file run) f = f ≡ run
 IsSecondFile (Generate n) f = ⊥
 IsSecondFile (Selfrun n) f = ⊥
@@ -168,24 +171,10 @@ pub record WroteRunRefusal (call : Call) (put : Put) (file run_file : Word) : Ty
       ⊎ (IsTextRefused (runs program) call.shelf run_file RunRefused text)
   pub appended : Appends put.written_before put.written_after text
 
--- the statuses with which a call can end: not those of checking proofs, which no request comes to
-abbrev pub IsStatusThere : Status → Type 0
-IsStatusThere Done = ⊤
-IsStatusThere Unknown = ⊤
-IsStatusThere Usage = ⊤
-IsStatusThere ReadFault = ⊤
-IsStatusThere WriteFault = ⊤
-IsStatusThere Memory = ⊤
-IsStatusThere ProgramRefused = ⊤
-IsStatusThere ProofRefused = ⊥
-IsStatusThere No = ⊥
-IsStatusThere RunRefused = ⊤
-IsStatusThere NotARun = ⊤
-
 -- the answer to this request tells of the rules of a program whether each has a time
 abbrev pub TellsOfTimes : Request → Type 0
 TellsOfTimes (Analyse pivots file) = ⊤
-TellsOfTimes (Prove pivots file) = ⊥
+TellsOfTimes (Prove pivots file) = ⊤
 TellsOfTimes (Check file proof) = ⊥
 TellsOfTimes (Replay file run) = ⊥
 TellsOfTimes (Generate n) = ⊥
@@ -193,13 +182,16 @@ TellsOfTimes (Selfrun n) = ⊤
 TellsOfTimes (Facts pivots file) = ⊤
 
 -- what statuses mean: where `analyse` ends with `Done`, such a report was written, in which every rule has a time, and
--- where it ends with `Unknown`, one in which some rule has none; so it is with `facts` and such facts with a report;
--- where `replay` ends with `Done`, the tally along the run was written beside the bounds. With `Unknown` a call ends
--- only where its words ask for something that tells of times: `analyse`, `facts` or `selfrun`. With `Usage` a call ends
--- only where its words ask for nothing that is there, and the usage text was written; with `ReadFault` only where a
--- file may fail that is fetched for its words; with `ProgramRefused` only where a text was written that refuses the
--- first file; with `RunRefused` and `NotARun` only where its words ask for a replay, and a text was written that
--- refuses the second file, or that tells the first bad step of the run; and no status comes of which nothing is said
+-- where it ends with `Unknown`, one in which some rule has none; so it is with `facts` and such facts with a report, and
+-- with `prove` and the proof file of what was found, which is accepted; where `check` ends with `Done`, the facts of a
+-- proof file were written that is accepted, and each of them holds on every run of the program; where `replay` does, the
+-- tally along the run was written beside the bounds. With `Unknown` a call ends only where its words ask for something
+-- that tells of times: `analyse`, `prove`, `facts` or `selfrun`. With `Usage` a call ends only where its words ask for
+-- nothing, and the usage text was written; with `ReadFault` only where a file may fail that is fetched for its words;
+-- with `ProgramRefused` only where a text was written that refuses the first file; with `ProofRefused` and `No` only
+-- where its words ask for `check`, and a text was written that refuses the second file, or that tells what isn't
+-- accepted first; and with `RunRefused` and `NotARun` only where its words ask for a replay, and a text was written that
+-- refuses the second file, or that tells the first bad step of the run
 pub record Means (status : Status) (call : Call) (put : Put) : Type 0 where
   pub done : (pivots : ℕ) (file : Word) → Asks call.words (Analyse pivots file) → status ≡ Done
       → (report : Report) × WroteReport call put pivots file report × IsTrue (list_all is_timed report.times)
@@ -209,16 +201,27 @@ pub record Means (status : Status) (call : Call) (put : Put) : Type 0 where
       → (report : Report) × WroteFacts call put pivots file report × IsTrue (list_all is_timed report.times)
   pub unknown_with_facts : (pivots : ℕ) (file : Word) → Asks call.words (Facts pivots file) → status ≡ Unknown
       → (report : Report) × WroteFacts call put pivots file report × IsFalse (list_all is_timed report.times)
+  pub proved : (pivots : ℕ) (file : Word) → Asks call.words (Prove pivots file) → status ≡ Done
+      → (outcome : Outcome) × WroteProof call put pivots file outcome
+      × IsTrue (list_all is_timed (report_of outcome).times)
+  pub proved_in_part : (pivots : ℕ) (file : Word) → Asks call.words (Prove pivots file) → status ≡ Unknown
+      → (outcome : Outcome) × WroteProof call put pivots file outcome
+      × IsFalse (list_all is_timed (report_of outcome).times)
+  pub checked : (file proof : Word) → Asks call.words (Check file proof) → status ≡ Done
+      → WroteAcceptance call put file proof
   pub replayed : (file run : Word) → Asks call.words (Replay file run) → status ≡ Done
       → WroteTally call put file run
   pub unknown_of : status ≡ Unknown → (request : Request) × Asks call.words request × TellsOfTimes request
   pub usage : status ≡ Usage
-      → AsksForNothingThere call.words × (Appends put.written_before put.written_after usage_text)
+      → AsksForNothing call.words × (Appends put.written_before put.written_after usage_text)
   pub read_fault : status ≡ ReadFault → (file : Word) × MayMiss call file
   pub program_refused : status ≡ ProgramRefused → (request : Request) × ((file : Word) × Asks call.words request
       × IsFirstFile request file × WroteRefusal call put file)
+  pub proof_refused : status ≡ ProofRefused
+      → (file : Word) × ((proof : Word) × Asks call.words (Check file proof) × WroteProofRefusal call put file proof)
+  pub no : status ≡ No
+      → (file : Word) × ((proof : Word) × Asks call.words (Check file proof) × WroteNo call put file proof)
   pub run_refused : status ≡ RunRefused
       → (file : Word) × ((run : Word) × Asks call.words (Replay file run) × WroteRunRefusal call put file run)
   pub not_a_run : status ≡ NotARun
       → (file : Word) × ((run : Word) × Asks call.words (Replay file run) × WroteBadStep call put file run)
-  pub no_other : IsStatusThere status

@@ -7,8 +7,11 @@ pub mod ReplayTexts
 pub mod OnFiles
 pub mod OnTexts
 pub mod RunTexts
+pub mod ProofTexts
 pub mod Outputs
+pub mod Checks
 pub mod WithinBounds
+pub mod ProofEnds
 pub mod Answers
 pub mod Ends
 pub mod Processes
@@ -24,3 +27,4 @@ pub mod WorkedReplayTexts
 pub mod WorkedMissingFiles
 -- what the contracts of the functions inside cite
 pub mod Steps
+pub mod ProofSteps

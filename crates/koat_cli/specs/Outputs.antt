@@ -96,7 +96,7 @@ pub record IsFactsReportOf (program : Program) (pivots : ℕ) (status : Status) 
   pub told : text ≡ text_with_facts program facts report
   pub ends : status ≡ status_of report
 
--- what words get that ask for nothing that is there: the usage text
+-- what words get that ask for nothing: the usage text
 pub record IsUsage (status : Status) (text : List ℕ) : Type 0 where
   pub told : text ≡ usage_text
   pub ends : status ≡ Usage

@@ -9,10 +9,11 @@ use Rattle.its_reader.specs.its_text.Kinds.{LeftNotVariable}
 use Rattle.its_reader.specs.its_text.Kinds.{LeftRepeated, ArityDiffers, NumberTooLarge, Limit, StartUnknown}
 use Rattle.its_reader.specs.its_text.Kinds.{Disjunction}
 
--- the text for words that ask for nothing that is there: a line for each command that there is
+-- the text for words that ask for nothing: a line for each command
 abbrev pub usage_text : List ℕ
 usage_text =
-    codes "usage: koat analyse [--pivots N] FILE\n       koat replay FILE RUN\n"
+    codes "usage: koat analyse [--pivots N] FILE\n       koat prove [--pivots N] FILE\n       koat check FILE PROOF\n"
+    ++ codes "       koat replay FILE RUN\n"
     ++ codes "       koat generate N\n       koat selfrun N\n       koat facts [--pivots N] FILE\n"
 
 -- the text where a file can't be had

@@ -7,7 +7,7 @@ use Rattle.its_writer.specs.Texts.{canonical_text}
 use Rattle.asks.specs.Lines.{Words}
 use Rattle.outcome.specs.Reports.{Timed, Untimed, TimeLarge, Sized, Unsized, SizeLarge, SizeUntimed, Report}
 use Rattle.koat_cli.specs.declared.status.Status.{Status}
-use Rattle.koat_cli.specs.declared.status.Status.TheVariants.{Done, Unknown, Usage, ReadFault}
+use Rattle.koat_cli.specs.declared.status.Status.TheVariants.{Done, Unknown, Usage, ReadFault, No, RunRefused}
 use Rattle.koat_cli.specs.Calls.{Seen}
 use Rattle.koat_cli.specs.Report.{usage_text}
 use Rattle.koat_cli.specs.Figures.{text_of_figures}
@@ -35,8 +35,9 @@ abbrev pub Answered : Words → Seen → Status → List ℕ → Type 0
 Answered words seen status text = Says (record { words = words; shelf = seen }) status text
 
 -- whatever a call sees of the shelf: `generate 0` is answered with `Done` and the program's text, neither with
--- `Unknown` nor with the usage text; `prove p` with `Usage` alone; `analyse p` and `facts p` never; `replay p -- -q`
--- neither with `Usage` nor with `Unknown`; and `selfrun 0` never with a fault of reading
+-- `Unknown` nor with the usage text; `analyse p`, `facts p` and `prove --pivots=5 p` never with `Usage`, and the latter
+-- not with `No`; `check p q` neither with `Usage` nor with `Unknown`, nor as a run is refused; `replay p -- -q` neither
+-- with `Usage` nor with `Unknown`; and `selfrun 0` never with a fault of reading
 pub record AnswersAreWorkedOut : Type 0 where
   pub generate : (seen : Seen)
       → Answered (codes "generate" ∷ codes "0" ∷ []) seen Done (canonical_text (generated 0))
@@ -44,9 +45,16 @@ pub record AnswersAreWorkedOut : Type 0 where
       → ¬ (Answered (codes "generate" ∷ codes "0" ∷ []) seen Unknown text)
   pub generate_its_text : (seen : Seen) (status : Status)
       → ¬ (Answered (codes "generate" ∷ codes "0" ∷ []) seen status usage_text)
-  pub prove : (seen : Seen) → Answered (codes "prove" ∷ codes "p" ∷ []) seen Usage usage_text
-  pub prove_alone : (seen : Seen) (status : Status) (text : List ℕ)
-      → Answered (codes "prove" ∷ codes "p" ∷ []) seen status text → status ≡ Usage
+  pub prove : (seen : Seen) (text : List ℕ)
+      → ¬ (Answered (codes "prove" ∷ codes "--pivots=5" ∷ codes "p" ∷ []) seen Usage text)
+  pub prove_accepted : (seen : Seen) (text : List ℕ)
+      → ¬ (Answered (codes "prove" ∷ codes "--pivots=5" ∷ codes "p" ∷ []) seen No text)
+  pub check : (seen : Seen) (text : List ℕ)
+      → ¬ (Answered (codes "check" ∷ codes "p" ∷ codes "q" ∷ []) seen Usage text)
+  pub check_known : (seen : Seen) (text : List ℕ)
+      → ¬ (Answered (codes "check" ∷ codes "p" ∷ codes "q" ∷ []) seen Unknown text)
+  pub check_no_run : (seen : Seen) (text : List ℕ)
+      → ¬ (Answered (codes "check" ∷ codes "p" ∷ codes "q" ∷ []) seen RunRefused text)
   pub analyse : (seen : Seen) (text : List ℕ) → ¬ (Answered (codes "analyse" ∷ codes "p" ∷ []) seen Usage text)
   pub facts : (seen : Seen) (text : List ℕ) → ¬ (Answered (codes "facts" ∷ codes "p" ∷ []) seen Usage text)
   pub replay : (seen : Seen) (text : List ℕ)

@@ -5,7 +5,9 @@ ghost use Rattle.koat_cli.specs.Answers.{FetchesNothing, Says};
 ghost use Rattle.koat_cli.specs.Calls.{call_of, seen_of};
 ghost use Rattle.koat_cli.specs.OnFiles.{OnProgram};
 ghost use Rattle.koat_cli.specs.OnTexts.{OnText, OnProgramFirst};
+ghost use Rattle.koat_cli.specs.Checks.{IsCheckOf, IsProofOf};
 ghost use Rattle.koat_cli.specs.Outputs.{IsReportOf, IsReplayOf, IsFactsReportOf};
+ghost use Rattle.koat_cli.specs.ProofTexts.{proofs};
 ghost use Rattle.koat_cli.specs.RunTexts.{runs};
 ghost use Rattle.koat_cli.specs.Steps.{IsSaid};
 ghost use Rattle.its_model.specs.Valid.{IsValid};
@@ -14,6 +16,8 @@ ghost use Rattle.its_model.specs.Views.{program_of};
 use crate::analysis::{report, report_with_facts};
 use crate::generated::{generated, summary};
 use crate::program_file::{ProgramFile, program_in};
+use crate::proof_in_file::{ProofInFile, proof_in};
+use crate::proving::{checked, proved};
 use crate::replaying::replayed;
 use crate::run_in_file::{RunInFile, run_in};
 use crate::status::Status;
@@ -24,8 +28,10 @@ use model::Memory;
 use outside_io::Shelf;
 use std::alloc::Global;
 
-/// The text for words that ask for nothing that is there: a line for each command that there is.
+/// The text for words that ask for nothing: a line for each command.
 const USAGE: &[u8] = b"usage: koat analyse [--pivots N] FILE
+       koat prove [--pivots N] FILE
+       koat check FILE PROOF
        koat replay FILE RUN
        koat generate N
        koat selfrun N
@@ -55,8 +61,10 @@ pub(crate) fn prepare<F: Shelf>(
         Some(Request::Generate { n }) => generated(alloc, n),
         Some(Request::Selfrun { n }) => summary(alloc, n),
         Some(Request::Facts { pivots, file }) => facts_of(alloc, file.as_str(), pivots, shelf),
-        Some(Request::Prove { .. }) => status_with_text(alloc, Status::Usage, USAGE),
-        Some(Request::Check { .. }) => status_with_text(alloc, Status::Usage, USAGE),
+        Some(Request::Prove { pivots, file }) => proof_of(alloc, file.as_str(), pivots, shelf),
+        Some(Request::Check { file, proof }) => {
+            check_of(alloc, file.as_str(), proof.as_str(), shelf)
+        }
         None => status_with_text(alloc, Status::Usage, USAGE),
     }
 }
@@ -99,6 +107,69 @@ fn facts_of<F: Shelf>(
     match program_in(alloc, file, shelf)? {
         ProgramFile::Answer(said) => Ok(said),
         ProgramFile::Program(program) => report_with_facts(alloc, &program, pivots),
+    }
+}
+
+// The proof file of what is found of the program in a file, or what is answered where the file gives none.
+fn proof_of<F: Shelf>(
+    alloc: Global,
+    file: &str,
+    pivots: u32,
+    shelf: &mut F,
+) -> Result<StatusText, Memory>
+    ensures keeps_files { F.held shelf.new ≡ F.held shelf.old }
+    ensures keeps_count { F.faults shelf.old ≤ F.faults shelf.new }
+    ensures fault { IfOk result (λ said.
+        F.faults shelf.old < F.faults shelf.new → said.status ≡ Status.ReadFault) }
+    ensures says { IfOk result (λ said. OnProgram (seen_of F.Shelf shelf.old shelf.new) file.now
+        (λ program. IsProofOf program pivots) said.status said.text.items) }
+{
+    match program_in(alloc, file, shelf)? {
+        ProgramFile::Answer(said) => Ok(said),
+        ProgramFile::Program(program) => proved(alloc, &program, pivots),
+    }
+}
+
+// What is said of a proof of the program in a file, or what is answered where a file gives none.
+fn check_of<F: Shelf>(
+    alloc: Global,
+    file: &str,
+    proof: &str,
+    shelf: &mut F,
+) -> Result<StatusText, Memory>
+    ensures keeps_files { F.held shelf.new ≡ F.held shelf.old }
+    ensures keeps_count { F.faults shelf.old ≤ F.faults shelf.new }
+    ensures fault { IfOk result (λ said.
+        F.faults shelf.old < F.faults shelf.new → said.status ≡ Status.ReadFault) }
+    ensures says { IfOk result (λ said. OnProgramFirst (seen_of F.Shelf shelf.old shelf.new) file.now
+        (λ program. OnText (proofs program) (seen_of F.Shelf shelf.old shelf.new) proof.now (IsCheckOf program))
+        said.status said.text.items) }
+{
+    match program_in(alloc, file, shelf)? {
+        ProgramFile::Answer(said) => Ok(said),
+        ProgramFile::Program(program) => check_on(alloc, &program, proof, shelf),
+    }
+}
+
+// What is said of the proof in a file for a program, or what is answered where the file gives none.
+fn check_on<F: Shelf>(
+    alloc: Global,
+    program: &Program,
+    file: &str,
+    shelf: &mut F,
+) -> Result<StatusText, Memory>
+    requires { IsValid (program_of program.now) }
+    ensures keeps_files { F.held shelf.new ≡ F.held shelf.old }
+    ensures keeps_count { F.faults shelf.old ≤ F.faults shelf.new }
+    ensures fault { IfOk result (λ said.
+        F.faults shelf.old < F.faults shelf.new → said.status ≡ Status.ReadFault) }
+    ensures says { IfOk result (λ said. OnText (proofs (program_of program.now))
+        (seen_of F.Shelf shelf.old shelf.new) file.now (IsCheckOf (program_of program.now))
+        said.status said.text.items) }
+{
+    match proof_in(alloc, program, file, shelf)? {
+        ProofInFile::Answer(said) => Ok(said),
+        ProofInFile::Proof(proof) => checked(alloc, program, &proof),
     }
 }
 

@@ -18,6 +18,12 @@ use std::alloc::Global;
 ///   occurs in a run, and each argument after a rule a bound on its absolute value, in the absolute values of the
 ///   inputs, or says why there is none. N is how many pivots each linear program may take, from 0 to 1,000,000, and
 ///   10,000 where it isn't given.
+/// - `prove [--pivots N] FILE` fetches the file of a program, and writes the proof file of what its analysis finds: a
+///   lemma for each bound, or for several, and a gap for each rule that no function ranks. `check` accepts it, where it
+///   has at most 67,108,864 bytes.
+/// - `check FILE PROOF` fetches the file of a program, and then that of a proof, of at most 67,108,864 bytes, and writes
+///   the facts of all its lemmas, and its gaps, where all of them are accepted. It solves no linear program, and
+///   believes none that did.
 /// - `replay FILE RUN` fetches the file of a program, and then that of a run, of at most 67,108,864 bytes, and writes
 ///   the tally along the run: how many steps it has, how often each rule occurs, and the greatest absolute value of
 ///   each argument after each rule; each beside the value, up to 2^127, of its bound at the absolute start values, or
@@ -38,18 +44,25 @@ use std::alloc::Global;
 ///   every run of the program, from any integers and by any choice of rules, each rule occurs at most as often as its
 ///   time says, there are at most as many steps as the total says, and each argument after a rule stays within its
 ///   size, where it has one. With `facts`, the same with the report behind the facts, and each fact holds on every run,
-///   too. With `replay`, the steps are a run of the program, no value passes 128 bits on the way, and the tally was
+///   too. With `prove`, the proof file of the same analysis was written. With `check`, the files spell a program and a
+///   proof file that is accepted, and its facts were written: each of them holds on every run of the program, whoever
+///   made the proof. With `replay`, the steps are a run of the program, no value passes 128 bits on the way, and the tally was
 ///   written: each number of it is at most the value of the bound beside it. With `selfrun`, its figures were written,
 ///   and every rule of the generated program has a time. With `generate`, that program's text was written.
 /// - `Unknown`: with `analyse` and `facts`, the same, where some rule has no time: the report says why, and every bound
-///   that it gives holds on every run. With `facts` the reasons are those of the strengthened program. With `selfrun`,
+///   that it gives holds on every run. With `facts` the reasons are those of the strengthened program. With `prove`, the
+///   proof file was written of such an analysis. With `selfrun`,
 ///   its figures alone were written, and some rule of the generated program has no time.
-/// - `Usage`: the words are no command line, or ask for `prove` or `check`, which aren't there yet.
-/// - `ReadFault`: an analysis, with facts or without, or a replay is asked for, and the shelf had a fault in this call,
-///   or tells that it lacks the file, or, where that spells a program, the file of the run.
-/// - `ProgramRefused`: an analysis, with facts or without, or a replay is asked for, and the file of the program has
-///   too many bytes, or something stands against it as the text of a program within the limits: the text says what
-///   stands first, and at which byte.
+/// - `Usage`: the words are no command line.
+/// - `ReadFault`: a file is asked for, and the shelf had a fault in this call, or tells that it lacks the file of the
+///   program, or, where that spells a program, the file of the proof or of the run.
+/// - `ProgramRefused`: a file is asked for, and the file of the program has too many bytes, or something stands against
+///   it as the text of a program within the limits: the text says what stands first, and at which byte.
+/// - `ProofRefused`: with `check`, the first file spells a program, and the second has too many bytes, or something
+///   stands against it as the text of a proof file of the program within the limits: the text says what stands first,
+///   and at which byte.
+/// - `No`: with `check`, the files spell a program and a proof file, of which some node of a lemma isn't accepted, or
+///   some gap: the text says which is the first, and why.
 /// - `RunRefused`: with `replay`, the first file spells a program, and the second has too many bytes, or something
 ///   stands against it as the text of a run of the program within the limits: the text says what stands first, and at
 ///   which byte.

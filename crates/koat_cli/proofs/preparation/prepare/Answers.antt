@@ -4,9 +4,11 @@ use Rattle.std.specs.Prelude.{string_bytes}
 use Rattle.koat_cli.specs.Calls.{Seen, call_of, seen_of}
 use Rattle.koat_cli.specs.OnFiles.{OnProgram}
 use Rattle.koat_cli.specs.OnTexts.{OnText, OnProgramFirst}
+use Rattle.koat_cli.specs.Checks.{IsCheckOf, IsProofOf}
+use Rattle.koat_cli.specs.ProofTexts.{proofs}
 use Rattle.koat_cli.specs.Outputs.{IsReportOf, IsReplayOf, IsFactsReportOf}
 use Rattle.koat_cli.specs.RunTexts.{runs}
-use Rattle.koat_cli.proofs.Preparing.{said_of, usage_of}
+use Rattle.koat_cli.proofs.Preparing.{said_of}
 use Rattle.koat_cli.proofs.preparation.prepare.Goals as goal
 
 pub returns-in-Some-Analyse-clause-says : goal.returns-in-Some-Analyse-clause-says
@@ -40,17 +42,22 @@ returns-in-Some-Facts-clause-says g c =
 pub returns-in-Some-Prove-clause-says : goal.returns-in-Some-Prove-clause-says
 returns-in-Some-Prove-clause-says g c =
     let w = c.in-Some-Prove in
-    said_of (call_of g.F.Shelf c.args.words.now c.args.shelf.now c.args.shelf.now) c.in_ok-pivots.field-0
-    (requests.Prove w.field-0-0 w.field-0-1) c.status_with_text.result (cc (w.is, w.field-0-is)) c.in_ok-pivots.ensures
-    (usage_of c.status_with_text.result c.status_with_text.ensures.status c.status_with_text.ensures.text)
+    said_of (call_of g.F.Shelf c.args.words.now c.args.shelf.now c.proof_of.new.shelf) c.in_ok-pivots.field-0
+    (requests.Prove w.pivots w.file) c.proof_of.result (cc (w.is, w.field-0-is)) c.in_ok-pivots.ensures
+    (subst (λ (file : List ℕ). IfOk c.proof_of.result (λ said. OnProgram (seen_of g.F.Shelf c.args.shelf.now c.proof_of.new.shelf) file
+    (λ program. IsProofOf program w.pivots) said.status said.text.items)) c.as_str-in-Some-Prove.ensures.value c.proof_of.ensures.says)
 
 pub returns-in-Some-Check-clause-says : goal.returns-in-Some-Check-clause-says
 returns-in-Some-Check-clause-says g c =
     let w = c.in-Some-Check in
-    let said = c.status_with_text-in-Some-Check in
-    said_of (call_of g.F.Shelf c.args.words.now c.args.shelf.now c.args.shelf.now) c.in_ok-pivots.field-0
-    (requests.Check w.field-0-0 w.field-0-1) said.result (cc (w.is, w.field-0-is)) c.in_ok-pivots.ensures
-    (usage_of said.result said.ensures.status said.ensures.text)
+    let seen : Seen = seen_of g.F.Shelf c.args.shelf.now c.check_of.new.shelf in
+    said_of (call_of g.F.Shelf c.args.words.now c.args.shelf.now c.check_of.new.shelf) c.in_ok-pivots.field-0
+    (requests.Check w.file w.proof) c.check_of.result (cc (w.is, w.field-0-is)) c.in_ok-pivots.ensures
+    (subst (λ (proof : List ℕ). IfOk c.check_of.result (λ said. OnProgramFirst seen (string_bytes w.file)
+    (λ program. OnText (proofs program) seen proof (IsCheckOf program)) said.status said.text.items)) c.as_str-in-Some-Check-2.ensures.value
+    (subst (λ (file : List ℕ). IfOk c.check_of.result (λ said. OnProgramFirst seen file
+    (λ program. OnText (proofs program) seen c.as_str-in-Some-Check-2.result.now (IsCheckOf program)) said.status said.text.items))
+    c.as_str-in-Some-Check.ensures.value c.check_of.ensures.says))
 
 pub returns-in-Some-Replay-clause-says : goal.returns-in-Some-Replay-clause-says
 returns-in-Some-Replay-clause-says g c =

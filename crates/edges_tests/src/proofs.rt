@@ -1,0 +1,342 @@
+//! Proof files that are made and checked, on shelves and sinks in memory: every answer whole, and what is fetched.
+
+use koat_cli::{Status, run};
+use outside_io::{Held, MemoryShelf, MemorySink};
+use std::alloc::{AllocError, Global};
+use std::test::Fail;
+
+// A program of one rule, and with a cost; one that counts down in a loop; and one whose second rule has no time.
+const ENTERING: &str = "(STARTTERM (FUNCTIONSYMBOLS l0))(RULES l0(A) -> Com_1(l1(A)))";
+
+const PRICED: &str = "(STARTTERM (FUNCTIONSYMBOLS l0))(RULES l0(A) -{A}> Com_1(l1(A)))";
+
+const COUNTING: &str =
+    "(STARTTERM (FUNCTIONSYMBOLS l0))(RULES l0(A) -> Com_1(l1(A)) l1(A) -> Com_1(l1(A-1)) :|: A >= 1)";
+
+const STAYING: &str =
+    "(STARTTERM (FUNCTIONSYMBOLS l0))(RULES l0(A) -> Com_1(l1(A)) l1(A) -> Com_1(l1(A)))";
+
+// Proof files of the first and the last program.
+const ENTERED: &str = "koat-proof 1
+lemma rank 1 set [1] den 1 forms [l0 [0 1]; l1 [0 0]] moves [[]] floor [] uses {start}
+lemma spread 1.1 up lin 1 [1 0] [] low lin 1 [-1 0] [] uses {start}
+end
+";
+
+const COUNTED: &str = "koat-proof 1
+lemma rank 1 set [1] den 1 forms [l0 [0 1]; l1 [0 0]] moves [[]] floor [] uses {start}
+lemma rank 2 set [1 2] den 1 forms [l0 [1 0]; l1 [1 0]] moves [[]; [0]] floor [1] uses {start}
+lemma spread 1.1 up lin 1 [1 0] [] low lin 1 [-1 0] [] uses {start}
+lemma cycle [2.1 up lin 1 [1 0] [0] low lin 1 [0 0] [1]] uses {cite 3}
+end
+";
+
+const WITHOUT_FLOOR: &str = "koat-proof 1
+lemma rank 1 set [1] den 1 forms [l0 [0 1]; l1 [0 0]] moves [[]] floor [] uses {start}
+lemma rank 2 set [1 2] den 1 forms [l0 [1 0]; l1 [1 0]] moves [[]; [0]] floor [0] uses {start}
+end
+";
+
+const WEAKER: &str = "koat-proof 1
+lemma rank 1 set [1] den 1 forms [l0 [0 1]; l1 [0 0]] moves [[]] floor [] uses {start}
+lemma weaken (rank 2 set [1 2] den 1 forms [l0 [1 0]; l1 [1 0]] moves [[]; [0]] floor [1] uses {start}) to A + 7
+end
+";
+
+const CHARGED: &str = "koat-proof 2
+lemma rank 1 set [1] den 1 forms [l0 [0 1]; l1 [0 0]] moves [[]] floor [] uses {start}
+lemma spread 1.1 up lin 1 [1 0] [] low lin 1 [-1 0] [] uses {start}
+lemma cost 1 lin 1 [1 0] [0] uses {start; cite 1}
+end
+";
+
+// Programs and proof files, with the status and the text of the answer.
+const CHECKS: &[(&str, &str, Status, &str)] = &[
+    (
+        ENTERING,
+        "koat-proof 1\nend\n",
+        Status::Done,
+        "accepted\n",
+    ),
+    (
+        ENTERING,
+        ENTERED,
+        Status::Done,
+        "accepted\ntime 1: 1\nsize 1.1: A\n",
+    ),
+    (
+        ENTERING,
+        "koat-proof 1\nlemma start\nend\n",
+        Status::Done,
+        "accepted\ntime 0: 1\nsize 0.1: A\n",
+    ),
+    (
+        COUNTING,
+        COUNTED,
+        Status::Done,
+        "accepted\ntime 1: 1\ntime 2: A\nsize 1.1: A\nsize 2.1: A\n",
+    ),
+    (
+        COUNTING,
+        WEAKER,
+        Status::Done,
+        "accepted\ntime 1: 1\ntime 2: A + 7\n",
+    ),
+    (
+        PRICED,
+        CHARGED,
+        Status::Done,
+        "accepted\ntime 1: 1\nsize 1.1: A\ncost 1: A\n",
+    ),
+    (
+        STAYING,
+        "koat-proof 1\ngap 2 set [2] shut [] moves [[1 1]] floor [0 0] kept [[1 1]]\nend\n",
+        Status::Done,
+        "accepted\ngap 2\n",
+    ),
+    (
+        STAYING,
+        "koat-proof 1\ngap 2 set [2] shut [] moves [[1 1]] floor [1 0] kept [[1 1]]\nend\n",
+        Status::No,
+        "no gap 1: balance l1.1\n",
+    ),
+    (
+        STAYING,
+        "koat-proof 1\ngap 2 set [2] shut [] moves [[0 0]] floor [0 0] kept [[1 1]]\nend\n",
+        Status::No,
+        "no gap 1: nothing\n",
+    ),
+    (
+        STAYING,
+        "koat-proof 1\ngap 2 set [2] shut [] moves [[1 1]] floor [0 0] kept [[1 0]]\nend\n",
+        Status::No,
+        "no gap 1: kept 2\n",
+    ),
+    (
+        STAYING,
+        "koat-proof 1\ngap 2 set [1] shut [] moves [[1 1]] floor [0 0] kept [[1 1]]\nend\n",
+        Status::No,
+        "no gap 1: shape\n",
+    ),
+    (
+        COUNTING,
+        WITHOUT_FLOOR,
+        Status::No,
+        "no lemma 2 node 2: floor\n",
+    ),
+    (
+        ENTERING,
+        "koat-proof 1\nlemma empty 1 [36028797018963968]\nend\n",
+        Status::No,
+        "no lemma 1 node 1: shape\n",
+    ),
+    (
+        ENTERING,
+        "koat-proof 1\nlemma empty 1 [36028797018963969]\nend\n",
+        Status::ProofRefused,
+        "proof refused at 28: NumberTooLarge\n",
+    ),
+    (
+        COUNTING,
+        "koat-proof 1\nlemma cite 1\nend\n",
+        Status::ProofRefused,
+        "proof refused at 24: BadReference\n",
+    ),
+    (
+        COUNTING,
+        "",
+        Status::ProofRefused,
+        "proof refused at 0: Syntax\n",
+    ),
+    (
+        "(VAR A)(VAR A)",
+        COUNTED,
+        Status::ProgramRefused,
+        "program refused at 7: RepeatedSection\n",
+    ),
+];
+
+// Programs, with the status and the text of their proof files.
+const PROOFS: &[(&str, Status, &str)] = &[
+    (ENTERING, Status::Done, ENTERED),
+    (
+        STAYING,
+        Status::Unknown,
+        "koat-proof 1
+lemma rank 1 set [1] den 1 forms [l0 [0 1]; l1 [0 0]] moves [[]] floor [] uses {start}
+lemma spread 1.1 up lin 1 [1 0] [] low lin 1 [-1 0] [] uses {start}
+lemma cycle [2.1 up lin 1 [1 0] [] low lin 1 [-1 0] []] uses {cite 2}
+gap 2 set [2] shut [] moves [[1 1]] floor [0 0] kept [[1 1]]
+end
+",
+    ),
+    (
+        "(VAR A)(VAR A)",
+        Status::ProgramRefused,
+        "program refused at 7: RepeatedSection\n",
+    ),
+];
+
+// A file of this name.
+fn file(alloc: Global, name: &str, text: &[u8]) -> Result<Held, AllocError> {
+    Ok(Held {
+        name: String::from_str(alloc, name)?,
+        bytes: Vec::from_slice(alloc, text)?,
+    })
+}
+
+// A shelf that holds a program and a proof, and fails at these calls.
+fn shelf_of(
+    alloc: Global,
+    program: &str,
+    proof: &[u8],
+    failing: Vec<u64>,
+) -> Result<MemoryShelf, AllocError> {
+    let mut files = Vec::new(alloc);
+    files.push(file(alloc, "p", program.as_bytes())?)?;
+    files.push(file(alloc, "q", proof)?)?;
+    Ok(MemoryShelf::new(files, failing))
+}
+
+fn words_of(alloc: Global, words: &[&str]) -> Result<Vec<String>, AllocError> {
+    let mut all = Vec::new(alloc);
+    for word in words {
+        all.push(String::from_str(alloc, word)?)?;
+    }
+    Ok(all)
+}
+
+// Whether a check is answered otherwise, or fetches more files or fewer: one where it gives no program, else two.
+fn is_other(
+    alloc: Global,
+    program: &str,
+    proof: &[u8],
+    status: Status,
+    text: &str,
+) -> Result<bool, AllocError> {
+    let mut shelf = shelf_of(alloc, program, proof, Vec::new(alloc))?;
+    let mut sink = MemorySink::new(alloc, 999, Vec::new(alloc))?;
+    let words = words_of(alloc, &["check", "p", "q"])?;
+    let calls = if status == Status::ProgramRefused {
+        1
+    } else {
+        2
+    };
+    Ok(
+        run(alloc, &words, &mut shelf, &mut sink) != status
+            || sink.bytes() != text.as_bytes()
+            || shelf.calls() != calls,
+    )
+}
+
+#[test]
+fn proofs_are_accepted_or_refused(rt: HostRuntime) -> Result<(), Fail> {
+    let alloc = rt.alloc();
+    let mut other = 0;
+    for (program, proof, status, text) in CHECKS {
+        if is_other(alloc, program, proof.as_bytes(), *status, text)? {
+            println!(rt; "not {text}")?;
+            other += u64::from(other < 1000);
+        }
+    }
+    assert_eq!(rt; other, 0);
+    Ok(())
+}
+
+// Whether the proof file of a program is another, or isn't accepted as one with these first bytes of its facts.
+fn is_other_proof(
+    alloc: Global,
+    program: &str,
+    status: Status,
+    text: &str,
+) -> Result<bool, AllocError> {
+    let mut shelf = shelf_of(alloc, program, b"", Vec::new(alloc))?;
+    let mut sink = MemorySink::new(alloc, 9_999, Vec::new(alloc))?;
+    let words = words_of(alloc, &["prove", "p"])?;
+    Ok(
+        run(alloc, &words, &mut shelf, &mut sink) != status
+            || sink.bytes() != text.as_bytes()
+            || shelf.calls() != 1,
+    )
+}
+
+#[test]
+fn proof_files_are_made(rt: HostRuntime) -> Result<(), Fail> {
+    let alloc = rt.alloc();
+    let mut other = 0;
+    for (program, status, text) in PROOFS {
+        if is_other_proof(alloc, program, *status, text)? {
+            println!(rt; "not {text}")?;
+            other += u64::from(other < 1000);
+        }
+    }
+    assert_eq!(rt; other, 0);
+    Ok(())
+}
+
+// The files that are asked for, the calls that fail, and how many files are fetched: where the first can't be had, the
+// second isn't fetched.
+const FAULTS: &[(&str, &str, &[u64], u64)] = &[
+    ("r", "q", &[], 1),
+    ("p", "r", &[], 2),
+    ("p", "q", &[1], 1),
+    ("p", "q", &[2], 2),
+];
+
+// Whether a check ends otherwise than with a fault of reading after so many fetches.
+fn is_no_fault(
+    alloc: Global,
+    first: &str,
+    second: &str,
+    failing: &[u64],
+    calls: u64,
+) -> Result<bool, AllocError> {
+    let proof = ENTERED.as_bytes();
+    let mut shelf = shelf_of(alloc, ENTERING, proof, failing.to_vec(alloc)?)?;
+    let mut sink = MemorySink::new(alloc, 999, Vec::new(alloc))?;
+    let words = words_of(alloc, &["check", first, second])?;
+    Ok(
+        run(alloc, &words, &mut shelf, &mut sink) != Status::ReadFault
+            || sink.bytes() != b"read fault\n".as_slice()
+            || shelf.calls() != calls,
+    )
+}
+
+#[test]
+fn either_file_of_a_check_may_be_missing(rt: HostRuntime) -> Result<(), Fail> {
+    let alloc = rt.alloc();
+    let mut other = 0;
+    for (first, second, failing, calls) in FAULTS {
+        if is_no_fault(alloc, first, second, failing, *calls)? {
+            println!(rt; "no fault of {first} and {second}")?;
+            other += u64::from(other < 1000);
+        }
+    }
+    assert_eq!(rt; other, 0);
+    Ok(())
+}
+
+// What `prove` writes of the generated program of thirteen rules is accepted.
+#[test]
+fn what_is_proved_is_accepted(rt: HostRuntime) -> Result<(), Fail> {
+    let alloc = rt.alloc();
+    let mut empty = MemoryShelf::new(Vec::new(alloc), Vec::new(alloc));
+    let mut written = MemorySink::new(alloc, 9_999, Vec::new(alloc))?;
+    let words = words_of(alloc, &["generate", "6"])?;
+    assert_eq!(rt; run(alloc, &words, &mut empty, &mut written), Status::Done);
+    let mut files = Vec::new(alloc);
+    files.push(file(alloc, "p", written.bytes())?)?;
+    let mut shelf = MemoryShelf::new(files, Vec::new(alloc));
+    let mut proof = MemorySink::new(alloc, 99_999, Vec::new(alloc))?;
+    let words = words_of(alloc, &["prove", "p"])?;
+    assert_eq!(rt; run(alloc, &words, &mut shelf, &mut proof), Status::Done);
+    let mut files = Vec::new(alloc);
+    files.push(file(alloc, "p", written.bytes())?)?;
+    files.push(file(alloc, "q", proof.bytes())?)?;
+    let mut both = MemoryShelf::new(files, Vec::new(alloc));
+    let mut facts = MemorySink::new(alloc, 9_999, Vec::new(alloc))?;
+    let words = words_of(alloc, &["check", "p", "q"])?;
+    assert_eq!(rt; run(alloc, &words, &mut both, &mut facts), Status::Done);
+    assert!(rt; facts.bytes().starts_with(b"accepted\ntime 1: 1\n"));
+    Ok(())
+}

@@ -1,0 +1,80 @@
+-- The bytes of a proof's text are those of one proof file within the limits, and have no first fault; other bytes have
+-- one first fault at most; and a proof file is accepted, or is refused at one place.
+use Rattle.std.proofs.Common.{◌≡◌, ℕ, List, length, ap, sym, ◌∙◌, subst}
+use Rattle.model.specs.Facts.{Fact}
+use Rattle.model.specs.Programs.{Program}
+use Rattle.text_grammar.specs.text_core.Readers.{Fault}
+use Rattle.text_grammar.specs.text_core.Faults.{IsFirst}
+use Rattle.text_grammar.specs.Texts.{reader}
+use Rattle.text_grammar.proofs.text_core.FirstFaults.{one_first_each}
+use Rattle.text_grammar.proofs.ReaderLaws.{reader_laws}
+use Rattle.proof_tree.specs.proof_nodes.GapChecks.{GapFault}
+use Rattle.proof_tree.specs.proof_nodes.Gaps.{ProofFile}
+use Rattle.proof_tree.specs.proof_nodes.Reasons.{Reason}
+use Rattle.proof_tree.specs.proof_setting.RankedSets.{forms_at}
+use Rattle.proof_tree.specs.proof_setting.Setting.{setting_of}
+use Rattle.proof_tree.proofs.proof_nodes.FilesInLine.{file-refusals-in-line}
+use Rattle.proof_tree.proofs.proof_nodes.Refusals.{refusals-in-line}
+use Rattle.proof_text.specs.Reading.{proofs_of}
+use Rattle.proof_text.specs.proof_pieces.declared.kind.ProofKind.{ProofKind}
+use Rattle.proof_text.specs.proof_pieces.Lexing.{tokens}
+use Rattle.proof_text.proofs.Lawful.{lawful}
+use Rattle.check_text.specs.Texts.{accepted_text, no_lemma_text, no_gap_text, proof_refusal_text}
+use Rattle.check_text.specs.Verdicts.{IsAcceptance, IsRefusal, AtNode, AtGap}
+use Rattle.koat_cli.specs.declared.status.Status.{Status}
+use Rattle.koat_cli.specs.Checks.{IsCheckOf, Accepts, Refuses}
+use Rattle.koat_cli.specs.ProofTexts.{proofs, IsProofText}
+use Rattle.koat_cli.proofs.TextExclusions.{IsDecided}
+
+-- other bytes than those of a proof's text have one first fault at most
+one_proof_fault : (p : Program) (bytes : List ℕ) (x y : Fault ProofKind)
+    → IsFirst (reader (proofs_of p)) (length bytes) (tokens p bytes) x
+    → IsFirst (reader (proofs_of p)) (length bytes) (tokens p bytes) y → x ≡ y
+one_proof_fault p bytes x y =
+    (one_first_each (reader (proofs_of p)) (reader_laws (proofs_of p) (lawful p))).each (length bytes) (tokens p bytes) x y
+
+-- texts of proof files are decided
+pub proof_texts_decided : (p : Program) → IsDecided (proofs p)
+proof_texts_decided p = record {
+  one = λ bytes a b h k. k.only a h.written;
+  one_refusal = λ bytes x y a b.
+      a.told ∙ (ap (λ (f : Fault ProofKind). proof_refusal_text f) (one_proof_fault p bytes a.fault b.fault a.first b.first) ∙ sym b.told);
+  apart = λ bytes f x stands refused. stands.faultless refused.fault refused.first.is;
+}
+
+-- a proof file that is accepted isn't refused
+pub not_both : (p : Program) (f : ProofFile) (x y : List ℕ) → IsAcceptance p f x → IsRefusal p f y → ⊥
+not_both p f x y a (AtNode b) =
+    ((refusals-in-line.none (setting_of p) f.lemmas).0 a.accepted.accepted.lemmas).none b.lemma b.node b.reason b.refused
+not_both p f x y a (AtGap b) =
+    ((file-refusals-in-line.none (setting_of p) (forms_at p) f).0 a.accepted.accepted).1.none b.gap b.fault b.refused
+
+-- it is refused at one place, and with one text
+one_refusal : (p : Program) (f : ProofFile) (x y : List ℕ) → IsRefusal p f x → IsRefusal p f y → x ≡ y
+one_refusal p f x y (AtNode a) (AtNode b) =
+    let one = refusals-in-line.one (setting_of p) f.lemmas a.lemma b.lemma a.node b.node a.reason b.reason a.refused b.refused in
+    a.told
+    ∙ (ap (λ (n : ℕ). no_lemma_text n a.node a.reason) one.0
+    ∙ (ap (λ (n : ℕ). no_lemma_text b.lemma n a.reason) one.1
+    ∙ (ap (λ (r : Reason). no_lemma_text b.lemma b.node r) one.2 ∙ sym b.told)))
+one_refusal p f x y (AtNode a) (AtGap b) =
+    absurd (file-refusals-in-line.not_both (setting_of p) (forms_at p) f a.lemma a.node b.gap a.reason b.fault a.refused b.refused)
+one_refusal p f x y (AtGap a) (AtNode b) =
+    absurd (file-refusals-in-line.not_both (setting_of p) (forms_at p) f b.lemma b.node a.gap b.reason a.fault b.refused a.refused)
+one_refusal p f x y (AtGap a) (AtGap b) =
+    let one = file-refusals-in-line.one (setting_of p) (forms_at p) f a.gap b.gap a.fault b.fault a.refused b.refused in
+    a.told ∙ (ap (λ (n : ℕ). no_gap_text p n a.fault) one.0 ∙ (ap (λ (r : GapFault). no_gap_text p b.gap r) one.1 ∙ sym b.told))
+
+-- and it is accepted with one text
+one_acceptance : (p : Program) (f : ProofFile) (x y : List ℕ) → IsAcceptance p f x → IsAcceptance p f y → x ≡ y
+one_acceptance p f x y a b =
+    let same : a.facts ≡ b.facts = a.accepted.told ∙ sym b.accepted.told in
+    a.told ∙ (ap (λ (facts : List Fact). accepted_text p facts f.gaps) same ∙ sym b.told)
+
+-- a proof file has one check
+pub one_check : (p : Program) (f : ProofFile) (s t : Status) (x y : List ℕ) → IsCheckOf p f s x → IsCheckOf p f t y
+    → (s ≡ t) × (x ≡ y)
+one_check p f s t x y (Accepts a) (Accepts b) = (a.ends ∙ sym b.ends, one_acceptance p f x y a.accepted b.accepted)
+one_check p f s t x y (Accepts a) (Refuses b) = absurd (not_both p f x y a.accepted b.refused)
+one_check p f s t x y (Refuses a) (Accepts b) = absurd (not_both p f y x b.accepted a.refused)
+one_check p f s t x y (Refuses a) (Refuses b) = (a.ends ∙ sym b.ends, one_refusal p f x y a.refused b.refused)

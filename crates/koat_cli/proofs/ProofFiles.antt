@@ -1,0 +1,33 @@
+-- What is printed of what an analysis found is the text of its proof file.
+use Rattle.std.proofs.Common.{◌≡◌, ℕ, List, sym}
+use Rattle.its_model.specs.Valid.{IsValid}
+use Rattle.model.specs.Programs.{Program}
+use Rattle.outcome.specs.Holding.{ReportHolds}
+use Rattle.outcome.specs.Views.{report_of}
+use Rattle.outcome.specs.declared.outcome_of.Outcome.{Outcome}
+use Rattle.proof_text.specs.Texts.{text_of}
+use Rattle.proved_files.specs.ProvedFiles.{IsOutcomeOf, file_of_outcome}
+use Rattle.proved_files.proofs.ProvedFiles.{proved-accepted}
+use Rattle.time_bounds.specs.Analysis.{IsAnalysis}
+use Rattle.time_bounds.specs.AnalysisLemmas.{HasLemmas}
+use Rattle.time_bounds.specs.Whys.{ReasonsAreTrue}
+use Rattle.koat_cli.specs.declared.status.Status.{Status}
+use Rattle.koat_cli.specs.Checks.{IsProofOf}
+use Rattle.koat_cli.specs.Outputs.{status_of}
+
+-- the text of the proof file of what was found is what is answered
+pub proof_said : (p : Program) (pivots : ℕ) (o : Outcome) (s : Status) (x : List ℕ) → IsValid p
+    → IsAnalysis p pivots (report_of o) → ReportHolds p (report_of o) → ReasonsAreTrue p pivots (report_of o)
+    → HasLemmas p pivots o → s ≡ status_of (report_of o) → x ≡ text_of p (file_of_outcome o) → IsProofOf p pivots s x
+proof_said p pivots o s x valid found holds reasons lemmas ends told =
+    let is : IsOutcomeOf p pivots o = record { found = found; lemmas = lemmas } in
+    record {
+      outcome = o;
+      proved = record {
+        found = record { found = found; true_on_all_runs = holds; reasons = reasons };
+        lemmas = lemmas;
+        accepted = proved-accepted.accepted p pivots o valid is;
+        told = record { text = sym told; within = proved-accepted.within p pivots o valid is };
+      };
+      ends = ends;
+    }

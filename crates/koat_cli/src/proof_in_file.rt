@@ -1,0 +1,77 @@
+//! The file of a proof: the proof file whose text it has, or what is answered where the file gives none.
+
+ghost use Rattle.std.specs.Prelude.{◌≡◌, ◌≤◌, ◌<◌, IfOk};
+ghost use Rattle.asks.specs.Lines.{Word};
+ghost use Rattle.its_model.specs.Valid.{IsValid};
+ghost use Rattle.its_model.specs.Views.{program_of};
+ghost use Rattle.koat_cli.specs.Calls.{Seen, seen_of};
+ghost use Rattle.koat_cli.specs.OnFiles.{Fetches};
+ghost use Rattle.koat_cli.specs.ProofTexts.{proof_limit};
+ghost use Rattle.koat_cli.specs.ProofSteps.{IsProofFileOf, IsFaultOfProofFile};
+
+use crate::status::Status;
+use crate::status_text::{StatusText, status_with_text};
+use check_text::refusal_text;
+use its_model::Program;
+use model::Memory;
+use outside_io::{FetchError, Shelf};
+use proof_text::read;
+use proof_tree::ProofFile;
+use std::alloc::{AllocError, Global};
+
+/// How many bytes a proof's text may have.
+const PROOF_LIMIT: u64 = 67_108_864;
+
+/// What the file of a proof is.
+#[derive(Drop)]
+pub(crate) enum ProofInFile {
+    /// The proof file whose text it has.
+    Proof(ProofFile),
+    /// What is answered, where it has none.
+    Answer(StatusText),
+}
+
+/// Fetches the file of a proof for a program and reads it. The shelf keeps what it holds.
+pub(crate) fn proof_in<F: Shelf>(
+    alloc: Global,
+    program: &Program,
+    file: &str,
+    shelf: &mut F,
+) -> Result<ProofInFile, Memory>
+    requires { IsValid (program_of program.now) }
+    ensures keeps_files { F.held shelf.new ≡ F.held shelf.old }
+    ensures keeps_count { F.faults shelf.old ≤ F.faults shelf.new }
+    ensures fault { IfOk result (λ r. F.faults shelf.old < F.faults shelf.new → IsFaultOfProofFile r) }
+    ensures file { IfOk result
+        (IsProofFileOf (program_of program.now) (seen_of F.Shelf shelf.old shelf.new) file.now) }
+{
+    match shelf.fetch(alloc, file, PROOF_LIMIT) {
+        Ok(bytes) => proof_file(alloc, program, &bytes),
+        Err(FetchError::Failed) => Ok(ProofInFile::Answer(status_with_text(
+            alloc,
+            Status::ReadFault,
+            b"read fault\n",
+        )?)),
+        Err(FetchError::TooLong) => Ok(ProofInFile::Answer(status_with_text(
+            alloc,
+            Status::ProofRefused,
+            b"proof refused: too long\n",
+        )?)),
+        Err(FetchError::Memory) => Err(AllocError),
+    }
+}
+
+// What a file of these bytes is.
+fn proof_file(alloc: Global, program: &Program, bytes: &[u8]) -> Result<ProofInFile, Memory>
+    requires { IsValid (program_of program.now) }
+    ensures { IfOk result (λ r. (seen : Seen) (file : Word) → Fetches seen file proof_limit bytes.now
+        → IsProofFileOf (program_of program.now) seen file r) }
+{
+    match read(alloc, program, bytes) {
+        Ok(proof) => Ok(ProofInFile::Proof(proof)),
+        Err(error) => Ok(ProofInFile::Answer(StatusText {
+            status: Status::ProofRefused,
+            text: refusal_text(alloc, &error)?,
+        })),
+    }
+}

@@ -1,0 +1,2 @@
+-- the proof file of an analysis
+pub mod ProvedFiles
