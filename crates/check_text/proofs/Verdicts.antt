@@ -1,21 +1,17 @@
--- What the checker answers is a verdict with its text.
+-- The facts of a file that is accepted can be printed.
 use Rattle.std.proofs.Common.{◌≡◌, ℕ, List, [], ◌∷◌, length, map, All, subst, sym}
 use Rattle.std.proofs.lemmas.List.Elements.{All-nil, All-cons, All-head, All-tail, All-weaker}
 use Rattle.its_model.specs.Valid.{IsValid}
 use Rattle.model.specs.Facts as plain
 use Rattle.model.specs.Programs.{Program}
-use Rattle.proof_tree.specs.AnswerViews.{reason_of, fault_of}
 use Rattle.proof_tree.specs.Views.{fact_of, facts_of}
 use Rattle.proof_tree.specs.declared.fact.Fact.{Fact}
 use Rattle.proof_tree.specs.proof_nodes.Gaps.{ProofFile}
 use Rattle.proof_tree.specs.proof_nodes.Printable.{HasTidyFactNumbers}
 use Rattle.proof_tree.proofs.proof_setting.Tidying.{facts-printable}
 use Rattle.proof_facts.proofs.JoinedFacts.{all-joined}
-use Rattle.proof_check.specs.declared.error.CheckError.{CheckError}
-use Rattle.proof_check.specs.declared.error.CheckError.TheVariants as error
-use Rattle.proof_check.specs.Files.{IsAcceptedWith, RefusesFile}
-use Rattle.check_text.specs.Told.{IsListedFact, TellsError}
-use Rattle.check_text.specs.Verdicts.{IsRefusal, AtNode, AtGap}
+use Rattle.proof_check.specs.Files.{IsAcceptedWith}
+use Rattle.check_text.specs.Told.{IsListedFact}
 
 -- what holds of all facts as plain data holds of all facts
 each-fact : (P : plain.Fact → Type 0) (fs : List Fact) → All P (facts_of fs) → All (λ f. P (fact_of f)) fs
@@ -32,17 +28,3 @@ facts-listed p f fs valid h =
     (All-weaker (HasTidyFactNumbers (length p.start_names)) (IsListedFact (length p.start_names)) (λ g k. k.1) (facts_of fs)
     (subst (All (HasTidyFactNumbers (length p.start_names))) (sym h.told)
     (all-joined (HasTidyFactNumbers (length p.start_names)) _ (facts-printable.numbers p valid f.lemmas h.accepted.lemmas))))
-
--- what refuses a file, and the text that tells it, is a refusal of the file
-pub refusal-told : (p : Program) (f : ProofFile) (e : CheckError) (text : List ℕ) → RefusesFile p f e
-    → TellsError p e text → IsRefusal p f text
-refusal-told p f (error.No lemma node reason) text h told = AtNode (record {
-  lemma = lemma;
-  node = node;
-  reason = reason_of reason;
-  refused = h;
-  told = told;
-})
-refusal-told p f (error.NoGap gap fault) text h told =
-    AtGap (record { gap = gap; fault = fault_of fault; refused = h; told = told })
-refusal-told p f error.Memory text h told = absurd told

@@ -1,13 +1,27 @@
 -- The texts that were worked out by hand are these.
-use Rattle.std.proofs.Common.{refl}
+use Rattle.std.proofs.Common.{◌≡◌, ◌≢◌, ℕ, List, [], ◌∷◌, get_or, refl, ap, arith, codes}
 use Rattle.std.specs.Fmt.{digits}
-use Rattle.check_text.specs.Texts.{accepted_text}
+use Rattle.model.specs.Bounds.{Constant}
+use Rattle.model.specs.Facts.{Time}
+use Rattle.proof_tree.specs.proof_nodes.Reasons.{Shape}
+use Rattle.check_text.specs.Texts.{accepted_text, fact_lines, no_lemma_text}
 use Rattle.check_text.specs.WorkedTexts.{FactsAreWorkedOut, ReasonsAreWorkedOut, FaultsAreWorkedOut, AnswersAreWorkedOut}
+
+-- the first rule that is told is another one
+other_order : fact_lines (codes "A" ∷ []) (Time 1 (Constant 1) ∷ Time 2 (Constant 2) ∷ [])
+    ≢ fact_lines (codes "A" ∷ []) (Time 2 (Constant 2) ∷ Time 1 (Constant 1) ∷ [])
+unfolding digits
+other_order e = let digit : 49 ≡ 50 = ap (λ (w : List ℕ). get_or w 5 0) e in omega (arith, digit)
+
+-- and so is the first number of a node
+other_node : no_lemma_text 1 20 Shape ≢ no_lemma_text 20 1 Shape
+unfolding digits
+other_node e = let digit : 49 ≡ 50 = ap (λ (w : List ℕ). get_or w 9 0) e in omega (arith, digit)
 
 -- the text of facts and gaps
 facts_are : FactsAreWorkedOut
 unfolding accepted_text digits
-facts_are = record { each = refl; none = refl; order = λ e. let no_way : ⊥ = cc in no_way }
+facts_are = record { each = refl; none = refl; order = other_order }
 
 -- reasons
 reasons_are : ReasonsAreWorkedOut
@@ -28,7 +42,7 @@ reasons_are = record {
   large = refl;
   weaker = refl;
   node = refl;
-  which = λ e. let no_way : ⊥ = cc in no_way;
+  which = other_node;
 }
 
 -- faults

@@ -19,6 +19,7 @@ use proof_tree::{Fact, Gap};
 use std::alloc::Global;
 
 /// The text of these facts and gaps.
+#[tactic(auto, unfolding(crate::specs::Texts::accepted_text))]
 pub(crate) fn accepted(
     alloc: Global,
     p: &Program,

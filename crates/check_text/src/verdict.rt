@@ -30,7 +30,7 @@ pub enum Verdict {
 ///
 /// `Memory` where an allocation fails, and where the file has 2^32 lemmas, gaps, or nodes in a lemma, or more: no
 /// machine holds so many.
-pub fn verdict(alloc: Global, p: &Program, f: &ProofFile) -> Result<Verdict, Memory>
+pub fn verdict_on(alloc: Global, p: &Program, f: &ProofFile) -> Result<Verdict, Memory>
     requires { IsValid (program_of p.now) }
     ensures { IfOk result (IsVerdict (program_of p.now) (file_of f.now)) }
 {

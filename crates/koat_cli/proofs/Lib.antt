@@ -7,6 +7,9 @@ pub mod ProofRefusals
 pub mod ProofFiles
 pub mod WithinBounds
 pub mod OneRequest
+pub mod WrittenSeconds
+pub mod WrittenReports
+pub mod EndsMean
 pub mod Endings
 pub mod Preparing
 pub mod GivenFiles

@@ -1,7 +1,6 @@
 -- A call answers its one request, and what that says of its status.
-use Rattle.std.proofs.Common.{◌≡◌, ◌≢◌, ℕ, Bool, true, false, if◌then◌else◌, List, IsTrue, IsFalse, refl, sym, ◌∙◌, inl, inr}
+use Rattle.std.proofs.Common.{◌≡◌, ◌≢◌, ℕ, Bool, true, false, List, IsTrue, IsFalse, refl, inl, inr}
 use Rattle.std.proofs.Common.{subst}
-use Rattle.std.specs.Prelude.{⊤}
 use Rattle.std.specs.List.{list_all}
 use Rattle.std.specs.Io.KnownBytes.{Appends}
 use Rattle.outside_io.specs.Fetching.{MayFail}
@@ -10,26 +9,18 @@ use Rattle.asks.specs.Requests.{Request, Analyse, Prove, Check, Replay, Generate
 use Rattle.asks.proofs.OneWay.{read_in_one_way}
 use Rattle.outcome.specs.Reports.{Report, is_timed}
 use Rattle.outcome.specs.Views.{report_of}
-use Rattle.run_replay.specs.ReplayAnswers.{last_first}
-use Rattle.run_replay.specs.ReplayLaws.{ReplaysAreDecided}
 use Rattle.koat_cli.specs.declared.status.Status.{Status}
-use Rattle.koat_cli.specs.declared.status.Status.TheVariants.{Done, Unknown, Usage, ReadFault, WriteFault, Memory}
-use Rattle.koat_cli.specs.declared.status.Status.TheVariants.{ProgramRefused, ProofRefused, No, RunRefused, NotARun}
+use Rattle.koat_cli.specs.declared.status.Status.TheVariants.{Done, Unknown, Usage, ReadFault}
+use Rattle.koat_cli.specs.declared.status.Status.TheVariants.{ProgramRefused}
 use Rattle.koat_cli.specs.Calls.{Seen, Call, Put}
 use Rattle.koat_cli.specs.Report.{usage_text}
-use Rattle.koat_cli.specs.Checks.{IsProofOf}
-use Rattle.koat_cli.specs.Outputs.{IsReportOf, IsFactsReportOf, status_of}
-use Rattle.koat_cli.specs.OnFiles.{IsNoProgram, IsOfProgram, OnProgram, Unread, TooLong, Refused, Without, Of}
+use Rattle.koat_cli.specs.Outputs.{status_of}
+use Rattle.koat_cli.specs.OnFiles.{IsNoProgram, Unread, TooLong, Refused, Without, Of}
 use Rattle.koat_cli.specs.Answers.{AsksForNothing, Answers, Says, ToNothing, ToRequest}
-use Rattle.koat_cli.specs.Ends.{Ends, WroteReport, WroteFacts, WroteRefusal, IsFirstFile, MayMiss, WroteTally}
-use Rattle.koat_cli.specs.Ends.{WroteBadStep, WroteRunRefusal, TellsOfTimes, Means}
-use Rattle.koat_cli.specs.ProofEnds.{WroteProof, WroteAcceptance, WroteNo, WroteProofRefusal}
-use Rattle.outcome.specs.declared.outcome_of.Outcome.{Outcome}
+use Rattle.koat_cli.specs.Ends.{WroteRefusal, IsFirstFile, MayMiss}
+use Rattle.koat_cli.specs.Ends.{TellsOfTimes}
 use Rattle.koat_cli.proofs.ReplayStatuses.{Tells, replay_tells}
 use Rattle.koat_cli.proofs.CheckStatuses.{Tells as CheckTells, check_tells}
-use Rattle.koat_cli.proofs.Sayings.{of_no_replay, of_no_check}
-use Rattle.its_reader.proofs.its_text.ValidPrograms.{spelled_valid}
-use Rattle.koat_cli.proofs.WithinBounds.{tally_within}
 
 -- what a call answers is answered of the request that its words ask for
 pub answer_of : (call : Call) (r : Request) (s : Status) (x : List ℕ) → Asks call.words r → Says call s x
@@ -39,17 +30,17 @@ answer_of call r s x asked (ToRequest q q_asked h) =
     subst (λ (p : Request). Answers call.shelf p s x) (read_in_one_way.one_request call.words q r q_asked asked) h
 
 -- a file that gives no program is answered neither as a report is nor with the usage text
-no_done : (seen : Seen) (file : Word) (x : List ℕ) → ¬ (IsNoProgram seen file Done x)
+pub no_done : (seen : Seen) (file : Word) (x : List ℕ) → ¬ (IsNoProgram seen file Done x)
 no_done seen file x (Unread h) = let e : Done ≡ ReadFault = h.ends in cc
 no_done seen file x (TooLong h) = let e : Done ≡ ProgramRefused = h.ends in cc
 no_done seen file x (Refused h) = let e : Done ≡ ProgramRefused = h.ends in cc
 
-no_unknown : (seen : Seen) (file : Word) (x : List ℕ) → ¬ (IsNoProgram seen file Unknown x)
+pub no_unknown : (seen : Seen) (file : Word) (x : List ℕ) → ¬ (IsNoProgram seen file Unknown x)
 no_unknown seen file x (Unread h) = let e : Unknown ≡ ReadFault = h.ends in cc
 no_unknown seen file x (TooLong h) = let e : Unknown ≡ ProgramRefused = h.ends in cc
 no_unknown seen file x (Refused h) = let e : Unknown ≡ ProgramRefused = h.ends in cc
 
-no_usage : (seen : Seen) (file : Word) (x : List ℕ) → ¬ (IsNoProgram seen file Usage x)
+pub no_usage : (seen : Seen) (file : Word) (x : List ℕ) → ¬ (IsNoProgram seen file Usage x)
 no_usage seen file x (Unread h) = let e : Usage ≡ ReadFault = h.ends in cc
 no_usage seen file x (TooLong h) = let e : Usage ≡ ProgramRefused = h.ends in cc
 no_usage seen file x (Refused h) = let e : Usage ≡ ProgramRefused = h.ends in cc
@@ -84,7 +75,7 @@ never_read_fault r e = go (list_all is_timed r.times) e
     go true h = let no_way : ⊥ = cc in no_way
     go false h = let no_way : ⊥ = cc in no_way
 
-never_refused : (r : Report) → ProgramRefused ≢ status_of r
+pub never_refused : (r : Report) → ProgramRefused ≢ status_of r
 never_refused r e = go (list_all is_timed r.times) e
   where
     go : (v : Bool) → ProgramRefused ≢ (if v then Done else Unknown)
@@ -123,7 +114,7 @@ unknown_asks seen (Generate n) x h = let e : Unknown ≡ Done = h.ends in let no
 unknown_asks seen (Selfrun n) x h = tt
 unknown_asks seen (Facts n f) x h = tt
 
-unknown_said : (call : Call) (x : List ℕ) → Says call Unknown x → (r : Request) × Asks call.words r × TellsOfTimes r
+pub unknown_said : (call : Call) (x : List ℕ) → Says call Unknown x → (r : Request) × Asks call.words r × TellsOfTimes r
 unknown_said call x (ToNothing none h) = absurd (let e : Unknown ≡ Usage = h.ends in let no_way : ⊥ = cc in no_way)
 unknown_said call x (ToRequest r asked h) = (r, asked, unknown_asks call.shelf r x h)
 
@@ -211,374 +202,7 @@ refused_of call put (Facts n f) x asked (Without (Refused h)) a =
     (Facts n f, (f, asked, refl, record { text = x; refused = inr h; appended = a }))
 refused_of call put (Facts n f) x asked (Of h) a = absurd (never_refused h.said.report h.said.ends)
 
-refused_said : (call : Call) (put : Put) (x : List ℕ) → Says call ProgramRefused x → Appends put.written_before put.written_after x
+pub refused_said : (call : Call) (put : Put) (x : List ℕ) → Says call ProgramRefused x → Appends put.written_before put.written_after x
     → (request : Request) × ((file : Word) × Asks call.words request × IsFirstFile request file × WroteRefusal call put file)
 refused_said call put x (ToNothing none h) a = absurd (let e : ProgramRefused ≡ Usage = h.ends in let no_way : ⊥ = cc in no_way)
 refused_said call put x (ToRequest r asked h) a = refused_of call put r x asked h a
-
--- the statuses of a run's file that is refused, and of a run with a bad step, are those of replays alone
-abbrev IsNotOfRuns : Status → Type 0
-IsNotOfRuns Done = ⊤
-IsNotOfRuns Unknown = ⊤
-IsNotOfRuns Usage = ⊤
-IsNotOfRuns ReadFault = ⊤
-IsNotOfRuns WriteFault = ⊤
-IsNotOfRuns Memory = ⊤
-IsNotOfRuns ProgramRefused = ⊤
-IsNotOfRuns ProofRefused = ⊤
-IsNotOfRuns No = ⊤
-IsNotOfRuns RunRefused = ⊥
-IsNotOfRuns NotARun = ⊥
-
-no_run : (seen : Seen) (r : Request) (s : Status) (x : List ℕ) → ((f q : Word) → r ≢ Replay f q) → Answers seen r s x
-    → IsNotOfRuns s
-no_run = of_no_replay IsNotOfRuns tt tt tt tt tt tt tt
-
--- so what they say is said of a replay
-runs_of : (call : Call) (r : Request) (s : Status) (x : List ℕ) → (IsNotOfRuns s → ⊥) → Asks call.words r
-    → Answers call.shelf r s x → (f : Word) × ((q : Word) × Asks call.words (Replay f q) × Tells call.shelf f q s x)
-runs_of call (Analyse n f) s x run asked h = absurd (run (no_run call.shelf (Analyse n f) s x (λ g q e. cc) h))
-runs_of call (Prove n f) s x run asked h = absurd (run (no_run call.shelf (Prove n f) s x (λ g q e. cc) h))
-runs_of call (Check f p) s x run asked h = absurd (run (no_run call.shelf (Check f p) s x (λ g q e. cc) h))
-runs_of call (Replay f q) s x run asked h = (f, (q, asked, replay_tells call.shelf f q s x h))
-runs_of call (Generate n) s x run asked h = absurd (run (no_run call.shelf (Generate n) s x (λ g q e. cc) h))
-runs_of call (Selfrun n) s x run asked h = absurd (run (no_run call.shelf (Selfrun n) s x (λ g q e. cc) h))
-runs_of call (Facts n f) s x run asked h = absurd (run (no_run call.shelf (Facts n f) s x (λ g q e. cc) h))
-
-runs_said : (call : Call) (s : Status) (x : List ℕ) → (s ≡ Usage → ⊥) → (IsNotOfRuns s → ⊥) → Says call s x
-    → (f : Word) × ((q : Word) × Asks call.words (Replay f q) × Tells call.shelf f q s x)
-runs_said call s x other run (ToNothing none h) = absurd (other h.ends)
-runs_said call s x other run (ToRequest r asked h) = runs_of call r s x run asked h
-
--- a refusal of a run's file was written, and so was a bad step
-run_refused_wrote : (call : Call) (put : Put) (x : List ℕ) → Says call RunRefused x → Appends put.written_before put.written_after x
-    → (f : Word) × ((q : Word) × Asks call.words (Replay f q) × WroteRunRefusal call put f q)
-run_refused_wrote call put x said a =
-    let told = runs_said call RunRefused x (λ e. let no_way : ⊥ = cc in no_way) (λ h. h) said in
-    let parts : Tells call.shelf told.0 told.1.0 RunRefused x = told.1.2 in (
-      told.0,
-      (
-        told.1.0,
-        told.1.1,
-        record {
-          program = parts.0;
-          program_given = parts.1;
-          text = x;
-          refused = parts.2;
-          appended = a;
-        },
-      ),
-    )
-
-bad_step_wrote : (call : Call) (put : Put) (x : List ℕ) → Says call NotARun x → Appends put.written_before put.written_after x
-    → (f : Word) × ((q : Word) × Asks call.words (Replay f q) × WroteBadStep call put f q)
-bad_step_wrote call put x said a =
-    let told = runs_said call NotARun x (λ e. let no_way : ⊥ = cc in no_way) (λ h. h) said in
-    let parts : Tells call.shelf told.0 told.1.0 NotARun x = told.1.2 in (
-      told.0,
-      (
-        told.1.0,
-        told.1.1,
-        record {
-          program = parts.0;
-          run = parts.1.0;
-          given = parts.1.1;
-          text = x;
-          told = parts.1.2;
-          appended = a;
-        },
-      ),
-    )
-
--- the statuses of a proof's file that is refused, and of a proof that isn't accepted, are those of checks alone
-abbrev IsNotOfChecks : Status → Type 0
-IsNotOfChecks Done = ⊤
-IsNotOfChecks Unknown = ⊤
-IsNotOfChecks Usage = ⊤
-IsNotOfChecks ReadFault = ⊤
-IsNotOfChecks WriteFault = ⊤
-IsNotOfChecks Memory = ⊤
-IsNotOfChecks ProgramRefused = ⊤
-IsNotOfChecks ProofRefused = ⊥
-IsNotOfChecks No = ⊥
-IsNotOfChecks RunRefused = ⊤
-IsNotOfChecks NotARun = ⊤
-
-not_checked : (seen : Seen) (r : Request) (s : Status) (x : List ℕ) → ((f q : Word) → r ≢ Check f q) → Answers seen r s x
-    → IsNotOfChecks s
-not_checked = of_no_check IsNotOfChecks tt tt tt tt tt tt tt
-
--- so what they say is said of a check
-checks_of : (call : Call) (r : Request) (s : Status) (x : List ℕ) → (IsNotOfChecks s → ⊥) → Asks call.words r
-    → Answers call.shelf r s x → (f : Word) × ((q : Word) × Asks call.words (Check f q) × CheckTells call.shelf f q s x)
-checks_of call (Analyse n f) s x check asked h = absurd (check (not_checked call.shelf (Analyse n f) s x (λ g q e. cc) h))
-checks_of call (Prove n f) s x check asked h = absurd (check (not_checked call.shelf (Prove n f) s x (λ g q e. cc) h))
-checks_of call (Check f q) s x check asked h = (f, (q, asked, check_tells call.shelf f q s x h))
-checks_of call (Replay f q) s x check asked h = absurd (check (not_checked call.shelf (Replay f q) s x (λ g p e. cc) h))
-checks_of call (Generate n) s x check asked h = absurd (check (not_checked call.shelf (Generate n) s x (λ g q e. cc) h))
-checks_of call (Selfrun n) s x check asked h = absurd (check (not_checked call.shelf (Selfrun n) s x (λ g q e. cc) h))
-checks_of call (Facts n f) s x check asked h = absurd (check (not_checked call.shelf (Facts n f) s x (λ g q e. cc) h))
-
-checks_said : (call : Call) (s : Status) (x : List ℕ) → (s ≡ Usage → ⊥) → (IsNotOfChecks s → ⊥) → Says call s x
-    → (f : Word) × ((q : Word) × Asks call.words (Check f q) × CheckTells call.shelf f q s x)
-checks_said call s x other check (ToNothing none h) = absurd (other h.ends)
-checks_said call s x other check (ToRequest r asked h) = checks_of call r s x check asked h
-
--- a refusal of a proof's file was written, and so was what isn't accepted
-proof_refused_wrote : (call : Call) (put : Put) (x : List ℕ) → Says call ProofRefused x
-    → Appends put.written_before put.written_after x
-    → (f : Word) × ((q : Word) × Asks call.words (Check f q) × WroteProofRefusal call put f q)
-proof_refused_wrote call put x said a =
-    let told = checks_said call ProofRefused x (λ e. let no_way : ⊥ = cc in no_way) (λ h. h) said in
-    let parts : CheckTells call.shelf told.0 told.1.0 ProofRefused x = told.1.2 in (
-      told.0,
-      (
-        told.1.0,
-        told.1.1,
-        record {
-          program = parts.0;
-          program_given = parts.1;
-          text = x;
-          refused = parts.2;
-          appended = a;
-        },
-      ),
-    )
-
-no_wrote : (call : Call) (put : Put) (x : List ℕ) → Says call No x → Appends put.written_before put.written_after x
-    → (f : Word) × ((q : Word) × Asks call.words (Check f q) × WroteNo call put f q)
-no_wrote call put x said a =
-    let told = checks_said call No x (λ e. let no_way : ⊥ = cc in no_way) (λ h. h) said in
-    let parts : CheckTells call.shelf told.0 told.1.0 No x = told.1.2 in (
-      told.0,
-      (
-        told.1.0,
-        told.1.1,
-        record {
-          program = parts.0;
-          proof = parts.1.0;
-          given = parts.1.1;
-          text = x;
-          refused = parts.1.2;
-          appended = a;
-        },
-      ),
-    )
-
--- the facts of a proof that is accepted were written with `Done`
-acceptance_wrote : (call : Call) (put : Put) (f q : Word) (x : List ℕ) → Answers call.shelf (Check f q) Done x
-    → Appends put.written_before put.written_after x → WroteAcceptance call put f q
-acceptance_wrote call put f q x h a =
-    let told : CheckTells call.shelf f q Done x = check_tells call.shelf f q Done x h in
-    record {
-      program = told.0;
-      proof = told.1.0;
-      given = told.1.1;
-      text = x;
-      accepted = told.1.2;
-      appended = a;
-    }
-
--- the tally of a run was written with `Done`, and it is within the bounds
-tally_wrote : ReplaysAreDecided → (call : Call) (put : Put) (f q : Word) (x : List ℕ) → Answers call.shelf (Replay f q) Done x
-    → Appends put.written_before put.written_after x → WroteTally call put f q
-tally_wrote law call put f q x h a =
-    let told : Tells call.shelf f q Done x = replay_tells call.shelf f q Done x h in
-    let tally = told.1.2 in
-    let run = told.1.0 in
-    let gave = told.1.1.program_given in
-    record {
-      program = told.0;
-      run = run;
-      given = told.1.1;
-      text = x;
-      told = tally;
-      within_bounds = tally_within law told.0 tally.report run.start (last_first run)
-          (spelled_valid gave.bytes told.0 gave.spelled) tally.on_program tally.found.true_on_all_runs tally.in_range;
-      appended = a;
-    }
-
--- what was written of the program that a file gives
-written : (call : Call) (put : Put) (n : ℕ) (f : Word) (s : Status) (x : List ℕ)
-    → (h : IsOfProgram call.shelf f (λ p. IsReportOf p n) s x) → Appends put.written_before put.written_after x
-    → WroteReport call put n f h.said.report
-written call put n f s x h a = record {
-  program = h.program;
-  given = h.given;
-  found = h.said.found;
-  text = x;
-  stated = h.said.stated;
-  appended = a;
-}
-
--- a report with a time for every rule was written with `Done`, and one without one for some with `Unknown`
-done_wrote : (call : Call) (put : Put) (n : ℕ) (f : Word) (x : List ℕ) → OnProgram call.shelf f (λ p. IsReportOf p n) Done x
-    → Appends put.written_before put.written_after x
-    → (report : Report) × WroteReport call put n f report × IsTrue (list_all is_timed report.times)
-done_wrote call put n f x (Without h) a = absurd (no_done call.shelf f x h)
-done_wrote call put n f x (Of h) a = (h.said.report, written call put n f Done x h a, timed_where_done h.said.report h.said.ends)
-
-unknown_wrote : (call : Call) (put : Put) (n : ℕ) (f : Word) (x : List ℕ) → OnProgram call.shelf f (λ p. IsReportOf p n) Unknown x
-    → Appends put.written_before put.written_after x
-    → (report : Report) × WroteReport call put n f report × IsFalse (list_all is_timed report.times)
-unknown_wrote call put n f x (Without h) a = absurd (no_unknown call.shelf f x h)
-unknown_wrote call put n f x (Of h) a = (h.said.report, written call put n f Unknown x h a, untimed_where_unknown h.said.report h.said.ends)
-
--- so were facts with such a report
-facts_written : (call : Call) (put : Put) (n : ℕ) (f : Word) (s : Status) (x : List ℕ)
-    → (h : IsOfProgram call.shelf f (λ p. IsFactsReportOf p n) s x) → Appends put.written_before put.written_after x
-    → WroteFacts call put n f h.said.report
-facts_written call put n f s x h a = record {
-  program = h.program;
-  given = h.given;
-  facts = h.said.facts;
-  found = h.said.found;
-  text = x;
-  told = h.said.told;
-  appended = a;
-}
-
-facts_done : (call : Call) (put : Put) (n : ℕ) (f : Word) (x : List ℕ)
-    → OnProgram call.shelf f (λ p. IsFactsReportOf p n) Done x → Appends put.written_before put.written_after x
-    → (report : Report) × WroteFacts call put n f report × IsTrue (list_all is_timed report.times)
-facts_done call put n f x (Without h) a = absurd (no_done call.shelf f x h)
-facts_done call put n f x (Of h) a =
-    (h.said.report, facts_written call put n f Done x h a, timed_where_done h.said.report h.said.ends)
-
-facts_unknown : (call : Call) (put : Put) (n : ℕ) (f : Word) (x : List ℕ)
-    → OnProgram call.shelf f (λ p. IsFactsReportOf p n) Unknown x → Appends put.written_before put.written_after x
-    → (report : Report) × WroteFacts call put n f report × IsFalse (list_all is_timed report.times)
-facts_unknown call put n f x (Without h) a = absurd (no_unknown call.shelf f x h)
-facts_unknown call put n f x (Of h) a =
-    (h.said.report, facts_written call put n f Unknown x h a, untimed_where_unknown h.said.report h.said.ends)
-
--- so was a proof file of what was found
-proof_written : (call : Call) (put : Put) (n : ℕ) (f : Word) (s : Status) (x : List ℕ)
-    → (h : IsOfProgram call.shelf f (λ p. IsProofOf p n) s x) → Appends put.written_before put.written_after x
-    → WroteProof call put n f h.said.outcome
-proof_written call put n f s x h a =
-    record { program = h.program; given = h.given; text = x; proved = h.said.proved; appended = a }
-
-proof_done : (call : Call) (put : Put) (n : ℕ) (f : Word) (x : List ℕ)
-    → OnProgram call.shelf f (λ p. IsProofOf p n) Done x → Appends put.written_before put.written_after x
-    → (outcome : Outcome) × WroteProof call put n f outcome × IsTrue (list_all is_timed (report_of outcome).times)
-proof_done call put n f x (Without h) a = absurd (no_done call.shelf f x h)
-proof_done call put n f x (Of h) a =
-    (h.said.outcome, proof_written call put n f Done x h a, timed_where_done (report_of h.said.outcome) h.said.ends)
-
-proof_in_part : (call : Call) (put : Put) (n : ℕ) (f : Word) (x : List ℕ)
-    → OnProgram call.shelf f (λ p. IsProofOf p n) Unknown x → Appends put.written_before put.written_after x
-    → (outcome : Outcome) × WroteProof call put n f outcome × IsFalse (list_all is_timed (report_of outcome).times)
-proof_in_part call put n f x (Without h) a = absurd (no_unknown call.shelf f x h)
-proof_in_part call put n f x (Of h) a =
-    (h.said.outcome, proof_written call put n f Unknown x h a, untimed_where_unknown (report_of h.said.outcome) h.said.ends)
-
--- statuses that differ
-done_whole : (s : Status) → s ≡ Done → (s ≢ WriteFault) × (s ≢ Memory)
-done_whole s e = ((λ f. let g : Done ≡ WriteFault = sym e ∙ f in cc), (λ f. let g : Done ≡ Memory = sym e ∙ f in cc))
-
-unknown_whole : (s : Status) → s ≡ Unknown → (s ≢ WriteFault) × (s ≢ Memory)
-unknown_whole s e = ((λ f. let g : Unknown ≡ WriteFault = sym e ∙ f in cc), (λ f. let g : Unknown ≡ Memory = sym e ∙ f in cc))
-
-fault_whole : (s : Status) → s ≡ ReadFault → (s ≢ WriteFault) × (s ≢ Memory)
-fault_whole s e = ((λ f. let g : ReadFault ≡ WriteFault = sym e ∙ f in cc), (λ f. let g : ReadFault ≡ Memory = sym e ∙ f in cc))
-
-run_refused_whole : (s : Status) → s ≡ RunRefused → (s ≢ WriteFault) × (s ≢ Memory)
-run_refused_whole s e = ((λ f. let g : RunRefused ≡ WriteFault = sym e ∙ f in cc), (λ f. let g : RunRefused ≡ Memory = sym e ∙ f in cc))
-
-bad_step_whole : (s : Status) → s ≡ NotARun → (s ≢ WriteFault) × (s ≢ Memory)
-bad_step_whole s e = ((λ f. let g : NotARun ≡ WriteFault = sym e ∙ f in cc), (λ f. let g : NotARun ≡ Memory = sym e ∙ f in cc))
-
-proof_refused_whole : (s : Status) → s ≡ ProofRefused → (s ≢ WriteFault) × (s ≢ Memory)
-proof_refused_whole s e =
-    ((λ f. let g : ProofRefused ≡ WriteFault = sym e ∙ f in cc), (λ f. let g : ProofRefused ≡ Memory = sym e ∙ f in cc))
-
-no_whole : (s : Status) → s ≡ No → (s ≢ WriteFault) × (s ≢ Memory)
-no_whole s e = ((λ f. let g : No ≡ WriteFault = sym e ∙ f in cc), (λ f. let g : No ≡ Memory = sym e ∙ f in cc))
-
-usage_whole : (s : Status) → s ≡ Usage → (s ≢ WriteFault) × (s ≢ Memory)
-usage_whole s e = ((λ f. let g : Usage ≡ WriteFault = sym e ∙ f in cc), (λ f. let g : Usage ≡ Memory = sym e ∙ f in cc))
-
-refused_whole : (s : Status) → s ≡ ProgramRefused → (s ≢ WriteFault) × (s ≢ Memory)
-refused_whole s e =
-    ((λ f. let g : ProgramRefused ≡ WriteFault = sym e ∙ f in cc), (λ f. let g : ProgramRefused ≡ Memory = sym e ∙ f in cc))
-
--- how a call ends says this of its status
-pub ends_mean : ReplaysAreDecided → (s : Status) (call : Call) (put : Put) → Ends s call put → Means s call put
-ends_mean law s call put ends = record {
-  done = λ n f asked e.
-      let whole = done_whole s e in
-      let wrote = ends.wrote whole.0 whole.1 in
-      done_wrote call put n f wrote.text
-      (answer_of call (Analyse n f) Done wrote.text asked (subst (λ (t : Status). Says call t wrote.text) e wrote.says)) wrote.appended;
-  unknown = λ n f asked e.
-      let whole = unknown_whole s e in
-      let wrote = ends.wrote whole.0 whole.1 in
-      unknown_wrote call put n f wrote.text
-      (answer_of call (Analyse n f) Unknown wrote.text asked (subst (λ (t : Status). Says call t wrote.text) e wrote.says)) wrote.appended;
-  done_with_facts = λ n f asked e.
-      let whole = done_whole s e in
-      let wrote = ends.wrote whole.0 whole.1 in
-      facts_done call put n f wrote.text
-      (answer_of call (Facts n f) Done wrote.text asked (subst (λ (t : Status). Says call t wrote.text) e wrote.says)) wrote.appended;
-  unknown_with_facts = λ n f asked e.
-      let whole = unknown_whole s e in
-      let wrote = ends.wrote whole.0 whole.1 in
-      facts_unknown call put n f wrote.text
-      (answer_of call (Facts n f) Unknown wrote.text asked (subst (λ (t : Status). Says call t wrote.text) e wrote.says)) wrote.appended;
-  proved = λ n f asked e.
-      let whole = done_whole s e in
-      let wrote = ends.wrote whole.0 whole.1 in
-      proof_done call put n f wrote.text
-      (answer_of call (Prove n f) Done wrote.text asked (subst (λ (t : Status). Says call t wrote.text) e wrote.says)) wrote.appended;
-  proved_in_part = λ n f asked e.
-      let whole = unknown_whole s e in
-      let wrote = ends.wrote whole.0 whole.1 in
-      proof_in_part call put n f wrote.text
-      (answer_of call (Prove n f) Unknown wrote.text asked (subst (λ (t : Status). Says call t wrote.text) e wrote.says)) wrote.appended;
-  checked = λ f q asked e.
-      let whole = done_whole s e in
-      let wrote = ends.wrote whole.0 whole.1 in
-      acceptance_wrote call put f q wrote.text
-      (answer_of call (Check f q) Done wrote.text asked (subst (λ (t : Status). Says call t wrote.text) e wrote.says)) wrote.appended;
-  replayed = λ f q asked e.
-      let whole = done_whole s e in
-      let wrote = ends.wrote whole.0 whole.1 in
-      tally_wrote law call put f q wrote.text
-      (answer_of call (Replay f q) Done wrote.text asked (subst (λ (t : Status). Says call t wrote.text) e wrote.says)) wrote.appended;
-  unknown_of = λ e.
-      let whole = unknown_whole s e in
-      let wrote = ends.wrote whole.0 whole.1 in
-      unknown_said call wrote.text (subst (λ (t : Status). Says call t wrote.text) e wrote.says);
-  usage = λ e.
-      let whole = usage_whole s e in
-      let wrote = ends.wrote whole.0 whole.1 in
-      let said = subst (λ (t : Status). Says call t wrote.text) e wrote.says in (
-        usage_for_nothing call wrote.text said,
-        subst (λ (x : List ℕ). Appends put.written_before put.written_after x) (usage_says call wrote.text said) wrote.appended,
-      );
-  program_refused = λ e.
-      let whole = refused_whole s e in
-      let wrote = ends.wrote whole.0 whole.1 in
-      refused_said call put wrote.text (subst (λ (t : Status). Says call t wrote.text) e wrote.says) wrote.appended;
-  run_refused = λ e.
-      let whole = run_refused_whole s e in
-      let wrote = ends.wrote whole.0 whole.1 in
-      run_refused_wrote call put wrote.text (subst (λ (t : Status). Says call t wrote.text) e wrote.says) wrote.appended;
-  not_a_run = λ e.
-      let whole = bad_step_whole s e in
-      let wrote = ends.wrote whole.0 whole.1 in
-      bad_step_wrote call put wrote.text (subst (λ (t : Status). Says call t wrote.text) e wrote.says) wrote.appended;
-  proof_refused = λ e.
-      let whole = proof_refused_whole s e in
-      let wrote = ends.wrote whole.0 whole.1 in
-      proof_refused_wrote call put wrote.text (subst (λ (t : Status). Says call t wrote.text) e wrote.says) wrote.appended;
-  no = λ e.
-      let whole = no_whole s e in
-      let wrote = ends.wrote whole.0 whole.1 in
-      no_wrote call put wrote.text (subst (λ (t : Status). Says call t wrote.text) e wrote.says) wrote.appended;
-  read_fault = λ e.
-      let whole = fault_whole s e in
-      let wrote = ends.wrote whole.0 whole.1 in
-      fault_said call wrote.text (subst (λ (t : Status). Says call t wrote.text) e wrote.says);
-}

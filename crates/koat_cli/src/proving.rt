@@ -9,7 +9,7 @@ ghost use Rattle.koat_cli.specs.Checks.{IsCheckOf, IsProofOf};
 use crate::analysis::status_of;
 use crate::status::Status;
 use crate::status_text::StatusText;
-use check_text::{Verdict, verdict};
+use check_text::{Verdict, verdict_on};
 use its_model::Program;
 use model::Memory;
 use outcome::Outcome;
@@ -40,7 +40,7 @@ pub(crate) fn checked(
     ensures { IfOk result (λ said.
         IsCheckOf (program_of program.now) (file_of proof.now) said.status said.text.items) }
 {
-    match verdict(alloc, program, proof)? {
+    match verdict_on(alloc, program, proof)? {
         Verdict::Accepted(text) => Ok(StatusText {
             status: Status::Done,
             text,

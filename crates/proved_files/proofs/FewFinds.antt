@@ -3,7 +3,7 @@
 use Rattle.std.proofs.Common.{◌≡◌, ℕ, suc, ◌+◌, ◌<◌, ◌≤◌, Bool, true, false, List, [], ◌∷◌, ◌++◌, length, map, filter, None}
 use Rattle.std.proofs.Common.{refl, sym, ap, ◌∙◌, subst, arith, All, append_assoc}
 use Rattle.std.proofs.lemmas.List.{append-nil, length-append, length-map}
-use Rattle.std.proofs.lemmas.List.Elements.{All-head, All-tail, All-weaker}
+use Rattle.std.proofs.lemmas.List.Elements.{All-head, All-tail}
 use Rattle.std.proofs.lemmas.List.FromFn.{length-range_with_len}
 use Rattle.its_model.specs.Valid.{IsValid}
 use Rattle.model.specs.Programs.{Program}
@@ -11,7 +11,7 @@ use Rattle.proof_tree.specs.proof_nodes.Setting.{Setting}
 use Rattle.bound_rounds.specs.Beginning.{AreEmptyFinds, AreFirst, unreached_find, never_find, is_cut, is_dead, zeroed}
 use Rattle.bound_rounds.specs.Beginning.{has_places, first_finds}
 use Rattle.bound_rounds.specs.Finds.{Find, bounds_of}
-use Rattle.bound_rounds.specs.Keys.{at_key, has_key, time_key, rule_numbers}
+use Rattle.bound_rounds.specs.Keys.{at_key, time_key, rule_numbers}
 use Rattle.bound_rounds.specs.Laws.{missing}
 use Rattle.bound_rounds.specs.Right.{AreRight, AreOne}
 use Rattle.bound_rounds.specs.Rounds.{IsMade, Begun, Made}
@@ -19,18 +19,11 @@ use Rattle.bound_rounds.specs.Searches.{Searches}
 use Rattle.bound_rounds.specs.Standing.{StandAfter}
 use Rattle.bound_rounds.proofs.FindLists.{bounds_of-kept, bounds_of-new, found-here}
 use Rattle.bound_rounds.proofs.Keys.{has_key-all}
-use Rattle.bound_rounds.proofs.MissingFalls.{IsKeyOfRule, missing_falls}
-use Rattle.bound_rounds.proofs.RoundsEnd.{round_missing}
+use Rattle.bound_rounds.proofs.MissingFalls.{missing_falls}
+use Rattle.bound_rounds.proofs.RoundsEnd.{FindsMissing, round_missing}
 use Rattle.bound_rounds.proofs.SizesStand.{all_stand}
 use Rattle.bound_book.proofs.Room.{missing_few}
 use Rattle.model.specs.Paths.{target_of}
-
--- a find has a key of a rule
-record HasKeyOfRule (p : Program) (f : Find) : Type 0 where
-  number : ℕ
-  place : ℕ
-  has : has_key f.keys number place ≡ true
-  rule : IsKeyOfRule p number place
 
 -- no more pass a test than there are
 filter-short : {A : Type 0} (test : A → Bool) (xs : List A) → length (filter test xs) ≤ length xs
@@ -71,22 +64,22 @@ first-few q p valid fs h =
     never : List Find
     never = map (never_find p) (zeroed p h.is_empty h.is_unreached)
 
--- finds that stand after others, each with a key of a rule, leave so many bounds fewer missing
-falls : (s : Setting) (fs more : List Find) → StandAfter s fs more → All (HasKeyOfRule s.program) more
+-- finds that stand after others, each with a key of a rule, leave as many bounds fewer missing
+falls : (s : Setting) (old fs more : List Find) → StandAfter s fs more → All (FindsMissing s.program old) more
     → missing s.program (bounds_of s.program (fs ++ more)) + length more ≤ missing s.program (bounds_of s.program fs)
-falls s fs [] h k =
+falls s old fs [] h k =
     let same : missing s.program (bounds_of s.program (fs ++ [])) ≡ missing s.program (bounds_of s.program fs) =
     ap (λ (xs : List Find). missing s.program (bounds_of s.program xs)) (append-nil fs) in
     omega (arith, same)
-falls s fs (f ∷ more) h k =
-    let key = All-head (HasKeyOfRule s.program) f more k in
+falls s old fs (f ∷ more) h k =
+    let key = All-head (FindsMissing s.program old) f more k in
     let fresh : bounds_of s.program fs key.number key.place ≡ None =
     has_key-all (λ x. at_key (bounds_of s.program fs) x ≡ None) f.keys key.number key.place h.0.fresh key.has in
     let here : missing s.program (bounds_of s.program (fs ++ f ∷ [])) < missing s.program (bounds_of s.program fs) =
     missing_falls s.program (bounds_of s.program fs) (bounds_of s.program (fs ++ f ∷ []))
     (λ t i b e. bounds_of-kept s.program fs (f ∷ []) t i b e) key.number key.place f.bound key.rule fresh
     (bounds_of-new s.program fs (f ∷ []) key.number key.place fresh ∙ found-here f [] key.number key.place key.has) in
-    let later = falls s (fs ++ f ∷ []) more h.1 (All-tail (HasKeyOfRule s.program) f more k) in
+    let later = falls s old (fs ++ f ∷ []) more h.1 (All-tail (FindsMissing s.program old) f more k) in
     let same : missing s.program (bounds_of s.program ((fs ++ f ∷ []) ++ more)) ≡ missing s.program (bounds_of s.program (fs ++ f ∷ more)) =
     ap (λ (xs : List Find). missing s.program (bounds_of s.program xs)) (append_assoc fs (f ∷ []) more) in
     omega (arith, here, later, same)
@@ -108,9 +101,7 @@ module _ (q : Searches) (s : Setting) (valid : IsValid s.program) (right : AreRi
   made-count fs (Made {fs = old} {more = more} m n) =
       let before = made-count old m in
       let stand = stand-rest s [] old more (all_stand q s right one (old ++ more) (Made m n)).each in
-      let keys = All-weaker _ (HasKeyOfRule s.program)
-      (λ f h. record { number = h.number; place = h.place; has = h.has; rule = h.rule }) more (round_missing q s old more n) in
-      let fewer = falls s old more stand keys in
+      let fewer = falls s old old more stand (round_missing q s old more n) in
       let long = length-append old more in
       omega (arith, before, fewer, long)
 

@@ -28,11 +28,11 @@ some-in t [] m = absurd (no_is_not_yes false refl m)
 some-in t (x ∷ xs) m = omega arith
 
 -- the numbers of a range are below its end
-range-below : (a n : ℕ) → All (λ k. k < a + n) (range_with_len a n)
-range-below a zero = All-nil (λ k. k < a + 0)
-range-below a (suc n) =
-    All-cons (λ k. k < a + suc n) a (range_with_len (a + 1) n) (omega arith)
-    (subst (λ (m : ℕ). All (λ k. k < m) (range_with_len (a + 1) n)) (omega arith) (range-below (a + 1) n))
+range-below : (a n m : ℕ) → a + n ≤ m → All (λ k. k < m) (range_with_len a n)
+range-below a zero m h = All-nil (λ k. k < m)
+range-below a (suc n) m h =
+    All-cons (λ k. k < m) a (range_with_len (a + 1) n) (omega (arith, h))
+    (range-below (a + 1) n m (omega (arith, h)))
 
 -- what holds of all holds of those that pass a test
 filter-all : (P : ℕ → Type 0) (test : ℕ → Bool) (xs : List ℕ) → All P xs → All P (filter test xs)
@@ -47,7 +47,7 @@ filter-all P test (x ∷ xs) h = go (test x) refl (filter-all P test xs (All-tai
 pub symbols-below : (p : Program) (set : List ℕ) → All (λ a. a < length p.symbols) (symbols_of p set)
 symbols-below p set =
     filter-all (λ a. a < length p.symbols) (touches p set) (range_with_len 0 (length p.symbols))
-    (range-below 0 (length p.symbols))
+    (range-below 0 (length p.symbols) (length p.symbols) (omega arith))
 
 -- where a set has a rule there are some
 pub some-symbol : (p : Program) → IsValid p → (set : List ℕ) (t : ℕ) → is_in t set ≡ true → IsRule p t

@@ -42,6 +42,17 @@ same-gap g h e = cc
 not-large : (g : Gap) (n : ℕ) → NoFunction g ≡ TooLarge n → ⊥
 not-large g n e = cc
 
+-- of two numbers in order the second is the first, or it is greater
+cases : (x y : ℕ) → x ≤ y → (y ≡ x) ⊎ (x < y)
+cases zero zero h = inl refl
+cases zero (suc y) h = inr (omega arith)
+cases (suc x) zero h = absurd (omega (arith, h))
+cases (suc x) (suc y) h = later (cases x y (omega (arith, h)))
+  where
+    later : (y ≡ x) ⊎ (x < y) → (suc y ≡ suc x) ⊎ (suc x < suc y)
+    later (inl e) = inl (ap (λ (m : ℕ). suc m) e)
+    later (inr l) = inr (omega (arith, l))
+
 module _ (p : Program) (pivots : ℕ) (valid : IsValid p) where
   -- a shut place is a place of a symbol
   place-of : (fs : List Find) (set : List ℕ) (x : SymbolPlace) → IsShut p (bounds_of p fs) set x → IsPlaceOf p x
@@ -81,7 +92,7 @@ module _ (p : Program) (pivots : ℕ) (valid : IsValid p) where
       by-target (SizesOf keys) asked tells = absurd asked
 
   -- so are those of each gap that times name
-  named-places : (fs : List Find) (gaps : List code.Gap) (t n count : ℕ) (entries : List TimeEntry)
+  pub named-places : (fs : List Find) (gaps : List code.Gap) (t n count : ℕ) (entries : List TimeEntry)
       → AreGapsInOrder n entries count → AreTimesOf (searches_of_program p pivots) p fs t (map (time_of gaps) entries)
       → (j : ℕ) → n < j → j ≤ count → HasItsPlaces p (numbered_gap gaps j)
   named-places fs gaps t n count [] order are j more most = absurd (omega (arith, order, more, most))
@@ -91,23 +102,14 @@ module _ (p : Program) (pivots : ℕ) (valid : IsValid p) where
       named-places fs gaps (suc t) n count entries order are.1 j more most
   named-places fs gaps t n count (times.Large k ∷ entries) order are j more most =
       named-places fs gaps (suc t) n count entries order are.1 j more most
-  named-places fs gaps t n count (times.Gap g ∷ entries) order are j more most = go (cases (suc n) j more)
+  named-places fs gaps t n count (times.Gap g ∷ entries) order are j more most =
+      go (cases (suc n) j more) (λ l. named-places fs gaps (suc t) (suc n) count entries order.1 are.1 j l most)
     where
-      cases : (x y : ℕ) → x ≤ y → (y ≡ x) ⊎ (x < y)
-      cases zero zero h = inl refl
-      cases zero (suc y) h = inr (omega arith)
-      cases (suc x) zero h = absurd (omega (arith, h))
-      cases (suc x) (suc y) h = later (cases x y (omega (arith, h)))
-        where
-          later : (y ≡ x) ⊎ (x < y) → (suc y ≡ suc x) ⊎ (suc x < suc y)
-          later (inl e) = inl (ap (λ (m : ℕ). suc m) e)
-          later (inr l) = inr (omega (arith, l))
-
-      go : (j ≡ suc n) ⊎ (suc n < j) → HasItsPlaces p (numbered_gap gaps j)
-      go (inl e) =
+      go : (j ≡ suc n) ⊎ (suc n < j) → (suc n < j → HasItsPlaces p (numbered_gap gaps j)) → HasItsPlaces p (numbered_gap gaps j)
+      go (inl e) later =
           subst (λ (m : ℕ). HasItsPlaces p (numbered_gap gaps m)) (order.0 ∙ sym e)
           (places-of fs t (numbered_gap gaps g) are.0)
-      go (inr l) = named-places fs gaps (suc t) (suc n) count entries order.1 are.1 j l most
+      go (inr l) later = later l
 
 -- what holds of each gap by its number holds of all
 pub all-numbered : (P : Gap → Type 0) (gaps : List code.Gap)

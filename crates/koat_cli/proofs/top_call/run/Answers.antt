@@ -2,7 +2,7 @@ use Rattle.std.proofs.Common.{List, ℕ, subst}
 use Rattle.std.specs.Io.KnownBytes.{Appends}
 use Rattle.koat_cli.specs.Calls.{call_of, put_of}
 use Rattle.koat_cli.proofs.Endings.{ended_whole}
-use Rattle.koat_cli.proofs.OneRequest.{ends_mean}
+use Rattle.koat_cli.proofs.EndsMean.{ends_mean}
 use Rattle.koat_cli.proofs.top_call.run.Goals as goal
 
 pub returns-in-Ok-put-clause-means : goal.returns-in-Ok-put-clause-means

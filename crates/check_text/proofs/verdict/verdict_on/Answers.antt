@@ -1,0 +1,16 @@
+use Rattle.std.proofs.Common.{ℕ, List, All, length, subst, sym}
+use Rattle.std.proofs.lemmas.List.{length-map}
+use Rattle.its_model.specs.Views.{name_of, program_of}
+use Rattle.proof_tree.specs.AnswerViews.{file_of}
+use Rattle.proof_tree.specs.Views.{fact_of}
+use Rattle.proof_tree.specs.declared.fact.Fact.{Fact}
+use Rattle.check_text.specs.Told.{IsListedFact}
+use Rattle.check_text.proofs.Verdicts.{facts-listed}
+use Rattle.check_text.proofs.verdict.verdict_on.Goals as goal
+
+pub accepted-requires : goal.accepted-requires
+accepted-requires c =
+    let names = c.args.p.now.start_names.items in
+    subst (λ (facts : List Fact). All (λ f. IsListedFact (length names) (fact_of f)) facts) (sym c.deref.ensures.value)
+    (subst (λ (n : ℕ). All (λ f. IsListedFact n (fact_of f)) c.in-Ok.facts.items) (length-map names name_of)
+    (facts-listed (program_of c.args.p.now) (file_of c.args.f.now) c.in-Ok.facts.items c.requires c.in-Ok.ensures.answered))
