@@ -1,0 +1,21 @@
+use Rattle.std.proofs.Common.{ℕ, All, length, subst}
+use Rattle.std.proofs.lemmas.List.{length-map}
+use Rattle.its_model.specs.Views.{name_of, program_of}
+use Rattle.proof_text.specs.Listed.{IsListed}
+use Rattle.proof_tree.specs.Views.{proof_of}
+use Rattle.proved_files.proofs.ProvedFiles.{proved-accepted}
+use Rattle.koat_cli.proofs.ProofFiles.{proof_said}
+use Rattle.koat_cli.proofs.proving.proved.Goals as goal
+
+pub print-requires : goal.print-requires
+print-requires c =
+    let names = c.args.program.now.start_names.items in
+    subst (λ (n : ℕ). All (λ lemma. IsListed n (proof_of lemma)) c.in_ok-found.found.lemmas.items) (length-map names name_of)
+    (proved-accepted.listed (program_of c.args.program.now) c.args.pivots c.in_ok-found.found c.requires
+    (record { found = c.in_ok-found.ensures.found; lemmas = c.in_ok-found.ensures.lemmas }))
+
+pub returns : goal.returns
+returns c =
+    proof_said (program_of c.args.program.now) c.args.pivots c.in_ok-found.found c.status_of-status.result
+    c.in_ok-text.text.items c.requires c.in_ok-found.ensures.found c.in_ok-found.ensures.holds c.in_ok-found.ensures.reasons
+    c.in_ok-found.ensures.lemmas c.status_of-status.ensures c.in_ok-text.ensures
