@@ -41,7 +41,8 @@ fn is_losing(
     requires rule { IsRule (program ground.now) rule }
     requires limit { AreInLimit moves.now }
     ensures { IfOk result (λ is_losing. IsTrue is_losing ↔ Implies ((setting ground.now).rows rule) moves.now
-        (loss (at_source (program ground.now) (rank_of node.now) rule) (at_target (program ground.now) (rank_of node.now) rule)
+        (loss (at_source (program ground.now) (rank_of node.now) rule)
+        (at_target (program ground.now) (rank_of node.now) rule)
         ((setting ground.now).news rule) (least_loss (rank_of node.now) rule))) }
 {
     let rows = prep(ground, rule);
