@@ -2,7 +2,8 @@
 
 `Reading(text).verdict()` is `taken`, or the line that `koat analyse` writes of the text's first refusal. Every refusal
 that stands against the text up to where it breaks off is noted, and then the one at the least byte is taken, and there
-the one that comes first among the kinds. Expressions are read by recursion: a caller may have to raise Python's limit.
+the one that comes first among the kinds. Where it is taken, `rules` has its rules. Expressions are read by recursion: a
+caller may have to raise Python's limit.
 """
 
 import re
@@ -41,6 +42,18 @@ def token_at(text, at):
         return Token("wrong", text[at:at + 1], at, at + 1)
     kind = match.group().decode() if match.lastgroup == "mark" else match.lastgroup
     return Token(kind, match.group(), at, match.end())
+
+
+class Rule(NamedTuple):
+    """A rule: its variables in order, of which the first `left` are the left side's; expressions are trees; an atom has
+    a left side, a relation and a right side, or is none where it always holds."""
+
+    source: bytes
+    left: int
+    variables: list
+    target: bytes
+    updates: list
+    atoms: list
 
 
 class Unexpanded(Exception):
@@ -102,7 +115,7 @@ class Reading:
     def __init__(self, text):
         self.text, self.refusals = text, set()
         self.behind = 0  # the byte behind the last token
-        self.starts, self.sections, self.arities, self.sources, self.rules = [], set(), {}, set(), 0
+        self.starts, self.sections, self.arities, self.sources, self.rules = [], set(), {}, set(), []
         self.go_on_at(0)
 
     def note(self, kind, at):
@@ -198,14 +211,14 @@ class Reading:
         self.go_on_at(at)
 
     def rule(self):
-        self.note_if(self.rules >= RULES, "Limit Rules")
-        self.rules += 1
+        self.note_if(len(self.rules) >= RULES, "Limit Rules")
         source = self.take("name").text
         self.sources.add(source)
         self.take("(")
-        self.variables = []
+        self.variables, self.updates, self.guards = [], [], []
         self.list_of(self.left_argument)
-        self.close_term(source, len(self.variables))
+        left = len(self.variables)
+        self.close_term(source, left)
         counted = self.arrow()
         within = self.is_next("name") and self.next.text == b"Com_1"
         if within:
@@ -221,6 +234,7 @@ class Reading:
         if within:
             self.take(")")
         self.guard(counted)
+        self.rules.append(Rule(source, left, self.variables, target, self.updates, self.guards))
 
     def arrow(self):
         """As how many atoms of its rule the arrow counts: as one where it has a cost."""
@@ -260,7 +274,8 @@ class Reading:
 
     def right_argument(self, count):
         self.note_if(count >= PLACES and self.is_next(*BEGINS_EXPRESSION), "Limit Arity")
-        self.note_unexpanded([self.expression()])
+        self.updates.append(self.expression())
+        self.note_unexpanded(self.updates[-1:])
 
     def note_unexpanded(self, trees):
         """What keeps the first of some expressions from being expanded, at the last byte that was read."""
@@ -293,12 +308,14 @@ class Reading:
     def atom(self):
         if self.next.text in (b"TRUE", b"true") and self.following() not in ("+", "-", "*", "^", *RELATIONS):
             self.take()
+            self.guards.append(None)
             return
         left = self.expression()
         if not self.is_next(*RELATIONS):
             self.break_off()
         relation = self.take().kind
         right = self.expression()
+        self.guards.append((left, relation, right))
         up, down = ("-", left, right), ("-", right, left)
         one = ("number", 1)
         self.note_unexpanded({">=": [up], ">": [("-", up, one)], "<=": [down], "<": [("-", down, one)]}

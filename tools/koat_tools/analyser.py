@@ -61,10 +61,10 @@ def read_file(name, most=MOST):
         raise Stop(READ_FAULT, f"{name} can't be read: {fault.strerror}") from fault
 
 
-def analyse(name, pivots=None, seconds=None):
+def analyse(name, pivots=None, seconds=None, with_facts=False):
     """What koat says of the file; the text goes to its standard input, so that it is read once."""
     data = read_file(name)
-    ran = _ran(["analyse", *([] if pivots is None else ["--pivots", str(pivots)]), "-"], data, seconds)
+    ran = _ran(["facts" if with_facts else "analyse", *([] if pivots is None else ["--pivots", str(pivots)]), "-"], data, seconds)
     return _answer(ran.returncode, ran.stdout, data, name)
 
 

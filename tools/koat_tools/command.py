@@ -57,6 +57,7 @@ def parser():
         one.add_argument("file", metavar="FILE")
         one.add_argument("--pivots", metavar="N", help="handed to koat")
         one.add_argument("--seconds", metavar="N", type=seconds, help="how long koat, and dot, may each take")
+        one.add_argument("--facts", action="store_true", help="what `koat facts` says, in place of `koat analyse`")
         if name in WITH_INPUTS:
             one.add_argument("inputs", nargs="*", metavar="NAME=NUMBER")
         if name == "run":
@@ -109,7 +110,7 @@ def _write(text, out):
 
 
 def _analysed(asked):
-    return analyser.analyse(asked.file, asked.pivots, asked.seconds)
+    return analyser.analyse(asked.file, asked.pivots, asked.seconds, asked.facts)
 
 
 def _reported(asked):
@@ -131,7 +132,7 @@ def _explain(asked, out):
     if answer.refusal:
         _print(explain.refusal_lines(answer), out)
         return analyser.REFUSED
-    _print(explain.report_lines(answer), out)
+    _print(explain.report_lines(answer, asked.facts), out)
     return 0
 
 

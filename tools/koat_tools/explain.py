@@ -19,11 +19,14 @@ def shown(where, width=100):
     return [f"  {text}", "  " + " " * (where.column - 1 - start) + "^"]
 
 
-def report_lines(answer):
-    """For each bound that is missing the line of the report, and why in words."""
-    lines = []
+def report_lines(answer, with_facts=False):
+    """For each bound that is missing the line of the report, and why in words; and what to try where facts may help."""
+    lines = [f"fact {it}" for it in answer.report.facts]
     for entry in answer.report.entries():
         if entry.why:
             lines.append(f"why {entry.label}: {entry.why.line}")
             lines += [f"  {it}" for it in reasons.words(answer.report, entry, answer.program)]
-    return lines or ["no bound is missing"]
+    missing = any(it.why for it in answer.report.entries())
+    if not missing:
+        return lines + ["no bound is missing"]
+    return lines if with_facts else lines + [f"try `koat facts {answer.name}`: facts at locations may give what is missing"]

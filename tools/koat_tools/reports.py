@@ -1,6 +1,7 @@
-"""The report of `koat analyse`, read from its text. This is the one place where its grammar stands.
+"""The report of `koat analyse` or `koat facts`, read from its text. This is the one place where its grammar stands.
 
-    report = verdict time+ total size* why*
+    report = fact* verdict time+ total size* why*
+    fact    = "fact " NAME ": " ("x" I | "-x" I | "x" I " - x" I) " >= " ("-1" | "0" | "1") LF
     verdict = "bounded" LF | "unknown" LF
     time    = "time " R ": " (bound | "unknown") LF
     total   = "total: " (bound | "unknown") LF
@@ -81,6 +82,7 @@ class Report:
     total: object
     sizes: List[Entry]
     text: str
+    facts: List[str] = field(default_factory=list)
 
     def entries(self):
         return self.times + self.sizes
@@ -130,11 +132,13 @@ class _Lines:
 NUMBER = r"([0-9]+)"
 POINT = r"\(((?:-?[0-9]+(?:, -?[0-9]+)*)?)\)"
 OVER = POINT + " / " + NUMBER
+FACT = "fact (.+: (?:-?x[0-9]+|x[0-9]+ - x[0-9]+) >= (?:-1|0|1))"
 
 
 def read(text):
     """The report of a text that koat wrote with status 0 or 1."""
     lines = _Lines(text)
+    facts = [it.group(1) for it in lines.all(FACT)]
     verdict = lines.needed("(bounded|unknown)").group(1)
     times = [_entry(it.group(1), None, it.group(2)) for it in lines.all(f"time {NUMBER}: (.*)")]
     total = lines.needed("total: (.*)").group(1)
@@ -147,7 +151,7 @@ def read(text):
     missing = any(it.why for it in times)
     if missing != (verdict == "unknown") or missing and total != UNKNOWN:
         raise ReportError("the verdict, the times and the total don't fit")
-    return Report(verdict, times, None if missing else total, None if missing else _bound(total), sizes, text)
+    return Report(verdict, times, None if missing else total, None if missing else _bound(total), sizes, text, facts)
 
 
 # An input may have this name too, and be a bound: a bound is missing only where its reason follows.
@@ -236,12 +240,19 @@ REASONS = [
 
 def as_json(report):
     """The whole report as plain data, as `docs/report.schema.json` describes it."""
+    told = {} if not report.facts else {"facts": [_fact_json(it) for it in report.facts]}
     return {
+        **told,
         "verdict": report.verdict,
         "times": [_entry_json(it) for it in report.times],
         "total": _bound_json(report.total_text, report.total),
         "sizes": [_entry_json(it) for it in report.sizes],
     }
+
+
+def _fact_json(text):
+    symbol, fact = text.rsplit(": ", 1)
+    return {"symbol": symbol, "text": fact}
 
 
 def _bound_json(text, bound):

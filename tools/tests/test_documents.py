@@ -22,6 +22,12 @@ def index_rows():
     return {row[0].strip("| `"): row for row in rows if row[0].strip("| `") in examples.names()}
 
 
+def with_facts(name):
+    """The total that facts lead to: that of their report, where one stands beside an example."""
+    there = os.path.exists(examples.path(name, ".facts.txt"))
+    return reports.read(examples.text(name, ".facts.txt")).total_text if there else "the same"
+
+
 class Documents(unittest.TestCase):
     def test_files_that_are_named_are_there(self):
         lacking = []
@@ -48,9 +54,11 @@ class Documents(unittest.TestCase):
         for name in examples.names():
             total = reports.read(examples.text(name)).total_text
             row = rows.get(name, [])
-            said = row[3] if total and len(row) == 5 else None
+            said = row[3] if total and len(row) == 6 else None
             if not row or (row[2] if said == "the same" else said) != total:
                 differ.append((name, said, total))
+            if said and row[4] != with_facts(name):
+                differ.append((name, row[4], with_facts(name)))
         self.assertEqual(differ, [])
 
     def test_gaps_that_are_shown_are_of_an_example(self):

@@ -41,6 +41,7 @@ class Reports(unittest.TestCase):
     def test_json_keeps_the_schema(self):
         wanted = json.loads(examples.text("../docs/report.schema", ".json"))
         texts = [(name, examples.text(name)) for name in examples.names()] + [("reasons", REASONS)]
+        texts.append(("facts", examples.text("flag", ".facts.txt")))
         faults = []
         for name, text in texts:
             told = {"format": "koat report 1", "inputs": [], **reports.as_json(reports.read(text))}
@@ -58,6 +59,12 @@ class Reports(unittest.TestCase):
         self.assertEqual([it["kind"] for it in kinds], ["limit", "limit", "large", "limit", "bent", "untimed", "loose"])
         self.assertEqual(kinds[0], {"kind": "limit", "text": "empty 1 wide 16000001 entries", "question": "empty",
                                     "rule": 1, "limit": "wide", "number": 16000001})
+
+    def test_facts_stand_before_a_report(self):
+        report = reports.read(examples.text("flag", ".facts.txt"))
+        self.assertEqual((report.facts, report.total_text), (["work: -x2 >= 0", "work: x2 >= 0"], "N + 1"))
+        self.assertEqual(reports.as_json(report)["facts"][1], {"symbol": "work", "text": "x2 >= 0"})
+        self.assertRaises(reports.ReportError, reports.read, "fact work: x2 >= 2\n" + examples.text("flag"))
 
     def test_a_gap(self):
         why = reports.read(examples.text("unequal")).times[2].why.as_json()

@@ -23,7 +23,7 @@ use Rattle.proof_tree.specs.Views.{member_of}
 use Rattle.proof_tree.specs.declared.arm.Member as code
 use Rattle.proof_tree.specs.declared.answer.EmptyAnswer.{EmptyAnswer}
 use Rattle.rank_search.proofs.RankSets.{rule-of}
-use Rattle.size_bounds.specs.SizeAnswers.{IsMemberOfProgram, AreMembersOfProgram}
+use Rattle.size_nodes.specs.Members.{IsMemberOfProgram, AreMembersOfProgram}
 use Rattle.time_bounds.specs.Candidates.{IsAccepted}
 use Rattle.time_bounds.proofs.RowLaws.{RowsAt, rows_at}
 

@@ -2,7 +2,8 @@
 
 use crate::programs::{all_rows, program};
 use farkas_cert::Scaled;
-use proof_tree::{Gap, GapFault, gap_fault};
+use gap_checks::gap_fault;
+use proof_tree::{Gap, GapFault};
 use std::alloc::Global;
 use std::test::Fail;
 

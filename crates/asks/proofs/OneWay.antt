@@ -6,7 +6,7 @@ use Rattle.asks.specs.declared.command.Command.{Command}
 use Rattle.asks.specs.declared.command.Command.TheVariants as commands
 use Rattle.asks.specs.Lines.{Word, Words, Item, Apart, Joined, Positional, AreItems, words_of_items, values_of}
 use Rattle.asks.specs.Lines.{positionals_of, Gives}
-use Rattle.asks.specs.Requests.{Request, Analyse, Prove, Check, Replay, Generate, Selfrun, word_of, command_of}
+use Rattle.asks.specs.Requests.{Request, Analyse, Prove, Check, Replay, Generate, Selfrun, Facts, word_of, command_of}
 use Rattle.asks.specs.Requests.{default_pivots, AllowsPivots, AsksWith, Asks}
 use Rattle.asks.specs.Laws.{WordsAreReadInOneWay}
 use Rattle.asks.proofs.Firsts.{end_first, apart_first, joined_first, plain_first, none_first, gives_along}
@@ -42,7 +42,8 @@ abbrev pub by_letter : ℕ → Command
 by_letter l =
     cond (l == 97) commands.Analyse
     (cond (l == 112) commands.Prove
-    (cond (l == 99) commands.Check (cond (l == 114) commands.Replay (cond (l == 103) commands.Generate commands.Selfrun))))
+    (cond (l == 99) commands.Check (cond (l == 114) commands.Replay
+    (cond (l == 103) commands.Generate (cond (l == 102) commands.Facts commands.Selfrun)))))
 
 -- each command's word begins with its letter
 by_word : (c : Command) → by_letter (get_or (word_of c) 0 0) ≡ c
@@ -52,6 +53,7 @@ by_word commands.Check = refl
 by_word commands.Replay = refl
 by_word commands.Generate = refl
 by_word commands.Selfrun = refl
+by_word commands.Facts = refl
 
 -- so a word is that of one command
 pub one_command : (c d : Command) → word_of c ≡ word_of d → c ≡ d
@@ -78,6 +80,7 @@ request_by commands.Check values positionals = Check (first_of positionals) (sec
 request_by commands.Replay values positionals = Replay (first_of positionals) (second_of positionals)
 request_by commands.Generate values positionals = Generate (digits_value 10 (first_of positionals))
 request_by commands.Selfrun values positionals = Selfrun (digits_value 10 (first_of positionals))
+request_by commands.Facts values positionals = Facts (pivots_by values) (first_of positionals)
 
 -- values allow no other number of pivots
 one_number : (values : Words) (n : ℕ) → AllowsPivots values n → n ≡ pivots_by values
@@ -100,6 +103,9 @@ one_by (Generate n) values positionals h =
     ap Generate (sym h.number.value) ∙ ap (λ (ws : Words). Generate (digits_value 10 (first_of ws))) (sym h.one)
 one_by (Selfrun n) values positionals h =
     ap Selfrun (sym h.number.value) ∙ ap (λ (ws : Words). Selfrun (digits_value 10 (first_of ws))) (sym h.one)
+one_by (Facts n f) values positionals h =
+    ap (λ (k : ℕ). Facts k f) (one_number values n h.allowed)
+    ∙ ap (λ (ws : Words). Facts (pivots_by values) (first_of ws)) (sym h.one)
 
 -- words ask for one thing at most
 one_request : (words : Words) (r q : Request) → Asks words r → Asks words q → r ≡ q

@@ -2,7 +2,7 @@
 use Rattle.std.proofs.Common.{ℕ, [], ◌∷◌, Some, None, refl, arith, codes}
 use Rattle.asks.specs.Lines.{Word, Words, Apart, Joined, Positional, Gives}
 use Rattle.asks.specs.Numerals.{IsNumber}
-use Rattle.asks.specs.Requests.{Analyse, Prove, Check, Replay, Generate, Selfrun, Asks, AllowsPivots}
+use Rattle.asks.specs.Requests.{Analyse, Prove, Check, Replay, Generate, Selfrun, Facts, Asks, AllowsPivots}
 use Rattle.asks.specs.Worked.{CommandLines}
 use Rattle.asks.proofs.Firsts.{gives_of as line}
 
@@ -74,6 +74,18 @@ self_run others word n g h = record {
   parts = record { no_option = refl; word = word; one = refl; number = h };
 }
 
+-- what is written behind `facts`
+located : (others values : Words) (n : ℕ) (file : Word) → Gives others values (file ∷ []) → AllowsPivots values n
+    → Asks (codes "facts" ∷ others) (Facts n file)
+located others values n file g a = record {
+  others = others;
+  values = values;
+  positionals = file ∷ [];
+  command = refl;
+  gives = g;
+  parts = record { allowed = a; one = refl };
+}
+
 seventy : IsNumber 1000000 (codes "70") 70
 seventy = record { some = λ e. cc; digits = refl; plain = refl; value = refl; in_range = omega arith }
 
@@ -112,4 +124,6 @@ command_lines = record {
   generate = generated _ (codes "6") 6 (line (Positional (codes "6") ∷ []) None (refl, tt)) six;
   number_behind = generated _ (codes "0") 0 (line [] (Some (codes "0" ∷ [])) tt) no_loop;
   selfrun = self_run _ (codes "100") 100 (line (Positional (codes "100") ∷ []) None (refl, tt)) hundred;
+  facts = located _ [] 10000 (codes "p") (line (Positional (codes "p") ∷ []) None (refl, tt)) refl;
+  facts_within = located _ (codes "0" ∷ []) 0 (codes "-") (line (Apart (codes "0") ∷ Positional (codes "-") ∷ []) None (refl, (refl, tt))) zero;
 }

@@ -27,6 +27,11 @@ no_analysis : (others : Words) → ((values : Words) (n : ℕ) (file : Word) →
     → AsksNothing (codes "analyse" ∷ others)
 no_analysis others none = nothing commands.Analyse others (λ values positionals g h. none values _ _ (gives_along _ _ _ _ _ _ refl refl (sym h.one) g) h.allowed)
 
+-- so it is behind `facts`
+no_facts : (others : Words) → ((values : Words) (n : ℕ) (file : Word) → Gives others values (file ∷ []) → AllowsPivots values n → ⊥)
+    → AsksNothing (codes "facts" ∷ others)
+no_facts others none = nothing commands.Facts others (λ values positionals g h. none values _ _ (gives_along _ _ _ _ _ _ refl refl (sym h.one) g) h.allowed)
+
 -- and those behind another command where no two files without the option stand, or no number without it
 no_check : (others : Words) → ((first second : Word) → Gives others [] (first ∷ second ∷ []) → ⊥) → AsksNothing (codes "check" ∷ others)
 no_check others none = nothing commands.Check others (λ values positionals g h. none _ _ (gives_along _ _ _ _ _ _ refl (sym h.no_option) (sym h.two) g))
@@ -56,8 +61,9 @@ other_command = none_without_command _ (codes "Analyse") (codes "p" ∷ []) refl
     go commands.Replay e = omega (arith, ap (λ (w : Word). get_or w 0 0) e)
     go commands.Generate e = omega (arith, ap (λ (w : Word). get_or w 0 0) e)
     go commands.Selfrun e = omega (arith, ap (λ (w : Word). get_or w 0 0) e)
+    go commands.Facts e = omega (arith, ap (λ (w : Word). get_or w 0 0) e)
 
--- nor are `gen` and `analys`, which lack letters, nor an option
+-- nor are `gen`, `analys` and `fact`, which lack letters, nor an option
 shorter_command : AsksNothing (codes "gen" ∷ codes "1" ∷ [])
 shorter_command = none_without_command _ (codes "gen") (codes "1" ∷ []) refl go
   where
@@ -68,6 +74,7 @@ shorter_command = none_without_command _ (codes "gen") (codes "1" ∷ []) refl g
     go commands.Replay e = omega (arith, ap length e)
     go commands.Generate e = omega (arith, ap length e)
     go commands.Selfrun e = omega (arith, ap length e)
+    go commands.Facts e = omega (arith, ap length e)
 
 letter_missing : AsksNothing (codes "analys" ∷ codes "p" ∷ [])
 letter_missing = none_without_command _ (codes "analys") (codes "p" ∷ []) refl go
@@ -79,6 +86,19 @@ letter_missing = none_without_command _ (codes "analys") (codes "p" ∷ []) refl
     go commands.Replay e = omega (arith, ap (λ (w : Word). get_or w 0 0) e)
     go commands.Generate e = omega (arith, ap length e)
     go commands.Selfrun e = omega (arith, ap length e)
+    go commands.Facts e = omega (arith, ap length e)
+
+one_fact : AsksNothing (codes "fact" ∷ codes "p" ∷ [])
+one_fact = none_without_command _ (codes "fact") (codes "p" ∷ []) refl go
+  where
+    go : (c : Command) → codes "fact" ≢ word_of c
+    go commands.Analyse e = omega (arith, ap length e)
+    go commands.Prove e = omega (arith, ap length e)
+    go commands.Check e = omega (arith, ap length e)
+    go commands.Replay e = omega (arith, ap length e)
+    go commands.Generate e = omega (arith, ap length e)
+    go commands.Selfrun e = omega (arith, ap length e)
+    go commands.Facts e = omega (arith, ap length e)
 
 option_alone : AsksNothing (codes "--version" ∷ [])
 option_alone = none_without_command _ (codes "--version") [] refl go
@@ -90,6 +110,7 @@ option_alone = none_without_command _ (codes "--version") [] refl go
     go commands.Replay e = omega (arith, ap length e)
     go commands.Generate e = omega (arith, ap length e)
     go commands.Selfrun e = omega (arith, ap length e)
+    go commands.Facts e = omega (arith, ap length e)
 
 option_first : AsksNothing (codes "--pivots" ∷ codes "5" ∷ codes "analyse" ∷ codes "p" ∷ [])
 option_first = none_without_command _ (codes "--pivots") (codes "5" ∷ codes "analyse" ∷ codes "p" ∷ []) refl go
@@ -101,6 +122,7 @@ option_first = none_without_command _ (codes "--pivots") (codes "5" ∷ codes "a
     go commands.Replay e = omega (arith, ap (λ (w : Word). get_or w 0 0) e)
     go commands.Generate e = omega (arith, ap (λ (w : Word). get_or w 0 0) e)
     go commands.Selfrun e = omega (arith, ap (λ (w : Word). get_or w 0 0) e)
+    go commands.Facts e = omega (arith, ap (λ (w : Word). get_or w 0 0) e)
 
 no_file : (values : Words) (n : ℕ) (file : Word) → Gives [] values (file ∷ []) → AllowsPivots values n → ⊥
 no_file values n file g a = let e = (none_first values (file ∷ []) g).1 in cc
@@ -264,4 +286,7 @@ other_words = record {
   with_sign = no_figures (codes "+1" ∷ []) (λ word n g h. with_sign n (the_number (codes "+1") word n refl g h));
   no_digit = no_program ([] ∷ []) (λ word n g h. (the_number [] word n refl g h).some refl);
   option_of_number = no_figures (codes "--pivots" ∷ codes "5" ∷ codes "1" ∷ []) option_of_number;
+  facts_of_none = no_facts [] no_file;
+  facts_of_two = no_facts (codes "p" ∷ codes "p" ∷ []) two_files;
+  one_fact = one_fact;
 }

@@ -7,7 +7,8 @@ use Rattle.asks.specs.Numerals.{IsNumber}
 
 -- what can be asked for: the analysis of the program in a file, or the proofs of what it finds, with so many pivots for
 -- each linear program; that the proofs in the second file be checked against the program in the first, or that the run
--- in the second be replayed; the generated program of a number; or the figures of that program's analysis
+-- in the second be replayed; the generated program of a number; the figures of that program's analysis; or the facts
+-- that are kept at the locations of the program in a file, and its analysis with them, with so many pivots
 pub data Request : Type 0 where
   Analyse : ℕ → Word → Request
   Prove : ℕ → Word → Request
@@ -15,6 +16,7 @@ pub data Request : Type 0 where
   Replay : Word → Word → Request
   Generate : ℕ → Request
   Selfrun : ℕ → Request
+  Facts : ℕ → Word → Request
 
 -- the word of a command
 abbrev pub word_of : Command → Word
@@ -24,6 +26,7 @@ word_of commands.Check = codes "check"
 word_of commands.Replay = codes "replay"
 word_of commands.Generate = codes "generate"
 word_of commands.Selfrun = codes "selfrun"
+word_of commands.Facts = codes "facts"
 
 -- the command of a request
 abbrev pub command_of : Request → Command
@@ -33,6 +36,7 @@ command_of (Check file proof) = commands.Check
 command_of (Replay file run) = commands.Replay
 command_of (Generate n) = commands.Generate
 command_of (Selfrun n) = commands.Selfrun
+command_of (Facts pivots file) = commands.Facts
 
 -- so many pivots are allowed where the option isn't given
 abbrev pub default_pivots : ℕ
@@ -77,6 +81,7 @@ AsksWith (Check file proof) values positionals = AsksTwo values positionals file
 AsksWith (Replay file run) values positionals = AsksTwo values positionals file run
 AsksWith (Generate n) values positionals = AsksNumber values positionals n
 AsksWith (Selfrun n) values positionals = AsksNumber values positionals n
+AsksWith (Facts pivots file) values positionals = AsksProgram values positionals pivots file
 
 -- the words after the program's name ask for this: they are the word of its command, and behind it the values of the
 -- option and the positionals of the request, options before or after positionals

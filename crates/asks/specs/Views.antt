@@ -1,7 +1,7 @@
 -- What contracts see of the code's types: plain data.
 use Rattle.std.specs.Prelude.{string_bytes}
 use Rattle.asks.specs.declared.request.Request.{Request}
-use Rattle.asks.specs.declared.request.Request.TheVariants.{Analyse, Prove, Check, Replay, Generate, Selfrun}
+use Rattle.asks.specs.declared.request.Request.TheVariants.{Analyse, Prove, Check, Replay, Generate, Selfrun, Facts}
 use Rattle.asks.specs.Requests as requests
 
 -- a request as plain data
@@ -12,3 +12,4 @@ request_of (Check file proof) = requests.Check (string_bytes file) (string_bytes
 request_of (Replay file run) = requests.Replay (string_bytes file) (string_bytes run)
 request_of (Generate n) = requests.Generate n
 request_of (Selfrun n) = requests.Selfrun n
+request_of (Facts pivots file) = requests.Facts pivots (string_bytes file)

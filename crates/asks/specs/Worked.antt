@@ -1,7 +1,7 @@
 -- What words ask for, as it was worked out by hand.
 use Rattle.std.specs.Prelude.{[], ◌∷◌, codes}
 use Rattle.asks.specs.Lines.{Words}
-use Rattle.asks.specs.Requests.{Request, Analyse, Prove, Check, Replay, Generate, Selfrun, Asks}
+use Rattle.asks.specs.Requests.{Request, Analyse, Prove, Check, Replay, Generate, Selfrun, Facts, Asks}
 
 -- the words ask for nothing
 abbrev pub AsksNothing : Words → Type 0
@@ -24,6 +24,8 @@ pub record CommandLines : Type 0 where
   pub generate : Asks (codes "generate" ∷ codes "6" ∷ []) (Generate 6)
   pub number_behind : Asks (codes "generate" ∷ codes "--" ∷ codes "0" ∷ []) (Generate 0)
   pub selfrun : Asks (codes "selfrun" ∷ codes "100" ∷ []) (Selfrun 100)
+  pub facts : Asks (codes "facts" ∷ codes "p" ∷ []) (Facts 10000 (codes "p"))
+  pub facts_within : Asks (codes "facts" ∷ codes "--pivots" ∷ codes "0" ∷ codes "-" ∷ []) (Facts 0 (codes "-"))
 
 -- words that ask for nothing
 pub record OtherWords : Type 0 where
@@ -52,3 +54,6 @@ pub record OtherWords : Type 0 where
   pub with_sign : AsksNothing (codes "selfrun" ∷ codes "+1" ∷ [])
   pub no_digit : AsksNothing (codes "generate" ∷ [] ∷ [])
   pub option_of_number : AsksNothing (codes "selfrun" ∷ codes "--pivots" ∷ codes "5" ∷ codes "1" ∷ [])
+  pub facts_of_none : AsksNothing (codes "facts" ∷ [])
+  pub facts_of_two : AsksNothing (codes "facts" ∷ codes "p" ∷ codes "p" ∷ [])
+  pub one_fact : AsksNothing (codes "fact" ∷ codes "p" ∷ [])

@@ -20,6 +20,8 @@ pub(crate) enum Command {
     Generate,
     /// `selfrun`
     Selfrun,
+    /// `facts`
+    Facts,
 }
 
 /// The command that a word is.
@@ -38,6 +40,8 @@ pub(crate) fn named(word: &[u8]) -> Option<Command>
         Some(Command::Generate)
     } else if is_same(word, b"selfrun") {
         Some(Command::Selfrun)
+    } else if is_same(word, b"facts") {
+        Some(Command::Facts)
     } else {
         None
     }

@@ -28,6 +28,8 @@ pub enum Request {
     Generate { n: u32 },
     /// The figures of the analysis of the generated program of a number.
     Selfrun { n: u32 },
+    /// The facts that are kept at the locations of the program in a file, and its analysis with them.
+    Facts { pivots: u32, file: String },
 }
 
 /// What the words after the program's name ask for; none where they are no command line.
@@ -86,5 +88,9 @@ fn asked_by(command: Command, line: Line) -> Option<Request>
         Command::Selfrun => Some(Request::Selfrun {
             n: one_number(line)?,
         }),
+        Command::Facts => {
+            let OneFile { pivots, file } = one_file(line)?;
+            Some(Request::Facts { pivots, file })
+        }
     }
 }

@@ -5,6 +5,8 @@
 #[cfg(test)]
 mod answers;
 #[cfg(test)]
+mod facts;
+#[cfg(test)]
 mod processes;
 #[cfg(test)]
 mod programs;

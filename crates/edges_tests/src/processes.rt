@@ -12,6 +12,7 @@ const USAGE: &[u8] = b"usage: koat analyse [--pivots N] FILE
        koat replay FILE RUN
        koat generate N
        koat selfrun N
+       koat facts [--pivots N] FILE
 ";
 
 // Words as the system gives them, the program's name first.

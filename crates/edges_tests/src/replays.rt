@@ -6,8 +6,8 @@ use std::alloc::{AllocError, Global};
 use std::test::Fail;
 
 // A program that enters a loop and counts down in it; one of whose rules the second has no time; one that doubles its
-// second argument in a loop; one that squares its only argument; one with a free variable, and so without a limit on its
-// size; and one that subtracts.
+// second argument in a loop; one that counts this down then; one that squares its only argument; one with a free
+// variable, and so without a limit on its size; and one that subtracts.
 const COUNTING: &str =
     "(STARTTERM (FUNCTIONSYMBOLS l0))(RULES l0(A) -> Com_1(l1(A)) l1(A) -> Com_1(l1(A-1)) :|: A >= 1)";
 
@@ -16,6 +16,10 @@ const STAYING: &str =
 
 const DOUBLING: &str =
     "(STARTTERM (FUNCTIONSYMBOLS l0))(RULES l0(A,B) -> Com_1(l1(A,B)) l1(A,B) -> Com_1(l1(A-1,2*B)) :|: A >= 1)";
+
+const COUNTING_DOUBLED: &str =
+    "(STARTTERM (FUNCTIONSYMBOLS l0))(RULES l0(A,B) -> Com_1(l1(A,B)) l1(A,B) -> Com_1(l1(A-1,2*B)) :|: A >= 1
+  l1(A,B) -> Com_1(l2(B,B)) :|: A <= 0 l2(A,B) -> Com_1(l2(A-1,B)) :|: A >= 1)";
 
 const SQUARING: &str =
     "(STARTTERM (FUNCTIONSYMBOLS l0))(RULES l0(A) -> Com_1(l1(A*A)) l1(A) -> Com_1(l2(A*A)))";
@@ -66,6 +70,15 @@ const REPLAYS: &[(&str, &str, Status, &str)] = &[
          size 2.1: 199 of 200\nsize 2.2: 2 of 2^127 or more\n",
     ),
     (
+        COUNTING_DOUBLED,
+        "koat-run 1\nstart 200 1\nstep 1\nend\n",
+        Status::Done,
+        "steps 1\ntime 1: 1 of 1\ntime 2: 0 of 200\ntime 3: 0 of 1\ntime 4: 0 of 2^127 or more\n\
+         total: 1 of 2^127 or more\nsize 1.1: 200 of 200\nsize 1.2: 1 of 1\nsize 2.1: 0 of 200\n\
+         size 2.2: 0 of 2^127 or more\nsize 3.1: 0 of 2^127 or more\nsize 3.2: 0 of 2^127 or more\n\
+         size 4.1: 0 of 2^127 or more\nsize 4.2: 0 of 2^127 or more\n",
+    ),
+    (
         FREE,
         "koat-run 1\nstart 1\nstep 1 7\nend\n",
         Status::Done,
@@ -82,6 +95,12 @@ const REPLAYS: &[(&str, &str, Status, &str)] = &[
         "koat-run 1\nstart 3\nstep 2\nend\n",
         Status::NotARun,
         "not a run at step 1: wrong rule\n",
+    ),
+    (
+        GCD,
+        "koat-run 1\nstart 5 0\nstep 1\nend\n",
+        Status::NotARun,
+        "not a run at step 1: atom 2\n",
     ),
     (
         SQUARING,
@@ -229,22 +248,39 @@ fn either_file_may_be_missing(rt: HostRuntime) -> Result<(), Fail> {
     Ok(())
 }
 
-// One byte more than a run's text may have.
-#[test]
-fn a_run_may_be_too_long(rt: HostRuntime) -> Result<(), Fail> {
-    let alloc = rt.alloc();
+// How many blanks a run's file has, and the answer: as many as the text of a run may have, and one more.
+const BLANKS: &[(usize, &str)] = &[
+    (67_108_864, "run refused at 0: Syntax\n"),
+    (67_108_865, "run refused: too long\n"),
+];
+
+// Whether a run's file of so many blanks is answered otherwise.
+fn is_otherwise_refused(alloc: Global, count: usize, text: &str) -> Result<bool, AllocError> {
     let mut files = Vec::new(alloc);
     files.push(file(alloc, "p", COUNTING)?)?;
     files.push(Held {
         name: String::from_str(alloc, "r")?,
-        bytes: vec![in alloc; b' '; 67_108_865]?,
+        bytes: vec![in alloc; b' '; count]?,
     })?;
     let mut shelf = MemoryShelf::new(files, Vec::new(alloc));
     let mut sink = MemorySink::new(alloc, 999, Vec::new(alloc))?;
     let words = words_of(alloc, "p", "r")?;
-    let status = run(alloc, &words, &mut shelf, &mut sink);
-    assert!(rt;
-        status == Status::RunRefused && sink.bytes() == b"run refused: too long\n".as_slice()
-    );
+    Ok(
+        run(alloc, &words, &mut shelf, &mut sink) != Status::RunRefused
+            || sink.bytes() != text.as_bytes(),
+    )
+}
+
+#[test]
+fn a_run_may_be_too_long(rt: HostRuntime) -> Result<(), Fail> {
+    let alloc = rt.alloc();
+    let mut other = 0;
+    for (count, text) in BLANKS {
+        if is_otherwise_refused(alloc, *count, text)? {
+            println!(rt; "not {text}")?;
+            other += u64::from(other < 1000);
+        }
+    }
+    assert_eq!(rt; other, 0);
     Ok(())
 }

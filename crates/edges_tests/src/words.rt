@@ -63,6 +63,14 @@ const LINES: &[(&[&str], &str)] = &[
     (&["generate", "0"], "Some(Generate { n: 0 })"),
     (&["generate", "--", "5"], "Some(Generate { n: 5 })"),
     (&["selfrun", "100"], "Some(Selfrun { n: 100 })"),
+    (
+        &["facts", "p", "--pivots", "70"],
+        "Some(Facts { pivots: 70, file: \"p\" })",
+    ),
+    (
+        &["facts", "--", "-p"],
+        "Some(Facts { pivots: 10000, file: \"-p\" })",
+    ),
     (&[], "None"),
     (&["analyse"], "None"),
     (&["p"], "None"),
@@ -104,6 +112,10 @@ const LINES: &[(&[&str], &str)] = &[
     (&["generate", "1", "2"], "None"),
     (&["selfrun", "--pivots", "5", "1"], "None"),
     (&["selfrun", "1e1"], "None"),
+    (&["facts"], "None"),
+    (&["facts", "p", "q"], "None"),
+    (&["facts", "--pivots=1000001", "p"], "None"),
+    (&["fact", "p"], "None"),
 ];
 
 const ANALYSE_P: &str = "Some(Analyse { pivots: 10000, file: \"p\" })";

@@ -15,18 +15,21 @@ use Rattle.its_reader.specs.its_text.Spelling.{SpellsWithin}
 use Rattle.its_reader.specs.its_text.Answers.{verdict}
 use Rattle.outcome.specs.Reports.{Report, is_timed}
 use Rattle.time_bounds.specs.Analysis.{IsAnalysis}
-use Rattle.asks.specs.Requests.{Analyse}
+use Rattle.asks.specs.Lines.{Word}
+use Rattle.asks.specs.Requests.{Request, Analyse, Facts}
+use Rattle.location_facts.specs.declared.fact.LocFact.{LocFact}
+use Rattle.location_facts.specs.Strengthening.{strengthened}
 use Rattle.koat_cli.specs.declared.status.Status.{Status}
 use Rattle.koat_cli.specs.declared.status.Status.TheVariants.{Done, Unknown, Usage, ReadFault, WriteFault, Memory}
 use Rattle.koat_cli.specs.declared.status.Status.TheVariants.{ProgramRefused, ProofRefused, No, RunRefused, NotARun}
 use Rattle.koat_cli.specs.Calls.{Seen, Call, Put}
-use Rattle.koat_cli.specs.Outputs.{IsReportOf, status_of}
+use Rattle.koat_cli.specs.Outputs.{IsReportOf, IsFactsReportOf, status_of}
 use Rattle.koat_cli.specs.OnFiles.{program_limit, IsNoProgram, OnProgram, Unread, TooLong, Without, Of}
 use Rattle.koat_cli.specs.OnFiles as files
-use Rattle.koat_cli.specs.Answers.{Says}
+use Rattle.koat_cli.specs.Answers.{Answers}
 use Rattle.koat_cli.specs.Ends.{Ends}
 use Rattle.koat_cli.specs.Answering.{AsksOfHeld, FindsAllTimes, MissesTimes, SpellsOne, SpellsNone, IsStatusOfHeld}
-use Rattle.koat_cli.specs.Answering.{HeldFilesAreAnswered}
+use Rattle.koat_cli.specs.Answering.{FindsAllWithFacts, MissesWithFacts, AreAnswered, HeldFilesAreAnswered}
 use Rattle.koat_cli.proofs.OneRequest.{answer_of}
 use Rattle.koat_cli.proofs.Exclusions.{Determined}
 
@@ -84,16 +87,20 @@ not_both : (v : Bool) → IsTrue v → IsFalse v → ⊥
 not_both true yes_it_is no_it_isnt = let e : ◌≡◌ {A = Bool} true false = no_it_isnt in cc
 not_both false yes_it_is no_it_isnt = let e : ◌≡◌ {A = Bool} false true = yes_it_is in cc
 
--- of a report some rule has no time or every rule has one
-pub data Timing (p : Program) (pivots : ℕ) : Status → Type 0 where
-  AllTimed : FindsAllTimes p pivots → Timing p pivots Done
-  SomeUntimed : MissesTimes p pivots → Timing p pivots Unknown
+-- every rule has a time or some has none, as a status says: one thing is so with `Done`, and another with `Unknown`
+pub data Timing (A B : Type 0) : Status → Type 0 where
+  AllTimed : A → Timing A B Done
+  SomeUntimed : B → Timing A B Unknown
 
--- as its status says
-pub timing_of : (p : Program) (pivots : ℕ) (s : Status) (r : Report) → IsAnalysis p pivots r → s ≡ status_of r → Timing p pivots s
-timing_of p pivots s r found e = subst (λ (t : Status). Timing p pivots t) (sym e) (go (list_all is_timed r.times) refl)
+-- so it is of a program's analysis
+abbrev pub TimingOf : Program → ℕ → Status → Type 0
+TimingOf p pivots s = Timing (FindsAllTimes p pivots) (MissesTimes p pivots) s
+
+-- by the status of its report
+pub timing_of : (p : Program) (pivots : ℕ) (s : Status) (r : Report) → IsAnalysis p pivots r → s ≡ status_of r → TimingOf p pivots s
+timing_of p pivots s r found e = subst (λ (t : Status). TimingOf p pivots t) (sym e) (go (list_all is_timed r.times) refl)
   where
-    go : (v : Bool) → list_all is_timed r.times ≡ v → Timing p pivots (if v then Done else Unknown)
+    go : (v : Bool) → list_all is_timed r.times ≡ v → TimingOf p pivots (if v then Done else Unknown)
     go true h = AllTimed (record { report = r; found = found; all_timed = h })
     go false h = SomeUntimed (record { report = r; found = found; some_untimed = h })
 
@@ -104,77 +111,88 @@ timing_apart laws p pivots a b =
     (subst (λ (r : Report). IsTrue (list_all is_timed r.times)) (laws.reports.each p pivots a.report b.report a.found b.found) a.all_timed)
     b.some_untimed
 
--- what a status says of the bytes
-pub data Answered (bytes : List ℕ) (pivots : ℕ) : Status → Type 0 where
-  IsDone : SpellsOne bytes (λ p. FindsAllTimes p pivots) → Answered bytes pivots Done
-  IsUnknown : SpellsOne bytes (λ p. MissesTimes p pivots) → Answered bytes pivots Unknown
-  IsRefused : SpellsNone bytes → Answered bytes pivots ProgramRefused
+-- so it is of a program with facts
+facts_timing : (p : Program) (pivots : ℕ) (s : Status) (x : List ℕ) → IsFactsReportOf p pivots s x
+    → Timing (FindsAllWithFacts p pivots) (MissesWithFacts p pivots) s
+facts_timing p pivots s x h =
+    go s (timing_of (strengthened h.facts p) pivots s h.report h.found.found h.ends)
+  where
+    go : (t : Status) → TimingOf (strengthened h.facts p) pivots t
+        → Timing (FindsAllWithFacts p pivots) (MissesWithFacts p pivots) t
+    go t (AllTimed a) = AllTimed (record { facts = h.facts; kept = h.found.kept; holds = a })
+    go t (SomeUntimed a) = SomeUntimed (record { facts = h.facts; kept = h.found.kept; holds = a })
 
-module _ (laws : Determined) (bytes : List ℕ) (pivots : ℕ) where
-  -- not with a time for every rule and without one for some
-  timed_apart : SpellsOne bytes (λ p. FindsAllTimes p pivots) → SpellsOne bytes (λ p. MissesTimes p pivots) → ⊥
+facts_apart : Determined → (p : Program) (pivots : ℕ) → FindsAllWithFacts p pivots → MissesWithFacts p pivots → ⊥
+facts_apart laws p pivots a b =
+    let same : a.facts ≡ b.facts = laws.facts.kept p pivots a.facts b.facts a.kept b.kept in
+    timing_apart laws (strengthened b.facts p) pivots
+    (subst (λ (fs : List LocFact). FindsAllTimes (strengthened fs p) pivots) same a.holds) b.holds
+
+-- what a status says of the bytes, by what is so of the program that they spell
+pub data Answered (bytes : List ℕ) (A B : Program → Type 0) : Status → Type 0 where
+  IsDone : SpellsOne bytes A → Answered bytes A B Done
+  IsUnknown : SpellsOne bytes B → Answered bytes A B Unknown
+  IsRefused : SpellsNone bytes → Answered bytes A B ProgramRefused
+
+-- they don't spell a program where they spell none
+program_apart : (bytes : List ℕ) (Holds : Program → Type 0) → SpellsOne bytes Holds → SpellsNone bytes → ⊥
+program_apart bytes Holds a (inl more) = omega (arith, more, a.within)
+program_apart bytes Holds a (inr none) = none a.program a.spelled
+
+module _ (laws : Determined) (bytes : List ℕ) (A B : Program → Type 0) (apart : (p : Program) → A p → B p → ⊥) where
+  -- and not one with a time for every rule and one without one for some
+  timed_apart : SpellsOne bytes A → SpellsOne bytes B → ⊥
   timed_apart a b =
       let program : a.program ≡ b.program = laws.programs.each bytes a.program b.program a.spelled.spells b.spelled.spells in
-      timing_apart laws b.program pivots (subst (λ (p : Program). FindsAllTimes p pivots) program a.holds) b.holds
-
-  -- and no program where they spell none
-  program_apart : (Holds : Program → Type 0) → SpellsOne bytes Holds → SpellsNone bytes → ⊥
-  program_apart Holds a (inl more) = omega (arith, more, a.within)
-  program_apart Holds a (inr none) = none a.program a.spelled
+      apart b.program (subst A program a.holds) b.holds
 
   -- so each of three statuses comes only with what it says
-  only_done : (s : Status) → Answered bytes pivots s → (s ≡ Done) ↔ SpellsOne bytes (λ p. FindsAllTimes p pivots)
+  only_done : (s : Status) → Answered bytes A B s → (s ≡ Done) ↔ SpellsOne bytes A
   only_done s (IsDone a) = ((λ e. a), (λ h. refl))
   only_done s (IsUnknown a) = ((λ e. absurd (let no_way : ⊥ = cc in no_way)), (λ h. absurd (timed_apart h a)))
   only_done s (IsRefused a) =
-      ((λ e. absurd (let no_way : ⊥ = cc in no_way)), (λ h. absurd (program_apart (λ p. FindsAllTimes p pivots) h a)))
+      ((λ e. absurd (let no_way : ⊥ = cc in no_way)), (λ h. absurd (program_apart bytes A h a)))
 
-  only_unknown : (s : Status) → Answered bytes pivots s → (s ≡ Unknown) ↔ SpellsOne bytes (λ p. MissesTimes p pivots)
+  only_unknown : (s : Status) → Answered bytes A B s → (s ≡ Unknown) ↔ SpellsOne bytes B
   only_unknown s (IsDone a) = ((λ e. absurd (let no_way : ⊥ = cc in no_way)), (λ h. absurd (timed_apart a h)))
   only_unknown s (IsUnknown a) = ((λ e. a), (λ h. refl))
   only_unknown s (IsRefused a) =
-      ((λ e. absurd (let no_way : ⊥ = cc in no_way)), (λ h. absurd (program_apart (λ p. MissesTimes p pivots) h a)))
+      ((λ e. absurd (let no_way : ⊥ = cc in no_way)), (λ h. absurd (program_apart bytes B h a)))
 
-  only_refused : (s : Status) → Answered bytes pivots s → (s ≡ ProgramRefused) ↔ SpellsNone bytes
+  only_refused : (s : Status) → Answered bytes A B s → (s ≡ ProgramRefused) ↔ SpellsNone bytes
   only_refused s (IsDone a) =
-      ((λ e. absurd (let no_way : ⊥ = cc in no_way)), (λ h. absurd (program_apart (λ p. FindsAllTimes p pivots) a h)))
+      ((λ e. absurd (let no_way : ⊥ = cc in no_way)), (λ h. absurd (program_apart bytes A a h)))
   only_refused s (IsUnknown a) =
-      ((λ e. absurd (let no_way : ⊥ = cc in no_way)), (λ h. absurd (program_apart (λ p. MissesTimes p pivots) a h)))
+      ((λ e. absurd (let no_way : ⊥ = cc in no_way)), (λ h. absurd (program_apart bytes B a h)))
   only_refused s (IsRefused a) = ((λ e. a), (λ h. refl))
 
-  -- a program whose analysis was said says it with its status
-  of_timing : (s : Status) (p : Program) → length bytes ≤ program_limit → SpellsWithin bytes p → Timing p pivots s
-      → Answered bytes pivots s
+  -- a program of which something was said says it with its status
+  of_timing : (s : Status) (p : Program) → length bytes ≤ program_limit → SpellsWithin bytes p → Timing (A p) (B p) s
+      → Answered bytes A B s
   of_timing s p within spelled (AllTimed h) = IsDone (record { within = within; program = p; spelled = spelled; holds = h })
   of_timing s p within spelled (SomeUntimed h) = IsUnknown (record { within = within; program = p; spelled = spelled; holds = h })
 
-  module _ (call : Call) (put : Put) (h : AsksOfHeld call put bytes pivots) where
-    -- the bytes that were fetched are those that are held
-    fetched_held : (given : List ℕ) → IsHeld call.shelf.held h.file given → given ≡ bytes
-    fetched_held given is = same_held call.shelf.held h.file bytes given h.held is
-
+  module _ (call : Call) (put : Put) (request : Word → Request) (h : AsksOfHeld call put bytes request)
+      (Out : Program → Status → List ℕ → Type 0) (out_timing : (p : Program) (s : Status) (x : List ℕ) → Out p s x → Timing (A p) (B p) s)
+      (answers : (s : Status) (x : List ℕ) → Answers call.shelf (request h.file) s x → OnProgram call.shelf h.file Out s x) where
     -- what is answered of the file says something of its bytes
-    of_file : (s : Status) (x : List ℕ) → OnProgram call.shelf h.file (λ p. IsReportOf p pivots) s x → Answered bytes pivots s
+    of_file : (s : Status) (x : List ℕ) → OnProgram call.shelf h.file Out s x → Answered bytes A B s
     of_file s x (Without a) =
         let refused = refused_for_none laws call.shelf h.file bytes s x h.held h.no_read_fault a in
-        subst (λ (t : Status). Answered bytes pivots t) (sym refused.0) (IsRefused refused.1)
+        subst (λ (t : Status). Answered bytes A B t) (sym refused.0) (IsRefused refused.1)
     of_file s x (Of a) =
-        let same : a.given.bytes ≡ bytes = fetched_held a.given.bytes a.given.fetched.held in
+        let same : a.given.bytes ≡ bytes = same_held call.shelf.held h.file bytes a.given.bytes h.held a.given.fetched.held in
         of_timing s a.program (subst (λ (b : List ℕ). length b ≤ program_limit) same a.given.fetched.within)
-        (subst (λ (b : List ℕ). SpellsWithin b a.program) same a.given.spelled)
-        (timing_of a.program pivots s a.said.report a.said.found.found a.said.ends)
+        (subst (λ (b : List ℕ). SpellsWithin b a.program) same a.given.spelled) (out_timing a.program s x a.said)
 
     -- so does a status that isn't that of a fault or of want of memory
-    of_text : (s : Status) (x : List ℕ) → Says call s x → Answered bytes pivots s
-    of_text s x said = of_file s x (answer_of call (Analyse pivots h.file) s x h.asked said)
-
-    answered : (s : Status) → Ends s call put → s ≢ Memory → Answered bytes pivots s
+    answered : (s : Status) → Ends s call put → s ≢ Memory → Answered bytes A B s
     answered s ends memory =
         let wrote = ends.wrote (λ e. h.no_write_fault (ends.write_fault e).fault) memory in
-        of_text s wrote.text wrote.says
+        of_file s wrote.text (answers s wrote.text (answer_of call (request h.file) s wrote.text h.asked wrote.says))
 
     -- and these are three
-    few_answered : (s : Status) → Answered bytes pivots s → IsStatusOfHeld s
+    few_answered : (s : Status) → Answered bytes A B s → IsStatusOfHeld s
     few_answered s (IsDone a) = tt
     few_answered s (IsUnknown a) = tt
     few_answered s (IsRefused a) = tt
@@ -193,14 +211,30 @@ module _ (laws : Determined) (bytes : List ℕ) (pivots : ℕ) where
     few RunRefused ends = few_answered RunRefused (answered RunRefused ends (λ e. let no_way : ⊥ = cc in no_way))
     few NotARun ends = few_answered NotARun (answered NotARun ends (λ e. let no_way : ⊥ = cc in no_way))
 
+-- so calls are answered that ask for something of a program, where what is answered tells of two things that exclude each
+-- other
+are_answered : Determined → (A B : Program → Type 0) → ((p : Program) → A p → B p → ⊥) → (request : Word → Request)
+    → (Out : Program → Status → List ℕ → Type 0) → ((p : Program) (s : Status) (x : List ℕ) → Out p s x → Timing (A p) (B p) s)
+    → ((seen : Seen) (f : Word) (s : Status) (x : List ℕ) → Answers seen (request f) s x → OnProgram seen f Out s x)
+    → AreAnswered request A B
+are_answered laws A B apart request Out timing answers = record {
+  few = λ call put bytes s h ends.
+      few laws bytes A B apart call put request h Out timing (answers call.shelf h.file) s ends;
+  done = λ call put bytes s h ends memory.
+      only_done laws bytes A B apart s (answered laws bytes A B apart call put request h Out timing (answers call.shelf h.file) s ends memory);
+  unknown = λ call put bytes s h ends memory.
+      only_unknown laws bytes A B apart s (answered laws bytes A B apart call put request h Out timing (answers call.shelf h.file) s ends memory);
+  refused = λ call put bytes s h ends memory.
+      only_refused laws bytes A B apart s (answered laws bytes A B apart call put request h Out timing (answers call.shelf h.file) s ends memory);
+}
+
 -- the law
 pub held_files_answered : Determined → HeldFilesAreAnswered
 held_files_answered laws = record {
-  few = λ call put bytes pivots s h ends. few laws bytes pivots call put h s ends;
-  done = λ call put bytes pivots s h ends memory.
-      only_done laws bytes pivots s (answered laws bytes pivots call put h s ends memory);
-  unknown = λ call put bytes pivots s h ends memory.
-      only_unknown laws bytes pivots s (answered laws bytes pivots call put h s ends memory);
-  refused = λ call put bytes pivots s h ends memory.
-      only_refused laws bytes pivots s (answered laws bytes pivots call put h s ends memory);
+  analyses = λ pivots.
+      are_answered laws (λ p. FindsAllTimes p pivots) (λ p. MissesTimes p pivots) (λ p. timing_apart laws p pivots) (Analyse pivots)
+      (λ p. IsReportOf p pivots) (λ p s x h. timing_of p pivots s h.report h.found.found h.ends) (λ seen f s x h. h);
+  with_facts = λ pivots.
+      are_answered laws (λ p. FindsAllWithFacts p pivots) (λ p. MissesWithFacts p pivots) (λ p. facts_apart laws p pivots) (Facts pivots)
+      (λ p. IsFactsReportOf p pivots) (λ p s x h. facts_timing p pivots s x h) (λ seen f s x h. h);
 }

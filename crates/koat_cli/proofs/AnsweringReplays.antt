@@ -61,7 +61,7 @@ module _ (laws : Determined) (bytes run_bytes : List ℕ) where
   bad_none : SpellsOne bytes (λ p. HasRun run_bytes p (HasBadStep p)) → SpellsOne bytes (HasNoRun run_bytes) → ⊥
   bad_none = apart_of (λ p. HasRun run_bytes p (HasBadStep p)) (HasNoRun run_bytes) (run_apart HasBadStep)
 
-  no_program : (A : Program → Type 0) → SpellsOne bytes A → SpellsNone bytes → ⊥
+  pub no_program : (A : Program → Type 0) → SpellsOne bytes A → SpellsNone bytes → ⊥
   no_program A a (inl more) = omega (arith, more, a.within)
   no_program A a (inr none) = none a.program a.spelled
 

@@ -1,5 +1,5 @@
 -- One answer fits a call, where the shelf tells what it holds.
-use Rattle.std.proofs.Common.{◌≡◌, ◌≢◌, ℕ, ◌≤◌, ◌<◌, List, length, Option, Some, None, IsSome, refl, sym, ◌∙◌}
+use Rattle.std.proofs.Common.{◌≡◌, ℕ, ◌≤◌, ◌<◌, List, length, Option, Some, None, IsSome, refl, sym, ◌∙◌}
 use Rattle.std.proofs.Common.{ap, subst, inl, inr, arith, true, false, Bool, cond, nat_lt}
 use Rattle.std.proofs.lemmas.Bool.Decides.{nat_tests}
 use Rattle.std.proofs.lemmas.List.{length-map}
@@ -17,7 +17,12 @@ use Rattle.its_reader.specs.its_text.Answers.{verdict}
 use Rattle.its_reader.specs.its_text.Verdicts.{VerdictsAreSpelled}
 use Rattle.its_writer.specs.Generated.{generated}
 use Rattle.asks.specs.Lines.{Word}
-use Rattle.asks.specs.Requests.{Request, Analyse, Prove, Check, Replay, Generate, Selfrun, Asks, default_pivots}
+use Rattle.asks.specs.Requests.{Request, Analyse, Prove, Check, Replay, Generate, Selfrun, Facts, Asks}
+use Rattle.asks.specs.Requests.{default_pivots}
+use Rattle.location_facts.specs.declared.fact.LocFact.{LocFact}
+use Rattle.location_facts.specs.Laws.{KeptFactsAreOne}
+use Rattle.facts_report.specs.FactTexts.{text_with_facts}
+use Rattle.facts_report.specs.WithFacts.{ReportsWithFactsAreOne}
 use Rattle.outcome.specs.Reports.{Report}
 use Rattle.outcome.specs.Views.{report_of}
 use Rattle.outcome.specs.proof_tree.Views.{proof_of}
@@ -34,7 +39,8 @@ use Rattle.koat_cli.specs.Report.{read_fault_text, too_long_text, refusal_text}
 use Rattle.koat_cli.specs.Figures.{text_of_figures}
 use Rattle.koat_cli.specs.Calls.{Seen, Call}
 use Rattle.koat_cli.specs.OnTexts.{OnText, OnProgramFirst, NoProgram, Behind}
-use Rattle.koat_cli.specs.Outputs.{IsReportOf, IsReplayOf, Tallied, NoRun, IsSummaryOf, status_of}
+use Rattle.koat_cli.specs.Outputs.{IsReportOf, IsReplayOf, Tallied, NoRun, IsSummaryOf, IsFactsReportOf}
+use Rattle.koat_cli.specs.Outputs.{status_of}
 use Rattle.koat_cli.specs.ReplayTexts.{text_of_replay}
 use Rattle.koat_cli.specs.RunTexts.{runs, bad_step_text}
 use Rattle.koat_cli.specs.OnFiles.{program_limit, OnProgram, Unread, TooLong, Refused, Without, Of}
@@ -45,11 +51,14 @@ use Rattle.koat_cli.proofs.TextExclusions.{one_of_text, run_texts_decided}
 use Rattle.koat_cli.proofs.OneRequest.{answer_of, usage_not_there, not_there_usage}
 
 -- the laws on which this rests: a text spells one program, and is read as it exactly where it spells it within the
--- limits, an analysis has one outcome, and steps are a run in range or have one first bad step
+-- limits, an analysis has one outcome, one list of facts is kept, and one report found with it, and steps are a run in
+-- range or have one first bad step
 pub record Determined : Type 0 where
   pub programs : OneProgram
   pub verdicts : VerdictsAreSpelled
   pub reports : AnalysesAreOne
+  pub facts : KeptFactsAreOne
+  pub finds : ReportsWithFactsAreOne
   pub replays : ReplaysAreDecided
 
 -- what a file comes to: it is lacking, too long, refused for a fault, or read as a program
@@ -136,6 +145,17 @@ one_report laws p n s t x y a b =
       a.stated.text_of ∙ (ap (λ (r : Report). text_of_report p r) same ∙ sym b.stated.text_of),
     )
 
+-- so are two lists of facts with reports, and the texts that tell them
+one_facts_report : Determined → (p : Program) (n : ℕ) (s t : Status) (x y : List ℕ) → IsFactsReportOf p n s x
+    → IsFactsReportOf p n t y → (s ≡ t) × (x ≡ y)
+one_facts_report laws p n s t x y a b =
+    let one = laws.finds.each p n a.facts b.facts a.report b.report a.found b.found in (
+      a.ends ∙ (ap (λ (r : Report). status_of r) one.report_same ∙ sym b.ends),
+      a.told
+          ∙ (ap (λ (fs : List LocFact). text_with_facts p fs a.report) one.facts_same
+          ∙ (ap (λ (r : Report). text_with_facts p b.facts r) one.report_same ∙ sym b.told)),
+    )
+
 -- so are the statuses and the texts of two summaries, since an analysis has one list of lemmas
 one_summary : Determined → (p : Program) (s t : Status) (x y : List ℕ) → IsSummaryOf p s x → IsSummaryOf p t y
     → (s ≡ t) × (x ≡ y)
@@ -175,6 +195,7 @@ one_without laws seen (Check f q) s t x y none a b = (a.ends ∙ sym b.ends, a.t
 one_without laws seen (Replay f q) s t x y none a b = absurd (none tt)
 one_without laws seen (Generate n) s t x y none a b = (a.ends ∙ sym b.ends, a.told ∙ sym b.told)
 one_without laws seen (Selfrun n) s t x y none a b = one_summary laws (generated n) s t x y a b
+one_without laws seen (Facts n f) s t x y none a b = absurd (none tt)
 
 -- so has each, where the shelf tells what it holds
 one_answer : Determined → (seen : Seen) (files : Files) → seen.held ≡ Some files → (r : Request) (s t : Status) (x y : List ℕ)
@@ -194,6 +215,10 @@ one_answer laws seen files e (Replay f q) s t x y ls lt a b =
     (first_tells out s x laws seen files f e (λ h. ls h f) a) (first_tells out t y laws seen files f e (λ h. lt h f) b)
 one_answer laws seen files e (Generate n) s t x y ls lt a b = one_without laws seen (Generate n) s t x y (λ no. no) a b
 one_answer laws seen files e (Selfrun n) s t x y ls lt a b = one_without laws seen (Selfrun n) s t x y (λ no. no) a b
+one_answer laws seen files e (Facts n f) s t x y ls lt a b =
+    one_told (λ p. IsFactsReportOf p n) s t x y (λ p. one_facts_report laws p n s t x y) (file_of (get files f))
+    (file_tells (λ p. IsFactsReportOf p n) s x laws seen files f e (λ h. ls h f) a)
+    (file_tells (λ p. IsFactsReportOf p n) t y laws seen files f e (λ h. lt h f) b)
 
 -- so has a call, where the request that its words ask for has
 one_said : (call : Call) (s t : Status) (x y : List ℕ)

@@ -13,10 +13,12 @@ pub mod Exclusions
 pub mod DeterminedCalls
 pub mod Answering
 pub mod AnsweringReplays
+pub mod MissingFiles
 pub mod NumbersAnswered
 pub mod WorkedEnds
 pub mod WorkedAnswers
 pub mod WorkedReplayTexts
+pub mod WorkedMissingFiles
 pub mod LinesBeside
 pub mod AbsoluteValues
 pub mod AnalysisTexts

@@ -11,7 +11,7 @@ use Rattle.koat_cli.specs.Ends.{WroteWhole}
 use Rattle.koat_cli.specs.Answering.{EndsWell, FindsAllTimes, MissesTimes, NumbersAreAnswered}
 use Rattle.koat_cli.proofs.OneRequest.{answer_of, not_there_usage, usage_for_nothing}
 use Rattle.koat_cli.proofs.Exclusions.{Determined}
-use Rattle.koat_cli.proofs.Answering.{Timing, AllTimed, SomeUntimed, timing_of, timing_apart}
+use Rattle.koat_cli.proofs.Answering.{TimingOf, AllTimed, SomeUntimed, timing_of, timing_apart}
 
 -- a call that ends well wrote its text
 wrote : (call : Call) (put : Put) (s : Status) → EndsWell s call put → WroteWhole s call put
@@ -38,23 +38,23 @@ program call put n s asked h =
 
 -- figures are written with the status that says whether every rule has a time
 timing : (call : Call) (put : Put) (n : ℕ) (s : Status) → Asks call.words (Selfrun n) → EndsWell s call put
-    → Timing (generated n) default_pivots s
+    → TimingOf (generated n) default_pivots s
 timing call put n s asked h =
     let w = wrote call put s h in
     let answer = answer_of call (Selfrun n) s w.text asked w.says in
     timing_of (generated n) default_pivots s (report_of answer.outcome) answer.found.found answer.ends
 
-few : (n : ℕ) (s : Status) → Timing (generated n) default_pivots s → (s ≡ Done) ⊎ (s ≡ Unknown)
+few : (n : ℕ) (s : Status) → TimingOf (generated n) default_pivots s → (s ≡ Done) ⊎ (s ≡ Unknown)
 few n s (AllTimed h) = inl refl
 few n s (SomeUntimed h) = inr refl
 
-done : Determined → (n : ℕ) (s : Status) → Timing (generated n) default_pivots s
+done : Determined → (n : ℕ) (s : Status) → TimingOf (generated n) default_pivots s
     → (s ≡ Done) ↔ FindsAllTimes (generated n) default_pivots
 done laws n s (AllTimed h) = ((λ e. h), (λ g. refl))
 done laws n s (SomeUntimed h) =
     ((λ e. absurd (let no_way : ⊥ = cc in no_way)), (λ g. absurd (timing_apart laws (generated n) default_pivots g h)))
 
-unknown : Determined → (n : ℕ) (s : Status) → Timing (generated n) default_pivots s
+unknown : Determined → (n : ℕ) (s : Status) → TimingOf (generated n) default_pivots s
     → (s ≡ Unknown) ↔ MissesTimes (generated n) default_pivots
 unknown laws n s (AllTimed h) =
     ((λ e. absurd (let no_way : ⊥ = cc in no_way)), (λ g. absurd (timing_apart laws (generated n) default_pivots h g)))

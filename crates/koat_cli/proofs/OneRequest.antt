@@ -1,12 +1,12 @@
 -- A call answers its one request, and what that says of its status.
-use Rattle.std.proofs.Common.{◌≡◌, ◌≢◌, ◌⊎◌, ℕ, Bool, true, false, if◌then◌else◌, List, IsTrue, IsFalse, refl, sym, ◌∙◌, inl, inr}
+use Rattle.std.proofs.Common.{◌≡◌, ◌≢◌, ℕ, Bool, true, false, if◌then◌else◌, List, IsTrue, IsFalse, refl, sym, ◌∙◌, inl, inr}
 use Rattle.std.proofs.Common.{subst}
 use Rattle.std.specs.Prelude.{⊤}
 use Rattle.std.specs.List.{list_all}
 use Rattle.std.specs.Io.KnownBytes.{Appends}
 use Rattle.outside_io.specs.Fetching.{MayFail}
 use Rattle.asks.specs.Lines.{Word}
-use Rattle.asks.specs.Requests.{Request, Analyse, Prove, Check, Replay, Generate, Selfrun, Asks}
+use Rattle.asks.specs.Requests.{Request, Analyse, Prove, Check, Replay, Generate, Selfrun, Facts, Asks}
 use Rattle.asks.proofs.OneWay.{read_in_one_way}
 use Rattle.outcome.specs.Reports.{Report, is_timed}
 use Rattle.outcome.specs.Views.{report_of}
@@ -17,11 +17,11 @@ use Rattle.koat_cli.specs.declared.status.Status.TheVariants.{Done, Unknown, Usa
 use Rattle.koat_cli.specs.declared.status.Status.TheVariants.{ProgramRefused, ProofRefused, No, RunRefused, NotARun}
 use Rattle.koat_cli.specs.Calls.{Seen, Call, Put}
 use Rattle.koat_cli.specs.Report.{usage_text}
-use Rattle.koat_cli.specs.Outputs.{IsReportOf, status_of}
+use Rattle.koat_cli.specs.Outputs.{IsReportOf, IsFactsReportOf, status_of}
 use Rattle.koat_cli.specs.OnFiles.{IsNoProgram, IsOfProgram, OnProgram, Unread, TooLong, Refused, Without, Of}
 use Rattle.koat_cli.specs.Answers.{IsThere, AsksForNothingThere, Answers, Says, ToNothing, ToRequest}
-use Rattle.koat_cli.specs.Ends.{Ends, WroteReport, WroteRefusal, IsFirstFile, MayMiss, WroteTally, WroteBadStep}
-use Rattle.koat_cli.specs.Ends.{WroteRunRefusal, IsStatusThere, Means}
+use Rattle.koat_cli.specs.Ends.{Ends, WroteReport, WroteFacts, WroteRefusal, IsFirstFile, MayMiss, WroteTally}
+use Rattle.koat_cli.specs.Ends.{WroteBadStep, WroteRunRefusal, IsStatusThere, TellsOfTimes, Means}
 use Rattle.koat_cli.proofs.ReplayStatuses.{Tells, replay_tells}
 use Rattle.koat_cli.proofs.Sayings.{of_other_answer, says_there}
 use Rattle.its_reader.proofs.its_text.ValidPrograms.{spelled_valid}
@@ -96,6 +96,8 @@ usage_not_there seen (Check f q) x h there = there
 usage_not_there seen (Replay f q) x h there = replay_tells seen f q Usage x h
 usage_not_there seen (Generate n) x h there = let e : Usage ≡ Done = h.ends in cc
 usage_not_there seen (Selfrun n) x h there = never_usage (report_of h.outcome) h.ends
+usage_not_there seen (Facts n f) x (Without h) there = no_usage seen f x h
+usage_not_there seen (Facts n f) x (Of h) there = never_usage h.said.report h.said.ends
 
 pub not_there_usage : (seen : Seen) (r : Request) (s : Status) (x : List ℕ) → ¬ (IsThere r) → Answers seen r s x → s ≡ Usage
 not_there_usage seen (Analyse n f) s x none h = absurd (none tt)
@@ -104,6 +106,7 @@ not_there_usage seen (Check f q) s x none h = h.ends
 not_there_usage seen (Replay f q) s x none h = absurd (none tt)
 not_there_usage seen (Generate n) s x none h = absurd (none tt)
 not_there_usage seen (Selfrun n) s x none h = absurd (none tt)
+not_there_usage seen (Facts n f) s x none h = absurd (none tt)
 
 -- where a call answers with the status of the usage text, nothing that is there is asked for
 pub usage_for_nothing : (call : Call) (x : List ℕ) → Says call Usage x → AsksForNothingThere call.words
@@ -118,25 +121,26 @@ usage_told seen (Check f q) x h = h.told
 usage_told seen (Replay f q) x h = absurd (replay_tells seen f q Usage x h)
 usage_told seen (Generate n) x h = absurd (let e : Usage ≡ Done = h.ends in let no_way : ⊥ = cc in no_way)
 usage_told seen (Selfrun n) x h = absurd (never_usage (report_of h.outcome) h.ends)
+usage_told seen (Facts n f) x (Without h) = absurd (no_usage seen f x h)
+usage_told seen (Facts n f) x (Of h) = absurd (never_usage h.said.report h.said.ends)
 
 pub usage_says : (call : Call) (x : List ℕ) → Says call Usage x → x ≡ usage_text
 usage_says call x (ToNothing none h) = h.told
 usage_says call x (ToRequest r asked h) = usage_told call.shelf r x h
 
 -- a time that is unknown is one of a program that is analysed
-unknown_asks : (call : Call) (r : Request) (x : List ℕ) → Asks call.words r → Answers call.shelf r Unknown x
-    → ((pivots : ℕ) × ((file : Word) × Asks call.words (Analyse pivots file))) ⊎ ((n : ℕ) × Asks call.words (Selfrun n))
-unknown_asks call (Analyse n f) x asked h = inl (n, (f, asked))
-unknown_asks call (Prove n f) x asked h = absurd (let e : Unknown ≡ Usage = h.ends in let no_way : ⊥ = cc in no_way)
-unknown_asks call (Check f q) x asked h = absurd (let e : Unknown ≡ Usage = h.ends in let no_way : ⊥ = cc in no_way)
-unknown_asks call (Replay f q) x asked h = absurd (replay_tells call.shelf f q Unknown x h)
-unknown_asks call (Generate n) x asked h = absurd (let e : Unknown ≡ Done = h.ends in let no_way : ⊥ = cc in no_way)
-unknown_asks call (Selfrun n) x asked h = inr (n, asked)
+unknown_asks : (seen : Seen) (r : Request) (x : List ℕ) → Answers seen r Unknown x → TellsOfTimes r
+unknown_asks seen (Analyse n f) x h = tt
+unknown_asks seen (Prove n f) x h = let e : Unknown ≡ Usage = h.ends in let no_way : ⊥ = cc in no_way
+unknown_asks seen (Check f q) x h = let e : Unknown ≡ Usage = h.ends in let no_way : ⊥ = cc in no_way
+unknown_asks seen (Replay f q) x h = replay_tells seen f q Unknown x h
+unknown_asks seen (Generate n) x h = let e : Unknown ≡ Done = h.ends in let no_way : ⊥ = cc in no_way
+unknown_asks seen (Selfrun n) x h = tt
+unknown_asks seen (Facts n f) x h = tt
 
-unknown_said : (call : Call) (x : List ℕ) → Says call Unknown x
-    → ((pivots : ℕ) × ((file : Word) × Asks call.words (Analyse pivots file))) ⊎ ((n : ℕ) × Asks call.words (Selfrun n))
+unknown_said : (call : Call) (x : List ℕ) → Says call Unknown x → (r : Request) × Asks call.words r × TellsOfTimes r
 unknown_said call x (ToNothing none h) = absurd (let e : Unknown ≡ Usage = h.ends in let no_way : ⊥ = cc in no_way)
-unknown_said call x (ToRequest r asked h) = unknown_asks call r x asked h
+unknown_said call x (ToRequest r asked h) = (r, asked, unknown_asks call.shelf r x h)
 
 -- a fault of reading is that of a file that is fetched for the words
 no_other_fault : (seen : Seen) (file : Word) (x : List ℕ) → IsNoProgram seen file ReadFault x
@@ -165,6 +169,17 @@ fault_of call (Replay f q) x asked h =
     (told.0, record { request = Replay f q; asked = asked; named = told.1; fetched = told.2; fault = told.3 })
 fault_of call (Generate n) x asked h = absurd (let e : ReadFault ≡ Done = h.ends in let no_way : ⊥ = cc in no_way)
 fault_of call (Selfrun n) x asked h = absurd (never_read_fault (report_of h.outcome) h.ends)
+fault_of call (Facts n f) x asked (Without h) = (
+  f,
+  record {
+    request = Facts n f;
+    asked = asked;
+    named = inl refl;
+    fetched = inl refl;
+    fault = no_other_fault call.shelf f x h;
+  },
+)
+fault_of call (Facts n f) x asked (Of h) = absurd (never_read_fault h.said.report h.said.ends)
 
 pub fault_said : (call : Call) (x : List ℕ) → Says call ReadFault x → (file : Word) × MayMiss call file
 fault_said call x (ToNothing none h) = absurd (let e : ReadFault ≡ Usage = h.ends in let no_way : ⊥ = cc in no_way)
@@ -186,6 +201,12 @@ refused_of call put (Replay f q) x asked h a =
     (Replay f q, (f, asked, refl, record { text = x; refused = replay_tells call.shelf f q ProgramRefused x h; appended = a }))
 refused_of call put (Generate n) x asked h a = absurd (let e : ProgramRefused ≡ Done = h.ends in let no_way : ⊥ = cc in no_way)
 refused_of call put (Selfrun n) x asked h a = absurd (never_refused (report_of h.outcome) h.ends)
+refused_of call put (Facts n f) x asked (Without (Unread h)) a = absurd (let e : ProgramRefused ≡ ReadFault = h.ends in let no_way : ⊥ = cc in no_way)
+refused_of call put (Facts n f) x asked (Without (TooLong h)) a =
+    (Facts n f, (f, asked, refl, record { text = x; refused = inl h; appended = a }))
+refused_of call put (Facts n f) x asked (Without (Refused h)) a =
+    (Facts n f, (f, asked, refl, record { text = x; refused = inr h; appended = a }))
+refused_of call put (Facts n f) x asked (Of h) a = absurd (never_refused h.said.report h.said.ends)
 
 refused_said : (call : Call) (put : Put) (x : List ℕ) → Says call ProgramRefused x → Appends put.written_before put.written_after x
     → (request : Request) × ((file : Word) × Asks call.words request × IsFirstFile request file × WroteRefusal call put file)
@@ -219,6 +240,7 @@ runs_of call (Check f p) s x run asked h = absurd (run (no_run call.shelf (Check
 runs_of call (Replay f q) s x run asked h = (f, (q, asked, replay_tells call.shelf f q s x h))
 runs_of call (Generate n) s x run asked h = absurd (run (no_run call.shelf (Generate n) s x (λ g q e. cc) h))
 runs_of call (Selfrun n) s x run asked h = absurd (run (no_run call.shelf (Selfrun n) s x (λ g q e. cc) h))
+runs_of call (Facts n f) s x run asked h = absurd (run (no_run call.shelf (Facts n f) s x (λ g q e. cc) h))
 
 runs_said : (call : Call) (s : Status) (x : List ℕ) → (s ≡ Usage → ⊥) → (IsNotOfRuns s → ⊥) → Says call s x
     → (f : Word) × ((q : Word) × Asks call.words (Replay f q) × Tells call.shelf f q s x)
@@ -310,6 +332,34 @@ unknown_wrote : (call : Call) (put : Put) (n : ℕ) (f : Word) (x : List ℕ) �
 unknown_wrote call put n f x (Without h) a = absurd (no_unknown call.shelf f x h)
 unknown_wrote call put n f x (Of h) a = (h.said.report, written call put n f Unknown x h a, untimed_where_unknown h.said.report h.said.ends)
 
+-- so were facts with such a report
+facts_written : (call : Call) (put : Put) (n : ℕ) (f : Word) (s : Status) (x : List ℕ)
+    → (h : IsOfProgram call.shelf f (λ p. IsFactsReportOf p n) s x) → Appends put.written_before put.written_after x
+    → WroteFacts call put n f h.said.report
+facts_written call put n f s x h a = record {
+  program = h.program;
+  given = h.given;
+  facts = h.said.facts;
+  found = h.said.found;
+  text = x;
+  told = h.said.told;
+  appended = a;
+}
+
+facts_done : (call : Call) (put : Put) (n : ℕ) (f : Word) (x : List ℕ)
+    → OnProgram call.shelf f (λ p. IsFactsReportOf p n) Done x → Appends put.written_before put.written_after x
+    → (report : Report) × WroteFacts call put n f report × IsTrue (list_all is_timed report.times)
+facts_done call put n f x (Without h) a = absurd (no_done call.shelf f x h)
+facts_done call put n f x (Of h) a =
+    (h.said.report, facts_written call put n f Done x h a, timed_where_done h.said.report h.said.ends)
+
+facts_unknown : (call : Call) (put : Put) (n : ℕ) (f : Word) (x : List ℕ)
+    → OnProgram call.shelf f (λ p. IsFactsReportOf p n) Unknown x → Appends put.written_before put.written_after x
+    → (report : Report) × WroteFacts call put n f report × IsFalse (list_all is_timed report.times)
+facts_unknown call put n f x (Without h) a = absurd (no_unknown call.shelf f x h)
+facts_unknown call put n f x (Of h) a =
+    (h.said.report, facts_written call put n f Unknown x h a, untimed_where_unknown h.said.report h.said.ends)
+
 -- statuses that differ
 done_whole : (s : Status) → s ≡ Done → (s ≢ WriteFault) × (s ≢ Memory)
 done_whole s e = ((λ f. let g : Done ≡ WriteFault = sym e ∙ f in cc), (λ f. let g : Done ≡ Memory = sym e ∙ f in cc))
@@ -366,6 +416,16 @@ ends_mean law s call put ends = record {
       let wrote = ends.wrote whole.0 whole.1 in
       unknown_wrote call put n f wrote.text
       (answer_of call (Analyse n f) Unknown wrote.text asked (subst (λ (t : Status). Says call t wrote.text) e wrote.says)) wrote.appended;
+  done_with_facts = λ n f asked e.
+      let whole = done_whole s e in
+      let wrote = ends.wrote whole.0 whole.1 in
+      facts_done call put n f wrote.text
+      (answer_of call (Facts n f) Done wrote.text asked (subst (λ (t : Status). Says call t wrote.text) e wrote.says)) wrote.appended;
+  unknown_with_facts = λ n f asked e.
+      let whole = unknown_whole s e in
+      let wrote = ends.wrote whole.0 whole.1 in
+      facts_unknown call put n f wrote.text
+      (answer_of call (Facts n f) Unknown wrote.text asked (subst (λ (t : Status). Says call t wrote.text) e wrote.says)) wrote.appended;
   replayed = λ f q asked e.
       let whole = done_whole s e in
       let wrote = ends.wrote whole.0 whole.1 in

@@ -22,7 +22,7 @@ use Rattle.koat_cli.specs.declared.status.Status.{Status}
 use Rattle.koat_cli.specs.declared.status.Status.TheVariants.{Done, Unknown, Usage, ReadFault, WriteFault, Memory}
 use Rattle.koat_cli.specs.declared.status.Status.TheVariants.{ProgramRefused, ProofRefused, No, RunRefused, NotARun}
 use Rattle.asks.specs.Lines.{Word}
-use Rattle.asks.specs.Requests.{Request, Analyse, Prove, Check, Replay, Generate, Selfrun}
+use Rattle.asks.specs.Requests.{Request, Analyse, Prove, Check, Replay, Generate, Selfrun, Facts}
 use Rattle.koat_cli.specs.Calls.{Seen, Call}
 use Rattle.koat_cli.specs.Report.{refusal_text}
 use Rattle.koat_cli.specs.Outputs.{status_of}
@@ -122,6 +122,8 @@ module _ (Holds : Status → Type 0) (done : Holds Done) (unknown : Holds Unknow
   of_other_answer seen (Replay f q) s x other h = absurd (other f q refl)
   of_other_answer seen (Generate n) s x other h = subst Holds (sym h.ends) done
   of_other_answer seen (Selfrun n) s x other h = subst Holds (sym h.ends) (of_report (report_of h.outcome))
+  of_other_answer seen (Facts n f) s x other (files.Without h) = of_no_program seen f s x h
+  of_other_answer seen (Facts n f) s x other (files.Of h) = subst Holds (sym h.said.ends) (of_report h.said.report)
 
   -- and, with two more, of each with which a replay is
   of_replay : Holds RunRefused → Holds NotARun → (seen : Seen) (f q : Word) (s : Status) (x : List ℕ) → Tells seen f q s x
@@ -146,6 +148,7 @@ module _ (Holds : Status → Type 0) (done : Holds Done) (unknown : Holds Unknow
   of_answer run_refused not_a_run seen (Replay f q) s x h = of_replay run_refused not_a_run seen f q s x (replay_tells seen f q s x h)
   of_answer run_refused not_a_run seen (Generate n) s x h = of_other_answer seen (Generate n) s x (λ g q e. cc) h
   of_answer run_refused not_a_run seen (Selfrun n) s x h = of_other_answer seen (Selfrun n) s x (λ g q e. cc) h
+  of_answer run_refused not_a_run seen (Facts n f) s x h = of_other_answer seen (Facts n f) s x (λ g q e. cc) h
 
   -- so of each with which a call answers
   pub of_says : Holds RunRefused → Holds NotARun → (call : Call) (s : Status) (x : List ℕ) → Says call s x → Holds s

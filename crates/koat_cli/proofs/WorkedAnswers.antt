@@ -6,7 +6,7 @@ use Rattle.its_writer.specs.Texts.{canonical_text}
 use Rattle.its_writer.proofs.GeneratedWithin.{generated_spelled}
 use Rattle.asks.specs.Lines.{Words, Positional}
 use Rattle.asks.specs.Numerals.{IsNumber}
-use Rattle.asks.specs.Requests.{Analyse, Prove, Replay, Generate, Selfrun, Asks}
+use Rattle.asks.specs.Requests.{Analyse, Prove, Replay, Generate, Selfrun, Facts, Asks}
 use Rattle.asks.proofs.Firsts.{gives_of}
 use Rattle.asks.proofs.WorkedLines.{command_lines}
 use Rattle.outcome.specs.Views.{report_of}
@@ -92,6 +92,11 @@ analyse seen text said =
     usage_not_there seen (Analyse 10000 (codes "p")) text
     (answer_of (call_with (codes "analyse" ∷ codes "p" ∷ []) seen) (Analyse 10000 (codes "p")) Usage text command_lines.file_alone said) tt
 
+facts : (seen : Seen) (text : List ℕ) → ¬ (Answered (codes "facts" ∷ codes "p" ∷ []) seen Usage text)
+facts seen text said =
+    usage_not_there seen (Facts 10000 (codes "p")) text
+    (answer_of (call_with (codes "facts" ∷ codes "p" ∷ []) seen) (Facts 10000 (codes "p")) Usage text command_lines.facts said) tt
+
 -- what is answered to a replay
 replay_answered : (seen : Seen) (status : Status) (text : List ℕ)
     → Answered (codes "replay" ∷ codes "p" ∷ codes "--" ∷ codes "-q" ∷ []) seen status text
@@ -122,6 +127,7 @@ answers_worked = record {
   prove = prove;
   prove_alone = prove_alone;
   analyse = analyse;
+  facts = facts;
   replay = replay;
   replay_known = replay_known;
   selfrun = selfrun;

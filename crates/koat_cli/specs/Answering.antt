@@ -7,7 +7,10 @@ use Rattle.model.specs.Programs.{Program}
 use Rattle.its_reader.specs.its_text.Spelling.{SpellsWithin}
 use Rattle.its_writer.specs.Generated.{generated}
 use Rattle.asks.specs.Lines.{Word}
-use Rattle.asks.specs.Requests.{Analyse, Generate, Selfrun, Asks, default_pivots}
+use Rattle.asks.specs.Requests.{Request, Analyse, Generate, Selfrun, Facts, Asks, default_pivots}
+use Rattle.location_facts.specs.declared.fact.LocFact.{LocFact}
+use Rattle.location_facts.specs.Kept.{AreKept}
+use Rattle.location_facts.specs.Strengthening.{strengthened}
 use Rattle.outcome.specs.Reports.{Report, is_timed}
 use Rattle.time_bounds.specs.Analysis.{IsAnalysis}
 use Rattle.koat_cli.specs.declared.status.Status.{Status}
@@ -18,11 +21,11 @@ use Rattle.koat_cli.specs.OnFiles.{program_limit}
 use Rattle.koat_cli.specs.Answers.{AsksForNothingThere}
 use Rattle.koat_cli.specs.Ends.{Ends}
 
--- the words ask for an analysis with so many pivots, the shelf tells that it holds the file that they name, with these
--- bytes, and neither the shelf's nor the sink's count of faults rises
-pub record AsksOfHeld (call : Call) (put : Put) (bytes : List ℕ) (pivots : ℕ) : Type 0 where
+-- the words ask so of a file, the shelf tells that it holds the file, with these bytes, and neither the shelf's nor the
+-- sink's count of faults rises
+pub record AsksOfHeld (call : Call) (put : Put) (bytes : List ℕ) (request : Word → Request) : Type 0 where
   pub file : Word
-  pub asked : Asks call.words (Analyse pivots file)
+  pub asked : Asks call.words (request file)
   pub held : IsSomeAnd call.shelf.held (λ files. get files file ≡ Some bytes)
   pub no_read_fault : ¬ (Rose call.shelf.faults_before call.shelf.faults_after)
   pub no_write_fault : ¬ (Rose put.faults_before put.faults_after)
@@ -39,6 +42,19 @@ pub record MissesTimes (program : Program) (pivots : ℕ) : Type 0 where
   pub found : IsAnalysis program pivots report
   pub some_untimed : IsFalse (list_all is_timed report.times)
 
+-- of the program that its kept facts strengthen this is so
+pub record WithKeptFacts (Holds : Program → Type 0) (program : Program) (pivots : ℕ) : Type 0 where
+  pub facts : List LocFact
+  pub kept : AreKept program pivots facts
+  pub holds : Holds (strengthened facts program)
+
+-- in the report with facts every rule has a time, or some has none
+abbrev pub FindsAllWithFacts : Program → ℕ → Type 0
+FindsAllWithFacts p pivots = WithKeptFacts (λ q. FindsAllTimes q pivots) p pivots
+
+abbrev pub MissesWithFacts : Program → ℕ → Type 0
+MissesWithFacts p pivots = WithKeptFacts (λ q. MissesTimes q pivots) p pivots
+
 -- the bytes aren't too many and spell a program within the limits, of which this holds
 pub record SpellsOne (bytes : List ℕ) (Holds : Program → Type 0) : Type 0 where
   pub within : length bytes ≤ program_limit
@@ -50,7 +66,7 @@ pub record SpellsOne (bytes : List ℕ) (Holds : Program → Type 0) : Type 0 wh
 abbrev pub SpellsNone : List ℕ → Type 0
 SpellsNone bytes = (program_limit < length bytes) ⊎ ((p : Program) → ¬ (SpellsWithin bytes p))
 
--- the statuses with which a call can end that asks for the analysis of a file that is held
+-- the statuses with which a call can end that asks for a report on a file that is held
 abbrev pub IsStatusOfHeld : Status → Type 0
 IsStatusOfHeld Done = ⊤
 IsStatusOfHeld Unknown = ⊤
@@ -64,18 +80,27 @@ IsStatusOfHeld No = ⊥
 IsStatusOfHeld RunRefused = ⊥
 IsStatusOfHeld NotARun = ⊥
 
--- however a call ends that asks for the analysis of a file that is held, it ends with one of four statuses; and want of
--- memory aside, the status is `Done` exactly where the analysis of the program has a time for every rule, `Unknown`
--- exactly where it has none for some, and `ProgramRefused` exactly where there is no such program
-pub record HeldFilesAreAnswered : Type 0 where
-  pub few : (call : Call) (put : Put) (bytes : List ℕ) (pivots : ℕ) (s : Status) → AsksOfHeld call put bytes pivots
+-- however a call ends that asks so of a file that is held, it ends with one of four statuses; and want of memory aside,
+-- the status is `Done` exactly where the file spells a program that finds all times, `Unknown` exactly where it spells
+-- one that misses some, and `ProgramRefused` exactly where it spells none
+pub record AreAnswered (request : Word → Request) (FindsAll Misses : Program → Type 0) : Type 0 where
+  pub few : (call : Call) (put : Put) (bytes : List ℕ) (s : Status) → AsksOfHeld call put bytes request
       → Ends s call put → IsStatusOfHeld s
-  pub done : (call : Call) (put : Put) (bytes : List ℕ) (pivots : ℕ) (s : Status) → AsksOfHeld call put bytes pivots
-      → Ends s call put → s ≢ Memory → (s ≡ Done) ↔ SpellsOne bytes (λ p. FindsAllTimes p pivots)
-  pub unknown : (call : Call) (put : Put) (bytes : List ℕ) (pivots : ℕ) (s : Status) → AsksOfHeld call put bytes pivots
-      → Ends s call put → s ≢ Memory → (s ≡ Unknown) ↔ SpellsOne bytes (λ p. MissesTimes p pivots)
-  pub refused : (call : Call) (put : Put) (bytes : List ℕ) (pivots : ℕ) (s : Status) → AsksOfHeld call put bytes pivots
+  pub done : (call : Call) (put : Put) (bytes : List ℕ) (s : Status) → AsksOfHeld call put bytes request
+      → Ends s call put → s ≢ Memory → (s ≡ Done) ↔ SpellsOne bytes FindsAll
+  pub unknown : (call : Call) (put : Put) (bytes : List ℕ) (s : Status) → AsksOfHeld call put bytes request
+      → Ends s call put → s ≢ Memory → (s ≡ Unknown) ↔ SpellsOne bytes Misses
+  pub refused : (call : Call) (put : Put) (bytes : List ℕ) (s : Status) → AsksOfHeld call put bytes request
       → Ends s call put → s ≢ Memory → (s ≡ ProgramRefused) ↔ SpellsNone bytes
+
+-- so it is of calls that ask for the analysis of a file, by the times that the program's analysis finds; and of those
+-- that ask for it with the facts at locations, by the times that are found of the program that its kept facts
+-- strengthen
+pub record HeldFilesAreAnswered : Type 0 where
+  pub analyses : (pivots : ℕ)
+      → AreAnswered (Analyse pivots) (λ p. FindsAllTimes p pivots) (λ p. MissesTimes p pivots)
+  pub with_facts : (pivots : ℕ)
+      → AreAnswered (Facts pivots) (λ p. FindsAllWithFacts p pivots) (λ p. MissesWithFacts p pivots)
 
 -- a call ends so, neither with the status of a fault of the sink nor for want of memory
 pub record EndsWell (status : Status) (call : Call) (put : Put) : Type 0 where

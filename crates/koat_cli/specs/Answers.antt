@@ -2,12 +2,12 @@
 use Rattle.std.specs.Prelude.{List, ℕ, ⊤}
 use Rattle.its_writer.specs.Generated.{generated}
 use Rattle.asks.specs.Lines.{Words}
-use Rattle.asks.specs.Requests.{Request, Analyse, Prove, Check, Replay, Generate, Selfrun, Asks}
+use Rattle.asks.specs.Requests.{Request, Analyse, Prove, Check, Replay, Generate, Selfrun, Facts, Asks}
 use Rattle.koat_cli.specs.declared.status.Status.{Status}
 use Rattle.koat_cli.specs.Calls.{Seen, Call}
 use Rattle.koat_cli.specs.OnFiles.{OnProgram}
 use Rattle.koat_cli.specs.OnTexts.{OnText, OnProgramFirst}
-use Rattle.koat_cli.specs.Outputs.{IsReportOf, IsReplayOf, IsGenerated, IsSummaryOf, IsUsage}
+use Rattle.koat_cli.specs.Outputs.{IsReportOf, IsReplayOf, IsGenerated, IsSummaryOf, IsFactsReportOf, IsUsage}
 use Rattle.koat_cli.specs.RunTexts.{runs}
 
 -- what is answered of a request; `prove` and `check` aren't there
@@ -19,6 +19,8 @@ Answers seen (Replay file run) status text =
     OnProgramFirst seen file (λ program. OnText (runs program) seen run (IsReplayOf program)) status text
 Answers seen (Generate n) status text = IsGenerated n status text
 Answers seen (Selfrun n) status text = IsSummaryOf (generated n) status text
+Answers seen (Facts pivots file) status text =
+    OnProgram seen file (λ program. IsFactsReportOf program pivots) status text
 
 -- there is a command for this request
 abbrev pub IsThere : Request → Type 0
@@ -28,6 +30,7 @@ IsThere (Check file proof) = ⊥
 IsThere (Replay file run) = ⊤
 IsThere (Generate n) = ⊤
 IsThere (Selfrun n) = ⊤
+IsThere (Facts pivots file) = ⊤
 
 -- a file is fetched for this request
 abbrev pub FetchesFile : Request → Type 0
@@ -37,6 +40,7 @@ FetchesFile (Check file proof) = ⊥
 FetchesFile (Replay file run) = ⊤
 FetchesFile (Generate n) = ⊥
 FetchesFile (Selfrun n) = ⊥
+FetchesFile (Facts pivots file) = ⊤
 
 -- the words are no command line
 abbrev pub AsksForNothing : Words → Type 0

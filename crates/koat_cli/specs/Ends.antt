@@ -8,9 +8,12 @@ use Rattle.outside_io.specs.Putting.{AppendsPrefix}
 use Rattle.model.specs.Programs.{Program}
 use Rattle.model.specs.Runs.{sizes_of_start}
 use Rattle.asks.specs.Lines.{Word}
-use Rattle.asks.specs.Requests.{Request, Analyse, Prove, Check, Replay, Generate, Selfrun, Asks}
+use Rattle.asks.specs.Requests.{Request, Analyse, Prove, Check, Replay, Generate, Selfrun, Facts, Asks}
 use Rattle.outcome.specs.Reports.{Report, is_timed}
+use Rattle.location_facts.specs.declared.fact.LocFact.{LocFact}
 use Rattle.report_text.specs.States.{States}
+use Rattle.facts_report.specs.FactTexts.{text_with_facts}
+use Rattle.facts_report.specs.WithFacts.{IsFoundWithFacts}
 use Rattle.run_replay.specs.ReplayAnswers.{last_first}
 use Rattle.run_replay.specs.Replays.{tally_along}
 use Rattle.run_replay.specs.Runs.{Run}
@@ -75,6 +78,18 @@ pub record WroteReport (call : Call) (put : Put) (pivots : ℕ) (file : Word) (r
   pub stated : States program text report
   pub appended : Appends put.written_before put.written_after text
 
+-- the file spells a program within the limits, and a text was appended, whole, that tells the facts that are kept at
+-- its locations, and behind them the report of the program that they strengthen; each of these facts holds on every run
+-- of the program, from any integers and by any choice of rules, and so does every bound in the report
+pub record WroteFacts (call : Call) (put : Put) (pivots : ℕ) (file : Word) (report : Report) : Type 0 where
+  pub program : Program
+  pub given : GivesProgram call.shelf file program
+  pub facts : List LocFact
+  pub found : IsFoundWithFacts program pivots facts report
+  pub text : List ℕ
+  pub told : text ≡ text_with_facts program facts report
+  pub appended : Appends put.written_before put.written_after text
+
 -- a text was appended, whole, that refuses the file: as too long, or for what stands first against its bytes
 pub record WroteRefusal (call : Call) (put : Put) (file : Word) : Type 0 where
   pub text : List ℕ
@@ -90,6 +105,7 @@ IsFirstFile (Check file proof) f = ⊥
 IsFirstFile (Replay file run) f = f ≡ file
 IsFirstFile (Generate n) f = ⊥
 IsFirstFile (Selfrun n) f = ⊥
+IsFirstFile (Facts pivots file) f = f ≡ file
 
 abbrev pub IsSecondFile : Request → Word → Type 0
 IsSecondFile (Analyse pivots file) f = ⊥
@@ -98,6 +114,7 @@ IsSecondFile (Check file proof) f = ⊥
 IsSecondFile (Replay file run) f = f ≡ run
 IsSecondFile (Generate n) f = ⊥
 IsSecondFile (Selfrun n) f = ⊥
+IsSecondFile (Facts pivots file) f = ⊥
 
 -- the first file of a request gave a program
 pub record FirstGave (seen : Seen) (request : Request) : Type 0 where
@@ -165,23 +182,36 @@ IsStatusThere No = ⊥
 IsStatusThere RunRefused = ⊤
 IsStatusThere NotARun = ⊤
 
+-- the answer to this request tells of the rules of a program whether each has a time
+abbrev pub TellsOfTimes : Request → Type 0
+TellsOfTimes (Analyse pivots file) = ⊤
+TellsOfTimes (Prove pivots file) = ⊥
+TellsOfTimes (Check file proof) = ⊥
+TellsOfTimes (Replay file run) = ⊥
+TellsOfTimes (Generate n) = ⊥
+TellsOfTimes (Selfrun n) = ⊤
+TellsOfTimes (Facts pivots file) = ⊤
+
 -- what statuses mean: where `analyse` ends with `Done`, such a report was written, in which every rule has a time, and
--- where it ends with `Unknown`, one in which some rule has none; where `replay` ends with `Done`, the tally along the
--- run was written beside the bounds. With `Unknown` a call ends only where its words ask for `analyse` or `selfrun`.
--- With `Usage` a call ends only where its words ask for nothing that is there, and the usage text was written; with
--- `ReadFault` only where a file may fail that is fetched for its words; with `ProgramRefused` only where a text was
--- written that refuses the first file; with `RunRefused` and `NotARun` only where its words ask for a replay, and a text
--- was written that refuses the second file, or that tells the first bad step of the run; and no status comes of which
--- nothing is said
+-- where it ends with `Unknown`, one in which some rule has none; so it is with `facts` and such facts with a report;
+-- where `replay` ends with `Done`, the tally along the run was written beside the bounds. With `Unknown` a call ends
+-- only where its words ask for something that tells of times: `analyse`, `facts` or `selfrun`. With `Usage` a call ends
+-- only where its words ask for nothing that is there, and the usage text was written; with `ReadFault` only where a
+-- file may fail that is fetched for its words; with `ProgramRefused` only where a text was written that refuses the
+-- first file; with `RunRefused` and `NotARun` only where its words ask for a replay, and a text was written that
+-- refuses the second file, or that tells the first bad step of the run; and no status comes of which nothing is said
 pub record Means (status : Status) (call : Call) (put : Put) : Type 0 where
   pub done : (pivots : ℕ) (file : Word) → Asks call.words (Analyse pivots file) → status ≡ Done
       → (report : Report) × WroteReport call put pivots file report × IsTrue (list_all is_timed report.times)
   pub unknown : (pivots : ℕ) (file : Word) → Asks call.words (Analyse pivots file) → status ≡ Unknown
       → (report : Report) × WroteReport call put pivots file report × IsFalse (list_all is_timed report.times)
+  pub done_with_facts : (pivots : ℕ) (file : Word) → Asks call.words (Facts pivots file) → status ≡ Done
+      → (report : Report) × WroteFacts call put pivots file report × IsTrue (list_all is_timed report.times)
+  pub unknown_with_facts : (pivots : ℕ) (file : Word) → Asks call.words (Facts pivots file) → status ≡ Unknown
+      → (report : Report) × WroteFacts call put pivots file report × IsFalse (list_all is_timed report.times)
   pub replayed : (file run : Word) → Asks call.words (Replay file run) → status ≡ Done
       → WroteTally call put file run
-  pub unknown_of : status ≡ Unknown → ((pivots : ℕ) × ((file : Word) × Asks call.words (Analyse pivots file)))
-      ⊎ ((n : ℕ) × Asks call.words (Selfrun n))
+  pub unknown_of : status ≡ Unknown → (request : Request) × Asks call.words request × TellsOfTimes request
   pub usage : status ≡ Usage
       → AsksForNothingThere call.words × (Appends put.written_before put.written_after usage_text)
   pub read_fault : status ≡ ReadFault → (file : Word) × MayMiss call file

@@ -15,10 +15,12 @@ pub mod Processes
 pub mod Exclusion
 pub mod Answering
 pub mod AnsweringReplays
+pub mod MissingFiles
 pub mod AnalysisTexts
 -- values that were worked out by hand
 pub mod WorkedEnds
 pub mod WorkedAnswers
 pub mod WorkedReplayTexts
+pub mod WorkedMissingFiles
 -- what the contracts of the functions inside cite
 pub mod Steps

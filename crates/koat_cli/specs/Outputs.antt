@@ -6,12 +6,15 @@ use Rattle.model.specs.Runs.{sizes_of_start}
 use Rattle.its_reader.specs.its_text.Spelling.{SpellsWithin}
 use Rattle.its_writer.specs.Generated.{generated}
 use Rattle.its_writer.specs.Texts.{canonical_text}
+use Rattle.location_facts.specs.declared.fact.LocFact.{LocFact}
 use Rattle.asks.specs.Requests.{default_pivots}
 use Rattle.outcome.specs.declared.outcome_of.Outcome.{Outcome}
 use Rattle.outcome.specs.Reports.{Report, is_timed}
 use Rattle.outcome.specs.Holding.{IsReportOn, ReportHolds}
 use Rattle.outcome.specs.Views.{report_of}
 use Rattle.report_text.specs.States.{States}
+use Rattle.facts_report.specs.FactTexts.{text_with_facts}
+use Rattle.facts_report.specs.WithFacts.{IsFoundWithFacts}
 use Rattle.run_replay.specs.ReplayAnswers.{last_first}
 use Rattle.run_replay.specs.Replays.{IsRunInRange, BadStep, IsFirstBadStep, tally_along}
 use Rattle.run_replay.specs.Runs.{Run}
@@ -83,6 +86,15 @@ pub record IsBadStepOf (program : Program) (run : Run) (status : Status) (text :
 pub data IsReplayOf (program : Program) (run : Run) (status : Status) (text : List ℕ) : Type 0 where
   Tallied : IsTallyOf program run status text → IsReplayOf program run status text
   NoRun : IsBadStepOf program run status text → IsReplayOf program run status text
+
+-- `facts`: the text tells the facts that are kept within so many pivots, which hold on every run of the program, and
+-- behind them the report of the program that they strengthen, of which every bound holds on every run of the program
+pub record IsFactsReportOf (program : Program) (pivots : ℕ) (status : Status) (text : List ℕ) : Type 0 where
+  pub facts : List LocFact
+  pub report : Report
+  pub found : IsFoundWithFacts program pivots facts report
+  pub told : text ≡ text_with_facts program facts report
+  pub ends : status ≡ status_of report
 
 -- what words get that ask for nothing that is there: the usage text
 pub record IsUsage (status : Status) (text : List ℕ) : Type 0 where

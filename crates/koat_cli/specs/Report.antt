@@ -13,7 +13,7 @@ use Rattle.its_reader.specs.its_text.Kinds.{Disjunction}
 abbrev pub usage_text : List ℕ
 usage_text =
     codes "usage: koat analyse [--pivots N] FILE\n       koat replay FILE RUN\n"
-    ++ codes "       koat generate N\n       koat selfrun N\n"
+    ++ codes "       koat generate N\n       koat selfrun N\n       koat facts [--pivots N] FILE\n"
 
 -- the text where a file can't be had
 abbrev pub read_fault_text : List ℕ

@@ -35,7 +35,7 @@ abbrev pub Answered : Words → Seen → Status → List ℕ → Type 0
 Answered words seen status text = Says (record { words = words; shelf = seen }) status text
 
 -- whatever a call sees of the shelf: `generate 0` is answered with `Done` and the program's text, neither with
--- `Unknown` nor with the usage text; `prove p` with `Usage` alone; `analyse p` never with `Usage`; `replay p -- -q`
+-- `Unknown` nor with the usage text; `prove p` with `Usage` alone; `analyse p` and `facts p` never; `replay p -- -q`
 -- neither with `Usage` nor with `Unknown`; and `selfrun 0` never with a fault of reading
 pub record AnswersAreWorkedOut : Type 0 where
   pub generate : (seen : Seen)
@@ -48,6 +48,7 @@ pub record AnswersAreWorkedOut : Type 0 where
   pub prove_alone : (seen : Seen) (status : Status) (text : List ℕ)
       → Answered (codes "prove" ∷ codes "p" ∷ []) seen status text → status ≡ Usage
   pub analyse : (seen : Seen) (text : List ℕ) → ¬ (Answered (codes "analyse" ∷ codes "p" ∷ []) seen Usage text)
+  pub facts : (seen : Seen) (text : List ℕ) → ¬ (Answered (codes "facts" ∷ codes "p" ∷ []) seen Usage text)
   pub replay : (seen : Seen) (text : List ℕ)
       → ¬ (Answered (codes "replay" ∷ codes "p" ∷ codes "--" ∷ codes "-q" ∷ []) seen Usage text)
   pub replay_known : (seen : Seen) (text : List ℕ)

@@ -1,4 +1,4 @@
-//! The analysis of a program, and its status.
+//! The analysis of a program, with facts at its locations or without, and its status.
 
 ghost use Rattle.std.specs.Prelude.{◌≡◌, if◌then◌else◌, IfOk};
 ghost use Rattle.std.specs.List.{list_all};
@@ -6,7 +6,7 @@ ghost use Rattle.its_model.specs.Valid.{IsValid};
 ghost use Rattle.its_model.specs.Views.{program_of};
 ghost use Rattle.outcome.specs.Views.{report_of};
 ghost use Rattle.report_text.specs.Conditions.{is_known};
-ghost use Rattle.koat_cli.specs.Outputs.{IsReportOf, status_of as status_of_report};
+ghost use Rattle.koat_cli.specs.Outputs.{IsReportOf, IsFactsReportOf, status_of as status_of_report};
 
 use crate::status::Status;
 use crate::status_text::StatusText;
@@ -26,6 +26,25 @@ pub(crate) fn report(alloc: Global, program: &Program, pivots: u32) -> Result<St
     let text = print(alloc, program, &found)?;
     Ok(StatusText {
         status: status_of(&found),
+        text,
+    })
+}
+
+/// The facts that are kept at the locations of a program, and the report of the program that they strengthen, with so
+/// many pivots for each linear program.
+pub(crate) fn report_with_facts(
+    alloc: Global,
+    program: &Program,
+    pivots: u32,
+) -> Result<StatusText, Memory>
+    requires { IsValid (program_of program.now) }
+    ensures { IfOk result (λ said.
+        IsFactsReportOf (program_of program.now) pivots said.status said.text.items) }
+{
+    let found = facts_report::analyse(alloc, program, pivots)?;
+    let text = facts_report::print(alloc, program, &found)?;
+    Ok(StatusText {
+        status: status_of(&found.outcome),
         text,
     })
 }

@@ -1,12 +1,14 @@
 //! The program's top call, from the words of the command line to the status. Its contract is the theorem: after status
-//! 0 of `analyse` the report on the sink is true on every run of the program that the file spells, and after status 0
-//! of `replay` each number of the tally on the sink is at most the value of the bound beside it.
+//! 0 of `analyse` the report on the sink is true on every run of the program that the file spells, after status 0 of
+//! `facts` so are the facts and the report, and after status 0 of `replay` each number of the tally on the sink is at
+//! most the value of the bound beside it.
 #![tactic(auto)]
 
 mod analysis;
 mod figures;
 mod generated;
 mod law;
+mod missing_files;
 mod preparation;
 mod program;
 mod program_file;
@@ -25,6 +27,7 @@ pub use law::{
     numbers_are_answered, replays_are_answered, worked_answers_hold, worked_ends_hold,
     worked_replay_texts_hold,
 };
+pub use missing_files::{missing_files_are_told, worked_missing_files_hold};
 pub use program::run_program;
 pub use report_text::print as print_report;
 pub use status::Status;

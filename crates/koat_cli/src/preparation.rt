@@ -5,13 +5,13 @@ ghost use Rattle.koat_cli.specs.Answers.{FetchesNothing, Says};
 ghost use Rattle.koat_cli.specs.Calls.{call_of, seen_of};
 ghost use Rattle.koat_cli.specs.OnFiles.{OnProgram};
 ghost use Rattle.koat_cli.specs.OnTexts.{OnText, OnProgramFirst};
-ghost use Rattle.koat_cli.specs.Outputs.{IsReportOf, IsReplayOf};
+ghost use Rattle.koat_cli.specs.Outputs.{IsReportOf, IsReplayOf, IsFactsReportOf};
 ghost use Rattle.koat_cli.specs.RunTexts.{runs};
 ghost use Rattle.koat_cli.specs.Steps.{IsSaid};
 ghost use Rattle.its_model.specs.Valid.{IsValid};
 ghost use Rattle.its_model.specs.Views.{program_of};
 
-use crate::analysis::report;
+use crate::analysis::{report, report_with_facts};
 use crate::generated::{generated, summary};
 use crate::program_file::{ProgramFile, program_in};
 use crate::replaying::replayed;
@@ -29,6 +29,7 @@ const USAGE: &[u8] = b"usage: koat analyse [--pivots N] FILE
        koat replay FILE RUN
        koat generate N
        koat selfrun N
+       koat facts [--pivots N] FILE
 ";
 
 /// The status and the text of a call with these words. The shelf keeps what it holds.
@@ -53,6 +54,7 @@ pub(crate) fn prepare<F: Shelf>(
         }
         Some(Request::Generate { n }) => generated(alloc, n),
         Some(Request::Selfrun { n }) => summary(alloc, n),
+        Some(Request::Facts { pivots, file }) => facts_of(alloc, file.as_str(), pivots, shelf),
         Some(Request::Prove { .. }) => status_with_text(alloc, Status::Usage, USAGE),
         Some(Request::Check { .. }) => status_with_text(alloc, Status::Usage, USAGE),
         None => status_with_text(alloc, Status::Usage, USAGE),
@@ -76,6 +78,27 @@ fn analysis_of<F: Shelf>(
     match program_in(alloc, file, shelf)? {
         ProgramFile::Answer(said) => Ok(said),
         ProgramFile::Program(program) => report(alloc, &program, pivots),
+    }
+}
+
+// The facts at the locations of the program in a file with the report that they give, or what is answered where the
+// file gives none.
+fn facts_of<F: Shelf>(
+    alloc: Global,
+    file: &str,
+    pivots: u32,
+    shelf: &mut F,
+) -> Result<StatusText, Memory>
+    ensures keeps_files { F.held shelf.new ≡ F.held shelf.old }
+    ensures keeps_count { F.faults shelf.old ≤ F.faults shelf.new }
+    ensures fault { IfOk result (λ said.
+        F.faults shelf.old < F.faults shelf.new → said.status ≡ Status.ReadFault) }
+    ensures says { IfOk result (λ said. OnProgram (seen_of F.Shelf shelf.old shelf.new) file.now
+        (λ program. IsFactsReportOf program pivots) said.status said.text.items) }
+{
+    match program_in(alloc, file, shelf)? {
+        ProgramFile::Answer(said) => Ok(said),
+        ProgramFile::Program(program) => report_with_facts(alloc, &program, pivots),
     }
 }
 

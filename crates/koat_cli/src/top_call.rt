@@ -26,6 +26,10 @@ use std::alloc::Global;
 /// - `selfrun N` analyses that program, with 10,000 pivots for each linear program, and writes the figures of what was
 ///   found: how many rules there are, how many of them have a time, how many of all places have a size, the total, and
 ///   how many lemmas state the bounds.
+/// - `facts [--pivots N] FILE` fetches the file of a program, and writes the facts that are kept at its locations, of
+///   each two places the greatest least: `fact NAME: x2 >= 1` says that in every run the second value is at least 1
+///   wherever the run stands at the location. Behind them comes the report of the program whose guards have these facts
+///   at the sources of its rules, too, so that more bounds are found; they are bounds of the program itself.
 /// - Other words get the usage text.
 ///
 /// The whole text is written by one put, and the status is this:
@@ -33,19 +37,19 @@ use std::alloc::Global;
 /// - `Done`: with `analyse`, the file spells a program, and its report was written, in which every rule has a time. On
 ///   every run of the program, from any integers and by any choice of rules, each rule occurs at most as often as its
 ///   time says, there are at most as many steps as the total says, and each argument after a rule stays within its
-///   size, where it has one. With `replay`, the steps are a run of the program, no value passes 128 bits on the way,
-///   and the tally was written: each number of it is at most the value of the bound beside it. With `selfrun`, its
-///   figures were written, and every rule of the generated program has a time. With `generate`, that program's text was
-///   written.
-/// - `Unknown`: with `analyse`, the same, where some rule has no time: the report says why, and every bound that it
-///   gives holds on every run. With `selfrun`, its figures alone were written, and some rule of the generated program
-///   has no time.
+///   size, where it has one. With `facts`, the same with the report behind the facts, and each fact holds on every run,
+///   too. With `replay`, the steps are a run of the program, no value passes 128 bits on the way, and the tally was
+///   written: each number of it is at most the value of the bound beside it. With `selfrun`, its figures were written,
+///   and every rule of the generated program has a time. With `generate`, that program's text was written.
+/// - `Unknown`: with `analyse` and `facts`, the same, where some rule has no time: the report says why, and every bound
+///   that it gives holds on every run. With `facts` the reasons are those of the strengthened program. With `selfrun`,
+///   its figures alone were written, and some rule of the generated program has no time.
 /// - `Usage`: the words are no command line, or ask for `prove` or `check`, which aren't there yet.
-/// - `ReadFault`: an analysis or a replay is asked for, and the shelf had a fault in this call, or tells that it lacks
-///   the file, or, where that spells a program, the file of the run.
-/// - `ProgramRefused`: an analysis or a replay is asked for, and the file of the program has too many bytes, or
-///   something stands against it as the text of a program within the limits: the text says what stands first, and at
-///   which byte.
+/// - `ReadFault`: an analysis, with facts or without, or a replay is asked for, and the shelf had a fault in this call,
+///   or tells that it lacks the file, or, where that spells a program, the file of the run.
+/// - `ProgramRefused`: an analysis, with facts or without, or a replay is asked for, and the file of the program has
+///   too many bytes, or something stands against it as the text of a program within the limits: the text says what
+///   stands first, and at which byte.
 /// - `RunRefused`: with `replay`, the first file spells a program, and the second has too many bytes, or something
 ///   stands against it as the text of a run of the program within the limits: the text says what stands first, and at
 ///   which byte.

@@ -8,7 +8,7 @@ use Rattle.std.proofs.lemmas.List.{append-nil}
 use Rattle.poly_terms.specs.model.Programs.{Program}
 use Rattle.proof_tree.proofs.Numbers.{numbers-more}
 use Rattle.location_facts.specs.declared.fact.LocFact.{LocFact}
-use Rattle.location_facts.specs.Candidates.{last_place, with_places, with_plus, with_symbol, candidates_at}
+use Rattle.location_facts.specs.Candidates.{last_place, with_places, with_symbol, candidates_at}
 
 -- lists by number, one behind the other
 module _ {A : Type 0} (all : List ℕ → List A) (each : ℕ → List A) (none : all [] ≡ [])

@@ -1,7 +1,7 @@
 -- Facts that are right, in order, are few at each symbol.
 use Rattle.std.proofs.Common.{◌≡◌, ℕ, zero, suc, ◌+◌, ◌*◌, ◌-◌, ◌<◌, ◌≤◌, min, refl, arith, List, [], ◌∷◌, length}
 use Rattle.std.proofs.Common.{Bool, true, false, if◌then◌else◌}
-use Rattle.std.specs.Prelude.{ℤ, pos, negsuc, nat_abs, ◌+ℤ◌, ◌≤ℤ◌, nat_eq, slice_get, ⊤}
+use Rattle.std.specs.Prelude.{ℤ, pos, negsuc, nat_abs, ◌+ℤ◌, ◌≤ℤ◌, nat_eq, slice_get}
 use Rattle.std.proofs.lemmas.Int.{ints}
 use Rattle.std.proofs.lemmas.Bool.{eqb-true}
 use Rattle.poly_terms.specs.model.Programs.{Program, arity_of}

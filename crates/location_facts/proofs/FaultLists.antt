@@ -7,7 +7,7 @@ use Rattle.std.proofs.lemmas.List.{length-map}
 use Rattle.std.proofs.lemmas.Option.{slice_get-map}
 use Rattle.poly_terms.specs.model.Paths.{target_of, same_symbol}
 use Rattle.poly_terms.specs.model.Programs as plain
-use Rattle.poly_terms.specs.model.Programs.{arity_of, arity_in}
+use Rattle.poly_terms.specs.model.Programs.{arity_in}
 use Rattle.its_model.specs.declared.program.Symbol.{Symbol}
 use Rattle.its_model.specs.declared.program.Program.{Program}
 use Rattle.its_model.specs.Views.{symbol_of, rule_of, program_of}

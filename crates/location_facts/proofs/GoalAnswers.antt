@@ -1,5 +1,5 @@
 -- What answers of the linear program that asks whether a goal follows from rows say of them.
-use Rattle.std.proofs.Common.{◌≡◌, ℕ, zero, suc, ◌+◌, ◌<◌, ◌≤◌, ap, arith, refl, sym, ◌∙◌, subst, List, [], ◌∷◌, length}
+use Rattle.std.proofs.Common.{◌≡◌, ℕ, suc, ◌+◌, ◌<◌, ◌≤◌, ap, arith, refl, sym, ◌∙◌, subst, List, [], length}
 use Rattle.std.proofs.Common.{length-append}
 use Rattle.std.specs.Prelude.{ℤ, pos, negsuc, nat_abs, ◌+ℤ◌, ◌*ℤ◌, ◌≤ℤ◌, ◌<ℤ◌}
 use Rattle.std.specs.List.{All}
@@ -7,12 +7,12 @@ use Rattle.std.proofs.lemmas.Int.{ints}
 use Rattle.std.proofs.lemmas.List.Elements.{All-nil, All-cons}
 use Rattle.poly_terms.proofs.int_laws.OrderLaws.{mul-lt-mul_ℤ}
 use Rattle.poly_terms.specs.linear_forms.Forms.{Form, at, form_value}
-use Rattle.poly_terms.specs.linear_forms.Certificates.{Implies, minus_one}
+use Rattle.poly_terms.specs.linear_forms.Certificates.{Implies}
 use Rattle.poly_terms.specs.linear_forms.Combinations.{form_times}
 use Rattle.poly_terms.specs.linear_forms.LinearProgram.{HasSolution}
 use Rattle.poly_terms.specs.linear_forms.Limits.{certificate_limit, point_limit}
 use Rattle.poly_terms.specs.linear_forms.Points.{Meets}
-use Rattle.poly_terms.specs.linear_forms.Questions.{Group, Question, IsShaped, IsGroupShaped, listed, line, goal_at}
+use Rattle.poly_terms.specs.linear_forms.Questions.{Group, IsShaped, IsGroupShaped, listed, line, goal_at}
 use Rattle.poly_terms.specs.linear_forms.Questions.{program_of_question}
 use Rattle.poly_terms.specs.linear_forms.QuestionLaws.{multipliers_of, elements_of, Refutes, parameters_of}
 use Rattle.poly_terms.proofs.linear_forms.CertificateLaws.{implied}

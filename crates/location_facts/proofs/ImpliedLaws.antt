@@ -13,7 +13,7 @@ use Rattle.location_facts.specs.declared.asking.Reply.TheVariants as replies
 use Rattle.location_facts.specs.declared.fact.FactProof.TheVariants as proofs
 use Rattle.location_facts.specs.Implied.{TellsEmpty, TellsGoal}
 use Rattle.location_facts.specs.Kept.{goal_program, IsSolvedWithin}
-use Rattle.location_facts.specs.Replies.{FollowsBy, IsReply}
+use Rattle.location_facts.specs.Replies.{IsReply}
 
 -- the form -1 can be written
 pub minus-one-writable : (n : ℕ) (f : Form) → f ≡ minus_one → IsWritable n f

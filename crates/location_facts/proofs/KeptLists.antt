@@ -1,10 +1,10 @@
 -- Lists of facts, round by round: those that meet a condition, one fact after the other.
-use Rattle.std.proofs.Common.{◌≡◌, inl, inr, ℕ, zero, suc, ◌+◌, ◌<◌, ◌≤◌, refl, sym, ap, ◌∙◌, arith, subst, List, []}
+use Rattle.std.proofs.Common.{◌≡◌, inl, inr, ℕ, suc, ◌+◌, ◌≤◌, refl, sym, ap, ◌∙◌, arith, subst, List, []}
 use Rattle.std.proofs.Common.{◌∷◌, ◌++◌}
 use Rattle.std.proofs.Common.{length}
 use Rattle.poly_terms.specs.model.Programs.{Program}
 use Rattle.location_facts.specs.declared.fact.LocFact.{LocFact}
-use Rattle.location_facts.specs.Candidates.{IsCandidate, order_number}
+use Rattle.location_facts.specs.Candidates.{order_number}
 use Rattle.location_facts.specs.Kept.{HasThose}
 use Rattle.location_facts.proofs.CandidateList.{Between, lower}
 

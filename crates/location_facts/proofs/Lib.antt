@@ -40,3 +40,4 @@ pub mod FirstFaults
 pub mod WorkedFacts
 pub mod WorkedFaults
 pub mod WorkedKept
+pub mod WorkedPivots

@@ -1,5 +1,5 @@
 -- The next list of facts and its proofs, one fact more.
-use Rattle.std.proofs.Common.{◌≡◌, ℕ, ◌+◌, ◌*◌, ◌<◌, ap, sym, ◌∙◌, subst, List, [], ◌∷◌, ◌++◌, length, map, take}
+use Rattle.std.proofs.Common.{◌≡◌, ℕ, ◌+◌, ◌*◌, ◌<◌, sym, subst, List, [], ◌∷◌, ◌++◌, length, map, take}
 use Rattle.std.proofs.Common.{get_or}
 use Rattle.std.proofs.Common.{Option, Some, None}
 use Rattle.std.specs.Prelude.{Vec}
@@ -8,12 +8,12 @@ use Rattle.std.proofs.lemmas.List.{take_more, map-append}
 use Rattle.poly_terms.specs.model.Programs.{Program}
 use Rattle.location_facts.specs.declared.fact.LocFact.{LocFact}
 use Rattle.location_facts.specs.declared.fact.FactProof.{FactProof}
-use Rattle.location_facts.specs.Implied.{TellsProofs, AreProofsUnder, HasProofs, IsPushed, AreInOrder}
-use Rattle.location_facts.specs.Kept.{IsImpliedByAll, HasThose, IsNext, EndsWith, AreKept, GoesOn, Stays}
+use Rattle.location_facts.specs.Implied.{TellsProofs, AreProofsUnder, IsPushed, AreInOrder}
+use Rattle.location_facts.specs.Kept.{IsImpliedByAll, HasThose, IsNext, EndsWith, AreKept, Stays}
 use Rattle.location_facts.specs.Candidates.{candidates}
 use Rattle.location_facts.specs.Faults.{AreProved}
 use Rattle.location_facts.proofs.CandidateList.{all-between}
-use Rattle.location_facts.proofs.KeptLists.{those-kept, those-passed, those-most, those-all}
+use Rattle.location_facts.proofs.KeptLists.{those-kept, those-passed, those-all}
 use Rattle.location_facts.proofs.RoundSteps.{between-ascend, proofs-pushed, proved-end}
 
 -- lists of the code, as lists

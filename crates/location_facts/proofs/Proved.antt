@@ -93,6 +93,7 @@ module _ (p : Program) (kept : List LocFact) (proofs : List (List FactProof)) (h
 
 pub facts-hold : ProvedFactsHold
 facts-hold = record {
+  by_induction = proved-inductive;
   inductive = λ p kept valid h. inductive-hold p valid kept h;
   proved = λ p kept proofs valid h. record {
     candidates = proved-tried p kept proofs h;

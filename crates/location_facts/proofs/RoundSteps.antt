@@ -16,11 +16,11 @@ use Rattle.location_facts.specs.declared.fact.LocFact.{LocFact}
 use Rattle.location_facts.specs.declared.fact.FactProof.{FactProof}
 use Rattle.location_facts.specs.Candidates.{IsCandidate, order_number}
 use Rattle.location_facts.specs.Certificates.{IsWithinLimit}
-use Rattle.location_facts.specs.Faults.{number_in, least_number, StandsAt, IsRight, AreRight, rules_into, IsProofFor}
+use Rattle.location_facts.specs.Faults.{StandsAt, AreRight, rules_into}
 use Rattle.location_facts.specs.Faults.{ShowsFact}
 use Rattle.location_facts.specs.Faults.{ProofsShow, AreProved}
 use Rattle.location_facts.specs.Implied.{Ascend, AreInOrder, HasProofs, AreProofsUnder, AreImplied}
-use Rattle.location_facts.specs.Kept.{IsImplied, IsImpliedByAll, HasThose, IsNext, EndsWith, Stays, GoesOn}
+use Rattle.location_facts.specs.Kept.{IsImplied, IsImpliedByAll, HasThose}
 use Rattle.location_facts.proofs.CandidateList.{Between}
 use Rattle.location_facts.proofs.Counting.{least_from}
 use Rattle.location_facts.proofs.Proved.{into}

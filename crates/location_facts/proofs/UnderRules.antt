@@ -1,15 +1,13 @@
 -- Rules under a list of facts, as they are read of a program.
 use Rattle.std.proofs.Common.{◌≡◌, ◌⊎◌, inl, inr, ℕ, zero, suc, ◌+◌, ◌-◌, ◌<◌, ◌≤◌, ap, arith, refl, sym, ◌∙◌, subst}
-use Rattle.std.proofs.Common.{List, [], ◌∷◌, ◌++◌, length, length-append, map, get_or, Option, Some, None, option_map}
-use Rattle.std.specs.Prelude.{slice_get, Vec}
-use Rattle.std.specs.declared.alloc.Global.{Global}
+use Rattle.std.proofs.Common.{List, [], ◌∷◌, ◌++◌, length, length-append, map, get_or, Option, Some, option_map}
+use Rattle.std.specs.Prelude.{slice_get}
 use Rattle.std.specs.List.{All}
 use Rattle.std.proofs.lemmas.Bool.{cases_lt}
 use Rattle.std.proofs.lemmas.List.{length-map}
 use Rattle.std.proofs.lemmas.Option.{slice_get_within, slice_get-map}
 use Rattle.poly_terms.specs.linear_forms.Forms.{Form}
 use Rattle.poly_terms.specs.model.Programs as plain
-use Rattle.poly_terms.specs.model.Programs.{rule_at}
 use Rattle.poly_terms.specs.declared.poly.Row.{Row}
 use Rattle.poly_terms.specs.Views.{form_of}
 use Rattle.poly_terms.proofs.model.Cases.{some_same, slice_get-there}
@@ -20,7 +18,7 @@ use Rattle.its_model.specs.Views.{rule_of, program_of}
 use Rattle.lp_builder.specs.Descriptions.{IsWritable}
 use Rattle.proof_tree.specs.Composing.{AreRowsOf}
 use Rattle.proof_tree.specs.guard_prep.declared.rule_rows.RuleRows.{RuleRows}
-use Rattle.proof_tree.specs.guard_prep.Prepared.{Prepared, prepared, rows_of}
+use Rattle.proof_tree.specs.guard_prep.Prepared.{Prepared, prepared}
 use Rattle.proof_tree.specs.guard_prep.Views.{prepared_of}
 use Rattle.proof_tree.proofs.guard_prep.SizeLaws.{rows-are-small}
 use Rattle.proof_tree.proofs.guard_prep.StepLaws.{preparable}

@@ -1,7 +1,8 @@
 -- Facts of a small program are what was worked out by hand.
 use Rattle.std.proofs.Common.{◌≡◌, inl, inr, ℕ, zero, suc, ◌<◌, ◌≤◌, ap, arith, refl, sym, subst, List, [], ◌∷◌, ◌++◌}
 use Rattle.std.proofs.Common.{length, Some}
-use Rattle.std.specs.Prelude.{ℤ, pos, negsuc, ◌+ℤ◌, ◌-ℤ◌, ◌*ℤ◌, ◌≤ℤ◌, slice_index_or}
+use Rattle.std.specs.Prelude.{ℤ, pos, negsuc, ◌+ℤ◌, ◌-ℤ◌, ◌*ℤ◌, ◌≤ℤ◌, slice_index_or, Vec}
+use Rattle.std.specs.declared.alloc.Global.{Global}
 use Rattle.std.proofs.lemmas.Int.{ints}
 use Rattle.std.proofs.lemmas.List.Elements.{All-nil, All-cons, All-head}
 use Rattle.poly_terms.specs.linear_forms.Forms.{Form, at, form_value}
@@ -257,11 +258,27 @@ zero-minus e = omega (arith, ints, e)
 abbrev As : List Form → Form → List ℕ → Type 0
 As rows goal ms = Implies rows ms goal
 
+-- by 1 and 0 the second rule shows A >= 0
+natural-shown : (first : Vec ℕ Global) → first.items ≡ 1 ∷ 0 ∷ [] → IsShownBy counting 2 (natural ∷ []) natural
+unfolding divisor_of
+natural-shown first e = record {
+  proof = Implied first 1;
+  within = (subst AreWithinLimit (sym e) few, omega arith, omega arith);
+  shows = subst (As (line (pos 1) (negsuc 0) ∷ line (pos 1) (pos 0) ∷ []) (line (pos 1) (negsuc 0))) (sym e)
+      second-follows;
+}
+  where
+    few : AreWithinLimit (1 ∷ 0 ∷ [])
+    few =
+        All-cons (λ (m : ℕ). m ≤ certificate_limit) 1 (0 ∷ []) (omega arith)
+        (All-cons (λ (m : ℕ). m ≤ certificate_limit) 0 [] (omega arith) (All-nil (λ (m : ℕ). m ≤ certificate_limit)))
+
 certificates-told : CertificatesAreTold
 unfolding divisor_of
 certificates-told = record {
   by_first = one-follows;
   by_second = second-follows;
+  shown = natural-shown;
   not_positive = none-shown;
   twice = λ ones e.
       subst (As two_rows (form_times (pos 2) (line (pos 1) (pos 0)))) (sym e) twice-follows;
@@ -293,6 +310,7 @@ strengthening-told : StrengtheningIsTold
 strengthening-told = record {
   greatest = refl;
   ordered = refl;
+  last_places = refl;
   own_first = refl;
   other_source = refl;
   room = refl;

@@ -88,6 +88,10 @@ both-shown kept k a b s t =
 abbrev Follows : List Form → Form → List ℕ → Type 0
 Follows rows goal ms = Implies rows ms goal
 
+-- 1 isn't 0
+one-zero : pos 1 ≡ pos 0 → ⊥
+one-zero e = omega (arith, ints, e)
+
 -- by 1 the first rule shows A >= 0, and by 0 it doesn't
 natural-first : (one : Vec ℕ Global) → one.items ≡ 1 ∷ [] → ShowsFact counting (natural ∷ []) natural 1 (Implied one 1)
 unfolding divisor_of
@@ -99,9 +103,6 @@ natural-first-not : (none : Vec ℕ Global) → none.items ≡ 0 ∷ []
 unfolding divisor_of
 natural-first-not none e h =
     one-zero ((subst (Follows (line (pos 1) (negsuc 0) ∷ []) (line (pos 1) (pos 0))) e h).coefs 0)
-  where
-    one-zero : pos 1 ≡ pos 0 → ⊥
-    one-zero e = omega (arith, ints, e)
 
 -- by 1 and 0 the second rule does, and by 0 and 0, or by one multiplier, it doesn't
 natural-second : (first : Vec ℕ Global) → first.items ≡ 1 ∷ 0 ∷ []
@@ -117,9 +118,6 @@ unfolding divisor_of
 natural-second-not zeros e h =
     one-zero ((subst (Follows (line (pos 1) (negsuc 0) ∷ line (pos 1) (pos 0) ∷ []) (line (pos 1) (negsuc 0))) e
     h).coefs 0)
-  where
-    one-zero : pos 1 ≡ pos 0 → ⊥
-    one-zero e = omega (arith, ints, e)
 
 natural-second-short : (one : Vec ℕ Global) → one.items ≡ 1 ∷ []
     → ShowsFact counting (natural ∷ []) natural 2 (Implied one 1) → ⊥
@@ -211,6 +209,9 @@ shapes-told = record {
   lesser = λ none first e g. second-wrong positive natural (two_proofs none first) (two_proofs none first)
       (positive-right 0 (two_proofs none first) (omega arith) refl (within none first e g))
       (λ h. let l : 273 ≤ 271 = h.behind in omega (arith, l));
+  first_of_two = λ any. first-wrong natural (positive ∷ []) (Implied any 1 ∷ []) ((Implied any 1 ∷ []) ∷ []) refl
+      (λ h. let e : 1 ≡ 2 = h.one_each in omega (arith, e));
+  uneven_first = inl (record { uneven = λ e. omega (arith, e); fact = refl; rule = refl });
 }
   where
     too-large : AreWithinLimit (36028797018963969 ∷ []) → ⊥
@@ -335,6 +336,44 @@ second-fact one first e g =
       fact = refl;
     }))
 
+-- by 0, 0 and 0 the second rule doesn't show A >= 0 under both facts
+natural-second-not-both : (zeros : Vec ℕ Global) → zeros.items ≡ 0 ∷ 0 ∷ 0 ∷ []
+    → ShowsFact counting two_facts natural 2 (Implied zeros 1) → ⊥
+unfolding divisor_of
+natural-second-not-both zeros e h = one-zero ((subst (Follows three_rows (line (pos 1) (negsuc 0))) e h).coefs 0)
+
+-- so the first fact's second proof is the first that doesn't show it, whatever is told of the second fact
+by-fact : (one zeros none first : Vec ℕ Global) → one.items ≡ 1 ∷ [] → zeros.items ≡ 0 ∷ 0 ∷ 0 ∷ []
+    → none.items ≡ 0 ∷ [] → first.items ≡ 1 ∷ 0 ∷ 0 ∷ []
+    → IsFirstFault counting two_facts (two_proofs one zeros ∷ two_proofs none first ∷ []) (fault 1 2)
+by-fact one zeros none first e g h k =
+    let within-first = two-within one zeros (1 ∷ []) (0 ∷ 0 ∷ 0 ∷ []) e g (one-few 1 (omega arith))
+    (three-few 0 0 0 (omega arith) (omega arith) (omega arith)) in
+    let within-second = two-within none first (0 ∷ []) (1 ∷ 0 ∷ 0 ∷ []) h k (one-few 0 (omega arith))
+    (three-few 1 0 0 (omega arith) (omega arith) (omega arith)) in
+    inr (inr (record {
+      one_each = refl;
+      right = right-more counting two_facts (two_proofs one zeros ∷ two_proofs none first ∷ []) 1 positive
+          (two_proofs none first)
+          (first-right natural (positive ∷ []) (two_proofs one zeros) (two_proofs none first ∷ [])
+          (natural-right 0 (two_proofs one zeros) (omega arith) refl within-first))
+          (record { fact = refl; listed = refl })
+          (positive-right 272 (two_proofs none first) (omega arith) refl within-second);
+      position = 0;
+      unshown = natural;
+      with_proofs = two_proofs one zeros;
+      stands = record { fact = refl; listed = refl };
+      before = shown-none counting two_facts (two_proofs one zeros ∷ two_proofs none first ∷ []);
+      proof_position = 1;
+      proof = Implied zeros 1;
+      stands_for = record { rule = refl; listed = refl };
+      earlier = proofs-more counting two_facts natural (two_proofs one zeros) 0 1 (Implied one 1)
+          (proofs-none counting two_facts natural (two_proofs one zeros)) (record { rule = refl; listed = refl })
+          (natural-first-both one e);
+      shows_not = natural-second-not-both zeros g;
+      fact = refl;
+    }))
+
 unshown-told : UnshownIsTold
 unshown-told = record {
   first_rule = λ none any e g.
@@ -350,6 +389,7 @@ unshown-told = record {
       (two-within one one (1 ∷ []) (1 ∷ []) e e (one-few 1 (omega arith)) (one-few 1 (omega arith)))
       (natural-first one e) (natural-second-short one e);
   second_fact = second-fact;
+  by_fact = by-fact;
 }
 
 pub faults-are-worked-out : FaultsAreWorkedOut

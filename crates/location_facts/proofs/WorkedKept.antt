@@ -20,19 +20,18 @@ use Rattle.location_facts.specs.Rows.{row_after, combined}
 use Rattle.location_facts.specs.Worked.{fact, positive}
 use Rattle.location_facts.specs.WorkedKept.{handing, passing, staying, falling_forms, empty_program, fact_program}
 use Rattle.location_facts.specs.WorkedKept.{KeptAreTold, FollowingIsTold, NotFollowingIsTold, EmptyIsTold}
-use Rattle.location_facts.specs.WorkedKept.{KeptFactsAreWorkedOut}
 
 -- what holds at 0, and at 0 and 1, and so on
-below-one : (P : ℕ → Type 0) → P 0 → (i : ℕ) → i < 1 → P i
+pub below-one : (P : ℕ → Type 0) → P 0 → (i : ℕ) → i < 1 → P i
 below-one P a zero l = a
 below-one P a (suc n) l = absurd (omega (arith, l))
 
-below-two : (P : ℕ → Type 0) → P 0 → P 1 → (i : ℕ) → i < 2 → P i
+pub below-two : (P : ℕ → Type 0) → P 0 → P 1 → (i : ℕ) → i < 2 → P i
 below-two P a b zero l = a
 below-two P a b (suc zero) l = b
 below-two P a b (suc (suc n)) l = absurd (omega (arith, l))
 
-below-three : (P : ℕ → Type 0) → P 0 → P 1 → P 2 → (i : ℕ) → i < 3 → P i
+pub below-three : (P : ℕ → Type 0) → P 0 → P 1 → P 2 → (i : ℕ) → i < 3 → P i
 below-three P a b c zero l = a
 below-three P a b c (suc zero) l = b
 below-three P a b c (suc (suc zero)) l = c
@@ -136,10 +135,10 @@ all-kept pivots = Stays refl next
           ),
         )
 
-kept-told : KeptAreTold
+pub kept-told : KeptAreTold
 kept-told = record { none = none-kept; all = all-kept }
 
-following-told : FollowingIsTold
+pub following-told : FollowingIsTold
 unfolding program_of_question divisor_of
 following-told = record {
   equations_are = refl;
@@ -173,7 +172,7 @@ positive-not pivots (inl s) =
 positive-not pivots (inr s) =
     dual-excludes (fact_program (positive ∷ []) positive) (at (pos 1 ∷ pos 1 ∷ [])) positive-refuted s.solution
 
-not-following-told : NotFollowingIsTold
+pub not-following-told : NotFollowingIsTold
 unfolding program_of_question divisor_of
 not-following-told = record {
   equations_are = refl;
@@ -182,9 +181,10 @@ not-following-told = record {
   not_implied = positive-not;
 }
 
-empty-told : EmptyIsTold
+pub empty-told : EmptyIsTold
 unfolding program_of_question divisor_of
 empty-told = record {
+  asked = λ r kept. refl;
   equations_are = refl;
   solved = record {
     denominator = omega (arith, ints);
@@ -195,12 +195,4 @@ empty-told = record {
     columns = below-two _ (omega (arith, ints)) (omega (arith, ints));
     right = omega (arith, ints);
   };
-}
-
-pub kept-facts-are-worked-out : KeptFactsAreWorkedOut
-kept-facts-are-worked-out = record {
-  kept = kept-told;
-  following = following-told;
-  not_following = not-following-told;
-  empty = empty-told;
 }

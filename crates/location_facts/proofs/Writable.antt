@@ -1,5 +1,5 @@
 -- Combined rows and goals of facts can be written.
-use Rattle.std.proofs.Common.{◌≡◌, ℕ, zero, suc, ◌+◌, ◌^◌, ◌<◌, ◌≤◌, min, ◌⊎◌, inl, inr, ap, arith, refl, sym, ◌∙◌}
+use Rattle.std.proofs.Common.{◌≡◌, ℕ, zero, suc, ◌+◌, ◌^◌, ◌<◌, ◌≤◌, min, ◌⊎◌, inl, inr, ap, arith, sym, ◌∙◌}
 use Rattle.std.proofs.Common.{subst}
 use Rattle.std.proofs.Common.{List, [], ◌∷◌, ◌++◌, length, map, length-append, replicate, get_or, Some}
 use Rattle.std.specs.Prelude.{ℤ, pos, negsuc, ◌*ℤ◌, ◌≤ℤ◌, nat_abs, unsigned_abs, nat_eq, slice_index_or}
@@ -9,18 +9,17 @@ use Rattle.std.proofs.lemmas.List.{length-map, length-replicate, get_or_past}
 use Rattle.std.proofs.lemmas.List.Elements.{All-append, All-map, All-filter, All-weaker, All-from_get_or}
 use Rattle.std.proofs.lemmas.List.Elements.{All-from_recursion}
 use Rattle.std.proofs.lemmas.List.Elements.{filter_passes}
-use Rattle.poly_terms.specs.linear_forms.Combinations.{zero_form, coefs_sum}
+use Rattle.poly_terms.specs.linear_forms.Combinations.{zero_form}
 use Rattle.poly_terms.specs.linear_forms.Forms.{Form, at}
 use Rattle.poly_terms.specs.linear_forms.RuleQuestions.{opposite}
 use Rattle.poly_terms.proofs.linear_forms.CombinationLaws.{length-sum}
 use Rattle.poly_terms.specs.model.Programs.{Program, Rule, arity_of, rule_at}
-use Rattle.poly_terms.specs.declared.poly.Row.{Row}
 use Rattle.poly_terms.specs.Views.{form_of}
 use Rattle.its_model.specs.Valid.{IsValid}
 use Rattle.lp_builder.specs.Descriptions.{IsWritable}
 use Rattle.proof_tree.specs.guard_prep.declared.rule_rows.RuleRows.{RuleRows}
 use Rattle.proof_tree.specs.guard_prep.Laws.{IsSmallForm}
-use Rattle.proof_tree.specs.guard_prep.Prepared.{Prepared, prepared, rows_of, news_of, unknowns_of}
+use Rattle.proof_tree.specs.guard_prep.Prepared.{Prepared, news_of, unknowns_of}
 use Rattle.proof_tree.proofs.guard_prep.SizeLaws.{rows-are-small}
 use Rattle.proof_tree.proofs.guard_prep.its_model.ValidLaws.{arities_agree}
 use Rattle.rule_questions.specs.EmptyAnswers.{IsPrepared}
@@ -28,7 +27,7 @@ use Rattle.rule_questions.proofs.EmptyProblems.{rows-writable}
 use Rattle.location_facts.specs.declared.fact.LocFact.{LocFact}
 use Rattle.location_facts.specs.Candidates.{IsCandidate}
 use Rattle.location_facts.specs.CombinedRows.{IsGoalSmall}
-use Rattle.location_facts.specs.Rows.{value_before, value_after, row_before, row_after, facts_at, combined}
+use Rattle.location_facts.specs.Rows.{value_before, value_after, row_before, row_after, facts_at}
 use Rattle.location_facts.proofs.FactSizes.{fact-coef, fact-constant}
 
 -- the value at a place has no coefficient past the places

@@ -82,8 +82,8 @@ pub record AreProofsUnder (p : Program) (kept found : List LocFact) (proofs : Li
   pub one_each : length proofs ≡ length found
   pub each : (i : ℕ) (f : LocFact) (ps : List FactProof) → StandsAt found proofs i f ps → HasProofs p kept f ps
 
--- the rules are under some list
-pub record AnyUnder (p : Program) (pivots : ℕ) (us : List Under) : Type 0 where
+-- the rules of a program, in order, under some list
+pub record AreUnderSome (p : Program) (pivots : ℕ) (us : List Under) : Type 0 where
   pub kept : List LocFact
   pub are : AreUnder p pivots kept us
 

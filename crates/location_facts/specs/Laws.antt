@@ -35,10 +35,12 @@ pub record AreHeld (p : Program) (kept : List LocFact) : Type 0 where
   pub candidates : All (IsCandidate p) kept
   pub hold : All (HoldsAlways p) kept
 
--- facts that hold by induction along runs hold on every run of a valid program; so do facts with proofs of which
--- nothing is wrong, whoever found them, and they are tried
+-- facts that hold by induction along runs hold on every run of a valid program; facts with proofs of which nothing is
+-- wrong hold by induction, whoever found them, and so they hold on every run, and they are tried
 pub record ProvedFactsHold : Type 0 where
   pub inductive : (p : Program) (facts : List LocFact) → IsValid p → AreInductive p facts → All (HoldsAlways p) facts
+  pub by_induction : (p : Program) (kept : List LocFact) (proofs : List (List FactProof)) → AreProved p kept proofs
+      → AreInductive p kept
   pub proved : (p : Program) (kept : List LocFact) (proofs : List (List FactProof)) → IsValid p
       → AreProved p kept proofs → AreHeld p kept
 

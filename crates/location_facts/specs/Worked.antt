@@ -142,12 +142,14 @@ two_rows =
 -- A >= 0 is shown after both rules: it follows from their own row, with 1 or nothing to spare. A >= 1 isn't after the
 -- second one, also under A >= 1 itself: at A = 1 it leads to 0. 2*A >= B and B >= 1 give 2*A >= 0 by the multipliers 1
 -- and 1, and neither A >= 0 nor, with the second one 0, 2*A >= 0. That the rule can't be used is shown where its own
--- row A - 1 and -A at its source, 1 and 1 times, make -1, and not by the first alone
+-- row A - 1 and -A at its source, 1 and 1 times, make -1, and not by the first alone. By 1 and 0 the second rule shows
+-- A >= 0 under A >= 0
 pub record CertificatesAreTold : Type 0 where
   pub by_first : Implies (combined (forms_at counting 1) (natural ∷ [])) (1 ∷ [])
       (row_after (forms_at counting 1).news natural)
   pub by_second : Implies (combined (forms_at counting 2) (natural ∷ [])) (1 ∷ 0 ∷ [])
       (row_after (forms_at counting 2).news natural)
+  pub shown : (first : Vec ℕ Global) → first.items ≡ 1 ∷ 0 ∷ [] → IsShownBy counting 2 (natural ∷ []) natural
   pub not_positive : ¬ (IsShownBy counting 2 (positive ∷ []) positive)
   pub twice : (ones : Vec ℕ Global) → ones.items ≡ 1 ∷ 1 ∷ [] → Shows two_rows (line (pos 1) (pos 0)) (Implied ones 2)
   pub not_once : (ones : Vec ℕ Global) → ones.items ≡ 1 ∷ 1 ∷ []
@@ -177,14 +179,18 @@ at_most_one_atom = Compare (Negation (Variable 0)) AtLeast (Literal (negsuc 0))
 abbrev pub long : ℕ → Rule
 long n = record falling { guard = replicate n Always }
 
--- of A >= -1, A >= 1 and A >= 0 the atom is A >= 1; with a fact of each kind the atoms go by plus and then by minus; a
--- rule gets those of its source, behind its own, and so does each rule of a program. Of two atoms one with 63 atoms
--- gets the first; with 64 it gets none, and with 63 and a cost none either
+-- of A >= -1, A >= 1 and A >= 0 the atom is A >= 1; with a fact of each kind the atoms go by plus and then by minus, up
+-- to the eighth place of both; a rule gets those of its source, behind its own, and so does each rule of a program. Of
+-- two atoms one with 63 atoms gets the first; with 64 it gets none, and with 63 and a cost none either
 pub record StrengtheningIsTold : Type 0 where
   pub greatest : strongest_atoms (fact 1 1 0 (negsuc 0) ∷ positive ∷ natural ∷ [])
       ≡ Compare (Variable 0) AtLeast (Literal (pos 1)) ∷ []
   pub ordered : strongest_atoms (natural ∷ fact 1 1 2 (pos 0) ∷ at_most_one ∷ [])
       ≡ at_most_one_atom ∷ natural_atom ∷ Compare (Subtraction (Variable 0) (Variable 1)) AtLeast (Literal (pos 0)) ∷ []
+  pub last_places : strongest_atoms (fact 1 0 8 (pos 0) ∷ fact 1 7 8 (pos 0) ∷ fact 1 8 0 (pos 0) ∷ [])
+      ≡ Compare (Negation (Variable 7)) AtLeast (Literal (pos 0))
+      ∷ Compare (Subtraction (Variable 6) (Variable 7)) AtLeast (Literal (pos 0))
+      ∷ Compare (Variable 7) AtLeast (Literal (pos 0)) ∷ []
   pub own_first : (strengthened_rule (natural ∷ []) falling).guard
       ≡ Compare (Variable 0) AtLeast (Literal (pos 1)) ∷ natural_atom ∷ []
   pub other_source : strengthened_rule (natural ∷ []) entering ≡ entering

@@ -1,11 +1,11 @@
 -- Whether something is wrong with facts of a small program and their proofs, and what first, worked out by hand.
-use Rattle.std.specs.Prelude.{◌≡◌, ℕ, List, [], ◌∷◌, Vec}
+use Rattle.std.specs.Prelude.{◌≡◌, ℕ, List, [], ◌∷◌, Vec, pos}
 use Rattle.std.specs.declared.alloc.Global.{Global}
 use Rattle.location_facts.specs.declared.fact.FactProof.{FactProof}
 use Rattle.location_facts.specs.declared.fact.FactProof.TheVariants.{Implied}
 use Rattle.location_facts.specs.declared.fact.FactFault.{FactFault}
 use Rattle.location_facts.specs.Faults.{AreProved, IsFirstFault}
-use Rattle.location_facts.specs.Worked.{counting, natural, positive}
+use Rattle.location_facts.specs.Worked.{fact as fact_of, counting, natural, positive}
 
 -- a fault
 abbrev pub fault : ℕ → ℕ → FactFault
@@ -24,7 +24,8 @@ pub record ProvedIsTold : Type 0 where
 
 -- a list of proofs that is missing or one too many is fault (0, 0); one proof in place of two, three, the denominator
 -- 0, and a multiplier or a denominator over 2^55 are (1, 0), also where nothing is shown; the same fact again is
--- (2, 0), and so is a lesser one; both come before a proof that doesn't show the first fact
+-- (2, 0), and so is a lesser one; both come before a proof that doesn't show the first fact. Of two facts with too few
+-- proofs it is the first, and a list of proofs that is missing comes before a fact of the start symbol
 pub record ShapesAreTold : Type 0 where
   pub missing : IsFirstFault counting (natural ∷ []) [] (fault 0 0)
   pub too_many : (proofs : List FactProof) → IsFirstFault counting [] (proofs ∷ []) (fault 0 0)
@@ -41,9 +42,13 @@ pub record ShapesAreTold : Type 0 where
       → IsFirstFault counting (natural ∷ natural ∷ []) (two_proofs none first ∷ two_proofs none first ∷ []) (fault 2 0)
   pub lesser : (none first : Vec ℕ Global) → none.items ≡ 0 ∷ [] → first.items ≡ 1 ∷ 0 ∷ []
       → IsFirstFault counting (positive ∷ natural ∷ []) (two_proofs none first ∷ two_proofs none first ∷ []) (fault 2 0)
+  pub first_of_two : (any : Vec ℕ Global)
+      → IsFirstFault counting (natural ∷ positive ∷ []) ((Implied any 1 ∷ []) ∷ (Implied any 1 ∷ []) ∷ []) (fault 1 0)
+  pub uneven_first : IsFirstFault counting (fact_of 0 1 0 (pos 0) ∷ natural ∷ []) ([] ∷ []) (fault 0 0)
 
 -- the multiplier 0 shows nothing of the first rule, fault (1, 1), whatever shows the second; with 1 for the first rule,
--- 0 and 0, or one multiplier in place of two, show nothing of the second, (1, 2)
+-- 0 and 0, or one multiplier in place of two, show nothing of the second, (1, 2). Of two facts, the first of which
+-- isn't shown after the second rule, and the second one after the first, the first fact's fault comes first
 pub record UnshownIsTold : Type 0 where
   pub first_rule : (none any : Vec ℕ Global) → none.items ≡ 0 ∷ [] → any.items ≡ 0 ∷ 0 ∷ []
       → IsFirstFault counting (natural ∷ []) (two_proofs none any ∷ []) (fault 1 1)
@@ -53,6 +58,9 @@ pub record UnshownIsTold : Type 0 where
       → IsFirstFault counting (natural ∷ []) (two_proofs one one ∷ []) (fault 1 2)
   pub second_fact : (one first : Vec ℕ Global) → one.items ≡ 1 ∷ [] → first.items ≡ 1 ∷ 0 ∷ 0 ∷ []
       → IsFirstFault counting (natural ∷ positive ∷ []) (two_proofs one first ∷ two_proofs one first ∷ []) (fault 2 2)
+  pub by_fact : (one zeros none first : Vec ℕ Global) → one.items ≡ 1 ∷ [] → zeros.items ≡ 0 ∷ 0 ∷ 0 ∷ []
+      → none.items ≡ 0 ∷ [] → first.items ≡ 1 ∷ 0 ∷ 0 ∷ []
+      → IsFirstFault counting (natural ∷ positive ∷ []) (two_proofs one zeros ∷ two_proofs none first ∷ []) (fault 1 2)
 
 -- all of it
 pub record FaultsAreWorkedOut : Type 0 where

@@ -5,13 +5,13 @@ use Rattle.poly_terms.specs.linear_forms.Certificates.{minus_one}
 use Rattle.poly_terms.specs.linear_forms.Forms.{at}
 use Rattle.poly_terms.specs.linear_forms.LinearProgram.{LinearProgram, IsSolution, IsDual}
 use Rattle.poly_terms.specs.linear_forms.Questions.{Equation, equations}
-use Rattle.poly_terms.specs.linear_forms.RuleQuestions.{RuleForms}
+use Rattle.poly_terms.specs.linear_forms.RuleQuestions.{RuleForms, empty_question}
 use Rattle.poly_terms.specs.model.Programs.{Rule, Program}
-use Rattle.poly_terms.specs.model.Terms.{Variable}
+use Rattle.poly_terms.specs.model.Terms.{Variable, Literal}
 use Rattle.rule_questions.specs.ProgramQuestions.{forms_at}
 use Rattle.location_facts.specs.declared.fact.LocFact.{LocFact}
 use Rattle.location_facts.specs.Candidates.{candidates}
-use Rattle.location_facts.specs.Kept.{goal_question, goal_program, IsImplied, AreKept}
+use Rattle.location_facts.specs.Kept.{goal_question, goal_program, IsSolvedWithin, IsImplied, AreKept}
 use Rattle.location_facts.specs.Rows.{row_after, combined}
 use Rattle.location_facts.specs.Worked.{fact, counting, natural, positive}
 
@@ -78,14 +78,40 @@ pub record NotFollowingIsTold : Type 0 where
   pub pointed : IsDual (empty_program (positive ∷ [])) (at (pos 1 ∷ pos 1 ∷ []))
   pub not_implied : (pivots : ℕ) → ¬ (IsImplied pivots falling_forms (positive ∷ []) positive)
 
--- under -A >= 0 the rows are A - 1 and -A, of which the sum is -1: -m + n = 0 and m - s = 1. So m = n = 1 solve the
--- program of -1; under no fact the dual 1, 1 refutes it, with the point A = 1
+-- whether the combined rows of a rule have no point is asked as it is of a rule that has them as its own. Under
+-- -A >= 0 they are A - 1 and -A, of which the sum is -1: -m + n = 0 and m - s = 1. So m = n = 1 solve the program of
+-- -1; under no fact the dual 1, 1 refutes it, with the point A = 1
 pub record EmptyIsTold : Type 0 where
+  pub asked : (r : RuleForms) (kept : List LocFact)
+      → goal_question r.unknowns (combined r kept) minus_one ≡ empty_question (record r { rows = combined r kept })
   pub equations_are : equations 0 (goal_question falling_forms.unknowns
       (combined falling_forms (fact 1 0 1 (pos 0) ∷ [])) minus_one).groups
       ≡ equation (negsuc 0 ∷ pos 1 ∷ pos 0 ∷ []) (pos 0) ∷ equation (pos 1 ∷ pos 0 ∷ negsuc 0 ∷ []) (pos 1) ∷ []
   pub solved : IsSolution (empty_program (fact 1 0 1 (pos 0) ∷ [])) (at (pos 1 ∷ pos 1 ∷ pos 0 ∷ [])) (pos 1)
   pub refuted : IsDual (empty_program []) (at (pos 1 ∷ pos 1 ∷ []))
+
+-- the program l0(A) -> l1(0)
+abbrev pub resetting : Program
+resetting = record counting { rules = record (handing 1) { updates = Literal (pos 0) ∷ [] } ∷ [] }
+
+-- the linear program that asks whether its rule implies that A is at least a number
+abbrev pub reset_program : ℤ → LinearProgram
+reset_program k =
+    goal_program (forms_at resetting 1).unknowns (combined (forms_at resetting 1) [])
+    (row_after (forms_at resetting 1).news (fact 1 1 0 k))
+
+-- the rule has no row, and the goal of A >= 0 is 0: 0 = 0 and -s = 0. The first table is the last, so within no pivot
+-- it is solved, and the rule implies A >= 0. The goal of A >= -1 is 1: -s = -1 is solved by s = 1, which takes a pivot,
+-- so within none it isn't solved, and the rule doesn't imply A >= -1
+pub record PivotsAreTold : Type 0 where
+  pub equations_are : equations 0 (goal_question (forms_at resetting 1).unknowns
+      (combined (forms_at resetting 1) []) (row_after (forms_at resetting 1).news natural)).groups
+      ≡ equation (pos 0 ∷ []) (pos 0) ∷ equation (negsuc 0 ∷ []) (pos 0) ∷ []
+  pub solved : IsSolvedWithin 0 (reset_program (pos 0))
+  pub implied : IsImplied 0 (forms_at resetting 1) [] natural
+  pub with_a_solution : IsSolution (reset_program (negsuc 0)) (at (pos 1 ∷ [])) (pos 1)
+  pub tripped : ¬ (IsSolvedWithin 0 (reset_program (negsuc 0)))
+  pub not_implied : ¬ (IsImplied 0 (forms_at resetting 1) [] (fact 1 1 0 (negsuc 0)))
 
 -- all of it
 pub record KeptFactsAreWorkedOut : Type 0 where
@@ -93,3 +119,4 @@ pub record KeptFactsAreWorkedOut : Type 0 where
   pub following : FollowingIsTold
   pub not_following : NotFollowingIsTold
   pub empty : EmptyIsTold
+  pub pivots : PivotsAreTold

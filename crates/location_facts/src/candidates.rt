@@ -1,6 +1,6 @@
 //! The facts that are tried at the symbols of a program.
 
-ghost use Rattle.std.specs.Prelude.{◌≡◌, ◌++◌, ◌<◌, ◌≤◌, ◌^◌, suc, nat_eq, if◌then◌else◌, [], length, IfOk};
+ghost use Rattle.std.specs.Prelude.{◌≡◌, ◌++◌, ◌<◌, ◌≤◌, suc, nat_eq, if◌then◌else◌, [], IfOk};
 ghost use Rattle.std.specs.List.{range_with_len};
 ghost use Rattle.its_model.specs.Views.{program_of};
 ghost use Rattle.location_facts.specs.Candidates.{candidates, candidates_at, with_symbol, with_plus, with_places};

@@ -6,8 +6,11 @@
 pub struct LocFact {
     /// The symbol, by its number.
     pub symbol: u32,
+    /// The place whose value counts, or 0.
     pub plus: u32,
+    /// The place whose value is taken off, or 0.
     pub minus: u32,
+    /// The number that the difference is at least.
     pub least: i64,
 }
 
@@ -24,7 +27,9 @@ pub enum FactProof {
 /// Facts, and for each one a proof for each rule into its symbol, in the order of rules.
 #[derive(Debug, PartialEq, Eq, Drop)]
 pub struct LocFacts {
+    /// The facts.
     pub kept: Vec<LocFact>,
+    /// The proofs of each fact.
     pub proofs: Vec<Vec<FactProof>>,
 }
 
@@ -32,6 +37,8 @@ pub struct LocFacts {
 /// the fact itself or the shape of its proofs is wrong; both are 0 where there isn't one list of proofs for each fact.
 #[derive(Clone, Copy, Debug, PartialEq, Eq)]
 pub struct FactFault {
+    /// The number of the fact, or 0.
     pub fact: u32,
+    /// The number of the rule, or 0.
     pub rule: u32,
 }

@@ -1,8 +1,7 @@
 //! The first thing that is wrong with facts and their proofs.
 
-ghost use Rattle.std.specs.Prelude.{◌≡◌, ℕ, ◌*ℤ◌, ◌≤◌, ◌<◌, ◌↔◌, ◌+◌, ◌-◌, ◌^◌, List, length, map, nat_abs, pos};
-ghost use Rattle.std.specs.Prelude.{IsTrue, IfOk};
-ghost use Rattle.std.specs.Prelude.{MatchOption};
+ghost use Rattle.std.specs.Prelude.{◌≡◌, ◌*ℤ◌, ◌≤◌, ◌<◌, ◌↔◌, ◌+◌, ◌-◌, ◌^◌, List, length, map, nat_abs, pos};
+ghost use Rattle.std.specs.Prelude.{IsTrue, IfOk, MatchOption};
 ghost use Rattle.std.specs.List.{All};
 ghost use Rattle.poly_terms.specs.linear_forms.Combinations.{form_times};
 ghost use Rattle.poly_terms.specs.linear_forms.Limits.{certificate_limit};

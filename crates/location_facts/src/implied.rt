@@ -1,6 +1,6 @@
 //! Which facts rules imply under a list of facts.
 
-ghost use Rattle.std.specs.Prelude.{◌≡◌, ◌++◌, ◌≤◌, ◌<◌, ◌+◌, ◌^◌, List, map, length, IfOk};
+ghost use Rattle.std.specs.Prelude.{◌≡◌, ◌++◌, ◌≤◌, ◌<◌, ◌+◌, ◌^◌, map, length, IfOk};
 ghost use Rattle.std.specs.List.{All};
 ghost use Rattle.lp_builder.specs.Descriptions.{IsWritable};
 ghost use Rattle.poly_terms.specs.Views.{form_of};
@@ -24,7 +24,7 @@ pub(crate) struct Under {
     pub empty: Option<Vec<u64>>,
 }
 
-/// Multipliers that show that rows have no point, where the linear program that asks for them is solved.
+// Multipliers that show that rows have no point, where the linear program that asks for them is solved.
 fn emptiness(
     alloc: Global,
     unknowns: u32,
@@ -44,7 +44,7 @@ fn emptiness(
     }
 }
 
-/// A proof that a goal follows from rows, where it is implied and emptiness says no.
+// A proof that a goal follows from rows, where it is implied and emptiness says no.
 fn goal_proof(
     alloc: Global,
     unknowns: u32,
@@ -66,7 +66,7 @@ fn goal_proof(
     }
 }
 
-/// A proof that a rule keeps a fact, where it implies it.
+/// A proof that a rule implies a fact, where it does.
 pub(crate) fn proof_under(
     alloc: Global,
     prep: &RuleRows,

@@ -1,4 +1,5 @@
-//! What facts that are proved are worth, and what strengthening changes.
+//! Which facts are tried and kept, when a rule implies one, what facts that are proved are worth, what is wrong first
+//! with others, what strengthening changes, and what was worked out by hand of all this.
 
 ghost use Rattle.location_facts.specs.Laws.{CandidatesAreListed, ProvedFactsHold, FaultsAreDecided};
 ghost use Rattle.location_facts.specs.Laws.{StrengtheningChangesNoRun, KeptFactsAreOne, AnswersTellImplied};

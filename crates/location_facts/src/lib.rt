@@ -1,8 +1,8 @@
-//! Facts that hold at the symbols of a program. Contract to the layer above: `facts_fault` answers that nothing is
-//! wrong exactly with facts and proofs of which nothing is (`AreProved`), and else what is first
-//! (`faults_are_decided`); such facts hold on every run (`proved_facts_hold`); and the program that `strengthen` makes
-//! with facts that hold has the same runs (`strengthening_changes_no_run`). Which facts are kept within a number of
-//! pivots is said by `Kept`.
+//! Facts that hold at the symbols of a program. Contract to the layer above: `facts` finds the facts that are kept
+//! within a number of pivots, exactly (`AreKept`; at most one list is, `kept_facts_are_one`), with proofs of which
+//! nothing is wrong; `facts_fault` answers that nothing is wrong exactly with facts and proofs of which nothing is
+//! (`AreProved`), and else what is first (`faults_are_decided`); such facts hold on every run (`proved_facts_hold`);
+//! and the program that `strengthen` makes with facts that hold has the same runs (`strengthening_changes_no_run`).
 #![tactic(auto)]
 
 mod asking;
@@ -25,4 +25,4 @@ pub use laws::{
     strengthening_changes_no_run,
 };
 pub use rounds::facts;
-pub use strengthening::strengthen;
+pub use strengthening::{facts_at, greatest_least, strengthen};

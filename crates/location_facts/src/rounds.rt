@@ -6,7 +6,7 @@ ghost use Rattle.its_model.specs.Views.{program_of};
 ghost use Rattle.proof_tree.specs.Composing.{AreRowsOf};
 ghost use Rattle.location_facts.specs.declared.fact.LocFact.{LocFact as Fact};
 ghost use Rattle.location_facts.specs.Faults.{proofs_of, AreProved};
-ghost use Rattle.location_facts.specs.Implied.{AreUnder, AnyUnder, TellsProofs, AreInOrder, AreProofsUnder, IsPushed};
+ghost use Rattle.location_facts.specs.Implied.{AreUnder, AreUnderSome, TellsProofs, AreInOrder, AreProofsUnder, IsPushed};
 ghost use Rattle.location_facts.specs.Kept.{IsNext, AreKept};
 
 use crate::candidates::all_candidates;
@@ -20,6 +20,10 @@ use std::alloc::Global;
 
 /// The facts that are kept within a number of pivots, with proofs of which nothing is wrong. All facts that are tried
 /// come first; from each list those go that some rule into their symbol doesn't imply under it, until all are kept.
+///
+/// Each round asks anew whether the combined rows of each rule have no point, and where they may have one, which facts
+/// at its target follow from them: one linear program each. So it takes long on programs with many rules and places:
+/// 206 rules and 8 places are some 294,000 linear programs.
 ///
 /// # Errors
 ///
@@ -60,11 +64,11 @@ fn next_facts(
     ensures next { IfOk result (λ f. IsNext (program_of p.now) pivots kept.now f.kept.items) }
     ensures proofs { IfOk result (λ f. AreProofsUnder (program_of p.now) kept.now f.kept.items (proofs_of f)) }
 {
-    let unders = rules_under(alloc, p, preps, kept, pivots)?;
+    let rules = rules_under(alloc, p, preps, kept, pivots)?;
     let mut found = Vec::new(alloc);
     let mut proofs = Vec::new(alloc);
     for fact in kept {
-        let shown = proofs_under(alloc, p, preps, &unders, *fact, pivots)?;
+        let shown = proofs_under(alloc, p, preps, &rules, *fact, pivots)?;
         push_shown(&mut found, &mut proofs, *fact, shown)?;
     }
     Ok(LocFacts {
@@ -105,29 +109,29 @@ fn rules_under(
     requires ordered { AreInOrder (program_of p.now) kept.now }
     ensures { IfOk result (λ us. AreUnder (program_of p.now) pivots kept.now us.items) }
 {
-    let mut unders = Vec::new(alloc);
+    let mut rules = Vec::new(alloc);
     for i in 0..p.rules.len() {
         let prep = &preps[i];
         let rule = &p.rules[i];
         let under = rule_under(alloc, prep, rule.source, kept, pivots)?;
-        unders.push(under)?;
+        rules.push(under)?;
     }
-    Ok(unders)
+    Ok(rules)
 }
 
-// A proof that a fact is kept for each rule into its symbol, where all of them imply it.
+// For each rule into its symbol a proof that the rule implies a fact, where all of them do.
 fn proofs_under(
     alloc: Global,
     p: &Program,
     preps: &[RuleRows],
-    unders: &[Under],
+    rules: &[Under],
     fact: LocFact,
     pivots: u32,
 ) -> Result<Option<Vec<FactProof>>, Memory>
     requires valid { IsValid (program_of p.now) }
     requires rows { AreRowsOf preps.now (program_of p.now) }
-    requires under { AnyUnder (program_of p.now) pivots unders.now }
-    ensures { IfOk result (λ proofs. (kept : List Fact) → AreUnder (program_of p.now) pivots kept unders.now
+    requires under { AreUnderSome (program_of p.now) pivots rules.now }
+    ensures { IfOk result (λ proofs. (kept : List Fact) → AreUnder (program_of p.now) pivots kept rules.now
         → TellsProofs (program_of p.now) pivots kept fact proofs) }
 {
     let into = rules_into(alloc, p, fact.symbol)?;
@@ -135,7 +139,7 @@ fn proofs_under(
     for k in 0..into.len() {
         let rule = into[k];
         let prep = &preps[rule as usize - 1];
-        let under = &unders[rule as usize - 1];
+        let under = &rules[rule as usize - 1];
         match proof_under(alloc, prep, under, fact, pivots)? {
             Some(proof) => {
                 proofs.push(proof)?;

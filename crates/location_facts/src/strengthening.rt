@@ -1,6 +1,6 @@
 //! Programs whose guards say, too, which facts hold at the sources of their rules.
 
-ghost use Rattle.std.specs.Prelude.{◌≡◌, ◌++◌, ◌&&◌, ◌↔◌, nat_eq, if◌then◌else◌, map, filter, IfOk, Option, None, Some};
+ghost use Rattle.std.specs.Prelude.{◌≡◌, ◌++◌, ◌&&◌, ◌↔◌, nat_eq, if◌then◌else◌, map, IfOk, Option, None, Some};
 ghost use Rattle.std.specs.Prelude.{List, ℤ};
 ghost use Rattle.std.specs.List.{range_with_len};
 ghost use Rattle.poly_terms.specs.Views.{term_of};
@@ -104,7 +104,11 @@ fn room_for(rule: &Rule) -> usize
 }
 
 /// The facts of a symbol, in order.
-pub(crate) fn facts_at(alloc: Global, symbol: u32, kept: &[LocFact]) -> Result<Vec<LocFact>, Memory>
+///
+/// # Errors
+///
+/// `Memory` where an allocation fails.
+pub fn facts_at(alloc: Global, symbol: u32, kept: &[LocFact]) -> Result<Vec<LocFact>, Memory>
     ensures { IfOk result (λ facts. facts.items ≡ facts_of_symbol symbol kept.now) }
 {
     let mut found = Vec::new(alloc);
@@ -208,8 +212,8 @@ fn negation(alloc: Global, minus: u32) -> Result<Expr, Memory>
     Ok(Expr::Neg(Box::new(alloc, Expr::Var(minus - 1))?))
 }
 
-// The greatest least of the facts with these places, where there is one.
-fn greatest_least(facts: &[LocFact], plus: u32, minus: u32) -> Option<i64>
+/// The greatest least of the facts with these places, where there is one.
+pub fn greatest_least(facts: &[LocFact], plus: u32, minus: u32) -> Option<i64>
     ensures { result ≡ greatest_of plus minus None facts.now }
 {
     let mut best = None;

@@ -4,12 +4,6 @@ pub mod Lookups
 pub mod Rules
 pub mod NumberSets
 pub mod Spreads
-pub mod GapFaults
-pub mod GapPositions
-pub mod GapShapes
-pub mod GapValues
-pub mod FirstFaults
-pub mod Balances
 pub mod ReadPlaces
 pub mod BentUpdates
 -- the lemmas of the crates below, which callers name through this one

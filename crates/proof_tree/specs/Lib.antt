@@ -5,7 +5,6 @@ pub mod Sizes
 pub mod Lookups
 pub mod Composing
 pub mod Reading
-pub mod GapTests
 pub mod NumberSets
 -- laws, and values that were worked out by hand
 pub mod Laws

@@ -6,15 +6,11 @@
 
 mod answer;
 mod arm;
-mod balancing;
 mod copies;
 mod entering;
 mod fact;
 mod file;
 mod gap;
-mod gap_faults;
-mod gap_points;
-mod gap_shape;
 mod known;
 mod lookup;
 mod places;
@@ -22,7 +18,6 @@ mod proof;
 mod rank;
 mod ranking;
 mod reading;
-mod shut_places;
 mod spreading;
 
 pub use answer::{EmptyAnswer, GapFault, Question, Reason, Trip};
@@ -32,7 +27,6 @@ pub use entering::{entries, source_of, target_of};
 pub use fact::Fact;
 pub use file::ProofFile;
 pub use gap::Gap;
-pub use gap_faults::{gap_fault, gaps_exclude_functions};
 pub use known::{Known, Stated};
 pub use linear_forms::TripCause;
 pub use lookup::{size_in, time_in};
@@ -40,5 +34,5 @@ pub use places::{has_spot, known_or_zero, rounded_coefficient};
 pub use proof::{CostBy, CostNode, CycleNode, EmptyNode, Proof, SpreadNode, UnreachedNode, cite};
 pub use rank::{Form, RankNode};
 pub use ranking::{rank_form, rank_time};
-pub use reading::{bent_update, places_read};
+pub use reading::{bent_update, has_number, places_read};
 pub use spreading::{arm_bound, spread_size, spreads_are_over_what_comes_before};

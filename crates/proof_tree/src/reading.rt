@@ -20,7 +20,7 @@ use std::alloc::Global;
 
 /// Whether a number is in a list.
 #[tactic(auto, using(crate::proofs::Rules::in_found, crate::proofs::Rules::in_passed, crate::proofs::Rules::in_none))]
-pub(crate) fn has(numbers: &[u32], number: u32) -> bool
+pub fn has_number(numbers: &[u32], number: u32) -> bool
     ensures { result ≡ is_in number numbers.now }
 {
     for other in numbers {
@@ -37,7 +37,7 @@ fn is_among(monomials: &[Monomial], variable: u32) -> bool
     ensures { result ≡ list_any (λ m. is_in variable m.vars) (map monomial_of monomials.now) }
 {
     for monomial in monomials {
-        let is_here = has(&monomial.vars, variable);
+        let is_here = has_number(&monomial.vars, variable);
         if is_here {
             return true;
         }

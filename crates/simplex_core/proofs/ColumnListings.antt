@@ -13,7 +13,7 @@ use Rattle.sparse_columns.specs.declared.column.Column.{Column}
 use Rattle.sparse_columns.specs.Numbers.{number_of}
 use Rattle.sparse_columns.specs.Columns.{numerator, IsCleared}
 use Rattle.simplex_core.specs.declared.column_table.lists.RowColumns.{RowColumns}
-use Rattle.simplex_core.specs.ColumnListing.{Contains, Names, AreListed, PutsAt, PutsNew, AreTouched, AreMarked, AreBlank, Covers, Unmarks, UnmarksAt, HasAll, HasFirst}
+use Rattle.simplex_core.specs.ColumnListing.{Contains, Names, AreListed, PutsCells, AreTouched, AreMarked, AreBlank, Covers, Unmarks, UnmarksAt, HasAll, HasBoth, HasFirst}
 use Rattle.simplex_core.proofs.Positions.{slice_get-set_same, slice_get-set_other, slice_get-there}
 use Rattle.simplex_core.proofs.Extraction.{slice_get-last, slice_get-before}
 use Rattle.simplex_core.proofs.Searches.{last_or_before}
@@ -27,65 +27,94 @@ zero_or_other z = go (is_zero z) refl
     go true e = inl (is_zero-true z e)
     go false e = inr (λ h. let one : is_zero z ≡ is_zero (pos 0) = ap is_zero h in cc)
 
+-- with others behind it a list names what it did
+append-first : (xs ys : List ℕ) (k j : ℕ) → slice_get xs k ≡ Some j → slice_get (xs ++ ys) k ≡ Some j
+append-first [] ys k j is = cc
+append-first (x ∷ xs) ys zero j is = is
+append-first (x ∷ xs) ys (suc k) j is = append-first xs ys k j is
+
+-- it names the others too
+append-second : (xs ys : List ℕ) (k : ℕ) → slice_get (xs ++ ys) (length xs + k) ≡ slice_get ys k
+append-second [] ys k = let e : 0 + k ≡ k = omega arith in ap (λ (n : ℕ). slice_get ys n) e
+append-second (x ∷ xs) ys k =
+    let e : suc (length xs) + k ≡ suc (length xs + k) = omega arith in
+    ap (λ (n : ℕ). slice_get (x ∷ (xs ++ ys)) n) e ∙ append-second xs ys k
+
+-- a list and others behind it name what each of the two does
+pub both-append : (xs ys : List ℕ) → HasBoth xs ys (xs ++ ys)
+both-append xs ys = record {
+  first = record { each = λ j h. record { at = h.at; is = append-first xs ys h.at j h.is } };
+  second = record { each = λ j h. record { at = length xs + h.at; is = append-second xs ys h.at ∙ h.is } };
+}
+
 -- with one more at its end a list names what it did
 contains-before : (xs : List ℕ) (x j : ℕ) → Contains xs j → Contains (xs ++ (x ∷ [])) j
-contains-before xs x j h = record { at = h.at; is = slice_get-before xs x h.at (slice_get_within xs h.at j h.is) ∙ h.is }
+contains-before xs x j h = (both-append xs (x ∷ [])).first.each j h
 
 -- it names that one
 contains-last : (xs : List ℕ) (x : ℕ) → Contains (xs ++ (x ∷ [])) x
 contains-last xs x = record { at = length xs; is = slice_get-last xs x }
 
--- a column is put into the list of a row
-pub name-put : (lists : List RowColumns) (x : Column) (c : Cell) (j : ℕ) (l m : RowColumns) → slice_get lists c.row ≡ Some l
-    → m.columns.items ≡ l.columns.items ++ (j ∷ []) → PutsAt lists (slice_set lists c.row m) x c j
-name-put lists x c j l m is more = record {
-  length_is = length-set lists c.row m;
-  kept = λ k n h. go k n h (same_or_other k c.row);
-  put = λ zero. record { list = m; of = here; has = subst (λ (xs : List ℕ). Contains xs j) (sym more) (contains-last l.columns.items j) };
-}
+-- where a list that has all of a row's list takes its place, each list names what it did
+names-kept : (lists : List RowColumns) (r : ℕ) (l s : RowColumns) (i j : ℕ) → slice_get lists r ≡ Some l → HasAll l.columns.items s.columns.items → Names lists i j
+    → Names (slice_set lists r s) i j
+names-kept lists r l s i j is all h = go (same_or_other i r)
   where
-    here : slice_get (slice_set lists c.row m) c.row ≡ Some m
-    here = slice_get-set_same lists c.row m (slice_get_within lists c.row l is)
-
-    go : (k n : ℕ) → Names lists k n → (k ≡ c.row) ⊎ (k ≢ c.row) → Names (slice_set lists c.row m) k n
-    go k n h (inl e) =
-        let same : l ≡ h.list = same_Some l h.list (sym is ∙ (ap (λ (i : ℕ). slice_get lists i) (sym e) ∙ h.of)) in
+    go : (i ≡ r) ⊎ (i ≢ r) → Names (slice_set lists r s) i j
+    go (inl e) =
+        let same : l ≡ h.list = same_Some l h.list (sym is ∙ (ap (λ (k : ℕ). slice_get lists k) (sym e) ∙ h.of)) in
         record {
-          list = m;
-          of = ap (λ (i : ℕ). slice_get (slice_set lists c.row m) i) e ∙ here;
-          has = subst (λ (xs : List ℕ). Contains xs n) (sym more)
-              (contains-before l.columns.items j n (subst (λ (y : RowColumns). Contains y.columns.items n) (sym same) h.has));
+          list = s;
+          of = ap (λ (k : ℕ). slice_get (slice_set lists r s) k) e ∙ slice_get-set_same lists r s (slice_get_within lists r l is);
+          has = all.each j (subst (λ (y : RowColumns). Contains y.columns.items j) (sym same) h.has);
         }
-    go k n h (inr d) = record { list = h.list; of = slice_get-set_other lists c.row k m d ∙ h.of; has = h.has }
+    go (inr d) = record { list = h.list; of = slice_get-set_other lists r i s d ∙ h.of; has = h.has }
 
--- where the column has a number nothing is put
-pub name-kept : (lists : List RowColumns) (x : Column) (c : Cell) (j : ℕ) → numerator x c.row ≢ pos 0 → PutsAt lists lists x c j
-name-kept lists x c j d = record { length_is = refl; kept = λ k l h. h; put = λ e. absurd (d e) }
+-- the row's list names what the new one does
+names-here : (lists : List RowColumns) (r : ℕ) (l s : RowColumns) (j : ℕ) → slice_get lists r ≡ Some l → Contains s.columns.items j → Names (slice_set lists r s) r j
+names-here lists r l s j is has = record { list = s; of = slice_get-set_same lists r s (slice_get_within lists r l is); has = has }
 
 -- before any cell
-pub new-none : (lists : List RowColumns) (x : Column) (cells : List Cell) (j : ℕ) → PutsNew lists lists x cells j 0
-new-none lists x cells j = record { length_is = refl; kept = λ k l h. h; put = λ k c l is zero. absurd (omega arith) }
+pub cells-none : (lists : List RowColumns) (cells : List Cell) (j : ℕ) → PutsCells lists lists cells j 0
+cells-none lists cells j = record { length_is = refl; kept = λ k l h. h; put = λ k c l is. absurd (omega arith) }
 
 -- one more cell
-pub new-more : (a b d : List RowColumns) (x : Column) (cells : List Cell) (c : Cell) (j m : ℕ) → PutsNew a b x cells j m → PutsAt b d x c j
-    → slice_get cells m ≡ Some c → PutsNew a d x cells j (m + 1)
-new-more a b d x cells c j m all one at = record {
-  length_is = one.length_is ∙ all.length_is;
-  kept = λ k l h. one.kept k l (all.kept k l h);
-  put = λ k e l is nought. go k e is nought (last_or_before m k (omega arith));
+pub cells-more : (a b : List RowColumns) (cells : List Cell) (c : Cell) (j m : ℕ) (l s : RowColumns) → PutsCells a b cells j m → slice_get b c.row ≡ Some l
+    → s.columns.items ≡ l.columns.items ++ (j ∷ []) → slice_get cells m ≡ Some c → PutsCells a (slice_set b c.row s) cells j (m + 1)
+cells-more a b cells c j m l s all is more at = record {
+  length_is = length-set b c.row s ∙ all.length_is;
+  kept = λ k n h. names-kept b c.row l s k n is has (all.kept k n h);
+  put = λ k e below there. go k e there (last_or_before m k (omega arith));
 }
   where
-    go : (k : ℕ) (e : Cell) → slice_get cells k ≡ Some e → numerator x e.row ≡ pos 0 → (k ≡ m) ⊎ (k < m) → Names d e.row j
-    go k e is nought (inl s) =
-        let same : c ≡ e = same_Some c e (sym at ∙ (ap (λ (i : ℕ). slice_get cells i) (sym s) ∙ is)) in
-        subst (λ (f : Cell). Names d f.row j) same (one.put (ap (λ (f : Cell). numerator x f.row) same ∙ nought))
-    go k e is nought (inr l) = one.kept e.row j (all.put k e l is nought)
+    has : HasAll l.columns.items s.columns.items
+    has = subst (λ (xs : List ℕ). HasAll l.columns.items xs) (sym more) (both-append l.columns.items (j ∷ [])).first
+
+    go : (k : ℕ) (e : Cell) → slice_get cells k ≡ Some e → (k ≡ m) ⊎ (k < m) → Names (slice_set b c.row s) e.row j
+    go k e there (inl same) =
+        let cell : c ≡ e = same_Some c e (sym at ∙ (ap (λ (i : ℕ). slice_get cells i) (sym same) ∙ there)) in
+        subst (λ (f : Cell). Names (slice_set b c.row s) f.row j) cell
+        (names-here b c.row l s j is (subst (λ (xs : List ℕ). Contains xs j) (sym more) (contains-last l.columns.items j)))
+    go k e there (inr below) = names-kept b c.row l s e.row j is has (all.put k e below there)
+
+-- these columns are put into the list of one more cell's row
+pub touched-more : (lists : List RowColumns) (cells : List Cell) (touched : List ℕ) (m : ℕ) (c : Cell) (l s : RowColumns)
+    → ((k j : ℕ) (e : Cell) → k < m → slice_get cells k ≡ Some e → Contains touched j → Names lists e.row j)
+    → slice_get lists c.row ≡ Some l → HasBoth l.columns.items touched s.columns.items → slice_get cells m ≡ Some c
+    → (k j : ℕ) (e : Cell) → k < m + 1 → slice_get cells k ≡ Some e → Contains touched j → Names (slice_set lists c.row s) e.row j
+touched-more lists cells touched m c l s all is both at k j e below there named = go (last_or_before m k (omega arith))
+  where
+    go : (k ≡ m) ⊎ (k < m) → Names (slice_set lists c.row s) e.row j
+    go (inl same) =
+        let cell : c ≡ e = same_Some c e (sym at ∙ (ap (λ (i : ℕ). slice_get cells i) (sym same) ∙ there)) in
+        subst (λ (f : Cell). Names (slice_set lists c.row s) f.row j) cell (names-here lists c.row l s j is (both.second.each j named))
+    go (inr under) = names-kept lists c.row l s e.row j is both.first (all k j e under there named)
 
 -- the lists of the first columns, of which one more is put
-pub listed-more : (columns : List Column) (a b : List RowColumns) (n m : ℕ) (none x : Column) (cells : List Cell) → AreListed columns a n m → PutsNew a b none cells m (length cells)
-    → ((i : ℕ) → numerator none i ≡ pos 0) → slice_get columns m ≡ Some x
+pub listed-more : (columns : List Column) (a b : List RowColumns) (n m : ℕ) (x : Column) (cells : List Cell) → AreListed columns a n m → PutsCells a b cells m (length cells)
+    → slice_get columns m ≡ Some x
     → ((i : ℕ) → i < n → numerator x i ≢ pos 0 → (k : ℕ) × (c : Cell) × (slice_get cells k ≡ Some c) × (c.row ≡ i)) → AreListed columns b n (m + 1)
-listed-more columns a b n m none x cells are puts zeros at found = record { each = λ i j y l lj is d. go i j y l is d (last_or_before m j (omega arith)) }
+listed-more columns a b n m x cells are puts at found = record { each = λ i j y l lj is d. go i j y l is d (last_or_before m j (omega arith)) }
   where
     go : (i j : ℕ) (y : Column) → i < n → slice_get columns j ≡ Some y → numerator y i ≢ pos 0 → (j ≡ m) ⊎ (j < m) → Names b i j
     go i j y l is d (inl e) =
@@ -93,7 +122,7 @@ listed-more columns a b n m none x cells are puts zeros at found = record { each
         let there = found i l (subst (λ (w : Column). numerator w i ≢ pos 0) same d) in
         subst (λ (k : ℕ). Names b i k) (sym e)
         (subst (λ (k : ℕ). Names b k m) there.3
-        (puts.put there.0 there.1 (slice_get_within cells there.0 there.1 there.2) there.2 (zeros there.1.row)))
+        (puts.put there.0 there.1 (slice_get_within cells there.0 there.1 there.2) there.2))
     go i j y l is d (inr lj) = puts.kept i j (are.each i j y l lj is d)
 
 -- no mark is set at first
@@ -282,13 +311,12 @@ nothing-over : (w o x u : ℤ) → pos 0 <ℤ w → w *ℤ o ≡ x *ℤ u → x 
 nothing-over w o x u positive ratio e = mul-cancel_ℤ w o (pos 0) positive (ratio ∙ (zero-mul_ℤ x u e ∙ sym (mul-zero_ℤ w (pos 0) refl)))
 
 -- after a pivot, with the list of its row made anew, the lists still name each column with a number
-pub pivoted-listed : (xs ys : List Column) (old mid : List RowColumns) (n m r : ℕ) (w : ℤ) (shifted : List Cell) (touched : List ℕ) (list : RowColumns) → AreListed xs old n m → length xs ≡ m
+pub pivoted-listed : (xs ys : List Column) (mid : List RowColumns) (n m r : ℕ) (w : ℤ) (shifted : List Cell) (touched : List ℕ) (list : RowColumns) → AreListed xs mid n m → length xs ≡ m
     → pos 0 <ℤ w → r < length mid → list.columns.items ≡ touched → AreTouched xs r touched
     → ((j : ℕ) (a b : Column) → slice_get xs j ≡ Some a → slice_get ys j ≡ Some b → IsCleared a b r w shifted)
-    → ((i j : ℕ) → Names old i j → Names mid i j)
-    → ((k j : ℕ) (a : Column) (i : ℕ) → k < length touched → slice_get touched k ≡ Some j → slice_get xs j ≡ Some a → i < n → numerator a i ≡ pos 0 → number_of shifted i ≢ pos 0 → Names mid i j)
+    → ((i j : ℕ) → i < n → number_of shifted i ≢ pos 0 → Contains touched j → Names mid i j)
     → AreListed ys (slice_set mid r list) n m
-pivoted-listed xs ys old mid n m r w shifted touched list are size positive below own touch cleared kept put = record {
+pivoted-listed xs ys mid n m r w shifted touched list are size positive below own touch cleared put = record {
   each = λ i j b l lj is d.
       let a = slice_get-there xs j (omega arith) in
       row i j a.0 b l lj a.1 d (cleared j a.0 b a.1 is) (same_or_other i r) (zero_or_other (numerator a.0 r));
@@ -297,15 +325,14 @@ pivoted-listed xs ys old mid n m r w shifted touched list are size positive belo
     go : (i j : ℕ) (a b : Column) → i < n → j < m → slice_get xs j ≡ Some a → numerator b i ≢ pos 0 → IsCleared a b r w shifted
         → (numerator a i ≡ pos 0) ⊎ (numerator a i ≢ pos 0) → (number_of shifted i ≡ pos 0) ⊎ (number_of shifted i ≢ pos 0) → (numerator a r ≡ pos 0) ⊎ (numerator a r ≢ pos 0)
         → Names mid i j
-    go i j a b l lj is d h (inr f) s z = kept i j (are.each i j a l lj is f)
+    go i j a b l lj is d h (inr f) s z = are.each i j a l lj is f
     go i j a b l lj is d h (inl e) (inl f) z =
         absurd (d (stays (numerator b i) h.divisor (numerator a i) h.under (number_of shifted i) h.over h.positive (h.numbers i) e (zero-mul_ℤ (number_of shifted i) h.over f)))
     go i j a b l lj is d h (inl e) (inr f) (inl z) =
         absurd (d (stays (numerator b i) h.divisor (numerator a i) h.under (number_of shifted i) h.over h.positive (h.numbers i) e
         (mul-zero_ℤ (number_of shifted i) h.over (nothing-over w h.over (numerator a r) h.under positive h.ratio z))))
     go i j a b l lj is d h (inl e) (inr f) (inr z) =
-        let named = touch.all j a is z in
-        put named.at j a i (slice_get_within touched named.at j named.is) named.is is l e f
+        put i j l f (touch.all j a is z)
 
     row : (i j : ℕ) (a b : Column) → i < n → j < m → slice_get xs j ≡ Some a → numerator b i ≢ pos 0 → IsCleared a b r w shifted
         → (i ≡ r) ⊎ (i ≢ r) → (numerator a r ≡ pos 0) ⊎ (numerator a r ≢ pos 0) → Names (slice_set mid r list) i j
@@ -372,17 +399,13 @@ first-more listed m marks more found p are at others = record {
 pub first-all : (listed : List ℕ) (marks : List Bool) (found : List ℕ) → HasFirst listed (length listed) marks found → HasAll listed found
 first-all listed marks found are = record { each = λ j named. are.each named.at j (slice_get_within listed named.at j named.is) named.is }
 
+-- one list names what another does that names what a third does
+pub all-both : (xs ys zs touched : List ℕ) → HasAll xs ys → zs ≡ ys ++ touched → HasBoth xs touched zs
+all-both xs ys zs touched has e =
+    subst (λ (ns : List ℕ). HasBoth xs touched ns) (sym e)
+    (record { first = record { each = λ j h. (both-append ys touched).first.each j (has.each j h) }; second = (both-append ys touched).second })
+
 -- a list that has all of its row's list takes its place
 pub listed-list : (columns : List Column) (lists : List RowColumns) (n m r : ℕ) (l s : RowColumns) → AreListed columns lists n m → slice_get lists r ≡ Some l
     → HasAll l.columns.items s.columns.items → AreListed columns (slice_set lists r s) n m
-listed-list columns lists n m r l s are is all = record { each = λ i j x a b at d. go i j (are.each i j x a b at d) (same_or_other i r) }
-  where
-    go : (i j : ℕ) → Names lists i j → (i ≡ r) ⊎ (i ≢ r) → Names (slice_set lists r s) i j
-    go i j h (inl e) =
-        let same : l ≡ h.list = same_Some l h.list (sym is ∙ (ap (λ (k : ℕ). slice_get lists k) (sym e) ∙ h.of)) in
-        record {
-          list = s;
-          of = ap (λ (k : ℕ). slice_get (slice_set lists r s) k) e ∙ slice_get-set_same lists r s (slice_get_within lists r l is);
-          has = all.each j (subst (λ (y : RowColumns). Contains y.columns.items j) (sym same) h.has);
-        }
-    go i j h (inr d) = record { list = h.list; of = slice_get-set_other lists r i s d ∙ h.of; has = h.has }
+listed-list columns lists n m r l s are is all = record { each = λ i j x a b at d. names-kept lists r l s i j is all (are.each i j x a b at d) }

@@ -26,7 +26,7 @@ use Rattle.simplex_core.specs.ColumnTables.{ShowsColumns, IsCellOf, AreNotNegati
 use Rattle.simplex_core.proofs.FractionSizes.{lowest-least}
 use Rattle.simplex_core.proofs.Positions.{slice_get-there, slice_get-set_same, slice_get-set_other}
 use Rattle.simplex_core.proofs.Invariant.{same_or_other}
-use Rattle.simplex_core.specs.ColumnListing.{Names, AreTouched}
+use Rattle.simplex_core.specs.ColumnListing.{AreTouched}
 use Rattle.simplex_core.proofs.ColumnListings.{zero_or_other}
 use Rattle.simplex_core.proofs.Searches.{last_or_before, no_and}
 use Rattle.simplex_core.proofs.Choices.{int_lt-true, lt-int_lt, le-int_lt}
@@ -140,8 +140,7 @@ clears-more a b d r pivot shifted touched m p all one own at = record {
   right = one.right ∙ all.right;
   cleared = λ n j x y l is is_x is_y. go n j x y is is_x is_y (last_or_before m n (omega arith));
   others = λ j apart. one.others j (λ e. apart m (omega arith) (at ∙ ap Some (sym e))) ∙ all.others j (λ n l. apart n (omega arith));
-  kept = λ i j h. one.kept i j (all.kept i j h);
-  put = λ n j x i l is is_x below e f. puts n j x i is is_x below e f (last_or_before m n (omega arith));
+  lists = one.lists ∙ all.lists;
   marks = one.marks ∙ all.marks;
   first = λ h. one.first (all.first h);
 }
@@ -160,13 +159,6 @@ clears-more a b d r pivot shifted touched m p all one own at = record {
     go n j x y is is_x is_y (inl e) =
         one.cleared x y (before ∙ (ap (λ (o : ℕ). slice_get a.columns.items o) (same n j is e) ∙ is_x)) (ap (λ (o : ℕ). slice_get d.columns.items o) (same n j is e) ∙ is_y)
     go n j x y is is_x is_y (inr l) = all.cleared n j x y l is is_x (sym (one.others j (λ e. unseen n l (is ∙ ap Some e))) ∙ is_y)
-
-    puts : (n j : ℕ) (x : Column) (i : ℕ) → slice_get touched n ≡ Some j → slice_get a.columns.items j ≡ Some x → i < a.rows → numerator x i ≡ pos 0 → number_of shifted i ≢ pos 0
-        → (n ≡ m) ⊎ (n < m) → Names d.lists.items i j
-    puts n j x i is is_x below e f (inl g) =
-        subst (λ (o : ℕ). Names d.lists.items i o) (same n j is g)
-        (one.put x i (before ∙ (ap (λ (o : ℕ). slice_get a.columns.items o) (same n j is g) ∙ is_x)) (let rows = all.rows in omega (arith, below, rows)) e f)
-    puts n j x i is is_x below e f (inr l) = one.kept i j (all.put n j x i l is is_x below e f)
 
 -- where the columns with a number in the row are cleared, all are
 pub clears-all : (a b : ColumnTable) (r : ℕ) (pivot : ℤ) (shifted : List Cell) (touched : List ℕ) → ClearsTouched a b r pivot shifted touched (length touched)

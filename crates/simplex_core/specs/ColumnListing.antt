@@ -14,6 +14,11 @@ pub record Contains (listed : List ℕ) (j : ℕ) : Type 0 where
 pub record HasAll (listed found : List ℕ) : Type 0 where
   pub each : (j : ℕ) → Contains listed j → Contains found j
 
+-- one list names each column that two others name
+pub record HasBoth (listed more found : List ℕ) : Type 0 where
+  pub first : HasAll listed found
+  pub second : HasAll more found
+
 -- it names the first m of them, and each that has a mark
 pub record HasFirst (listed : List ℕ) (m : ℕ) (marks : List Bool) (found : List ℕ) : Type 0 where
   pub marked : (j : ℕ) → slice_get marks j ≡ Some true → Contains found j
@@ -34,22 +39,11 @@ pub record AreListed (columns : List Column) (lists : List RowColumns) (n m : �
 pub record AreRowsBelow (cells : List Cell) (n : ℕ) : Type 0 where
   pub each : (k : ℕ) (c : Cell) → slice_get cells k ≡ Some c → c.row < n
 
--- the cells are numbers of the column
-pub record AreCellsOf (x : Column) (cells : List Cell) : Type 0 where
-  pub each : (k : ℕ) (c : Cell) → slice_get cells k ≡ Some c → numerator x c.row ≡ c.number
-
--- column j is put into the list of a cell's row, where the column x has 0, and each list names what it did
-pub record PutsAt (old new : List RowColumns) (x : Column) (c : Cell) (j : ℕ) : Type 0 where
+-- column j is put into the list of the row of each of the first m cells, and each list names what it did
+pub record PutsCells (old new : List RowColumns) (cells : List Cell) (j m : ℕ) : Type 0 where
   pub length_is : length new ≡ length old
   pub kept : (k l : ℕ) → Names old k l → Names new k l
-  pub put : numerator x c.row ≡ pos 0 → Names new c.row j
-
--- column j is put into the list of the row of each of the first m cells where the column x has 0, and each list names
--- what it did
-pub record PutsNew (old new : List RowColumns) (x : Column) (cells : List Cell) (j m : ℕ) : Type 0 where
-  pub length_is : length new ≡ length old
-  pub kept : (k l : ℕ) → Names old k l → Names new k l
-  pub put : (k : ℕ) (c : Cell) → k < m → slice_get cells k ≡ Some c → numerator x c.row ≡ pos 0 → Names new c.row j
+  pub put : (k : ℕ) (c : Cell) → k < m → slice_get cells k ≡ Some c → Names new c.row j
 
 -- there is a mark for each of n columns, and none is set
 pub record AreBlank (marks : List Bool) (n : ℕ) : Type 0 where

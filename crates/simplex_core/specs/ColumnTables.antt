@@ -7,7 +7,7 @@ use Rattle.sparse_columns.specs.declared.column.Column.{Column}
 use Rattle.sparse_columns.specs.Numbers.{alone, number_of}
 use Rattle.sparse_columns.specs.Columns.{numerator, IsCleared}
 use Rattle.simplex_core.specs.declared.column_table.ColumnTable.{ColumnTable}
-use Rattle.simplex_core.specs.ColumnListing.{AreListed, AreBlank, Names}
+use Rattle.simplex_core.specs.ColumnListing.{AreListed, AreBlank, Contains, Names}
 use Rattle.linear_forms.specs.LinearProgram.{LinearProgram}
 use Rattle.simplex_core.specs.Tableau.{Tableau, unknowns}
 use Rattle.simplex_core.specs.Bland.{is_candidate, goes_before}
@@ -91,8 +91,7 @@ pub record ClearsColumns (old new : ColumnTable) (r : ℕ) (pivot : ℤ) (shifte
       → IsCleared a b r pivot shifted
   pub beside : IsKept new
 
--- the numbers in row r of the first m of these columns are cleared, and each is put into the list of each row where that
--- makes a number; the other columns are as before, each list names what it did, and all else is as before
+-- the numbers in row r of the first m of these columns are cleared, and all else is as before
 pub record ClearsTouched (old new : ColumnTable) (r : ℕ) (pivot : ℤ) (shifted : List Cell) (touched : List ℕ) (m : ℕ)
     : Type 0 where
   pub rows : new.rows ≡ old.rows
@@ -103,9 +102,7 @@ pub record ClearsTouched (old new : ColumnTable) (r : ℕ) (pivot : ℤ) (shifte
       → slice_get new.columns.items j ≡ Some b → IsCleared a b r pivot shifted
   pub others : (j : ℕ) → ((n : ℕ) → n < m → slice_get touched n ≢ Some j)
       → slice_get new.columns.items j ≡ slice_get old.columns.items j
-  pub kept : (i j : ℕ) → Names old.lists.items i j → Names new.lists.items i j
-  pub put : (n j : ℕ) (a : Column) (i : ℕ) → n < m → slice_get touched n ≡ Some j → slice_get old.columns.items j ≡ Some a
-      → i < old.rows → numerator a i ≡ pos 0 → number_of shifted i ≢ pos 0 → Names new.lists.items i j
+  pub lists : new.lists.items ≡ old.lists.items
   pub marks : new.marks.items ≡ old.marks.items
   pub first : IsFirst old → IsFirst new
 
@@ -118,9 +115,7 @@ pub record ClearsColumn (old new : ColumnTable) (position r : ℕ) (pivot : ℤ)
   pub cleared : (a b : Column) → slice_get old.columns.items position ≡ Some a
       → slice_get new.columns.items position ≡ Some b → IsCleared a b r pivot shifted
   pub others : (j : ℕ) → j ≢ position → slice_get new.columns.items j ≡ slice_get old.columns.items j
-  pub kept : (i j : ℕ) → Names old.lists.items i j → Names new.lists.items i j
-  pub put : (a : Column) (i : ℕ) → slice_get old.columns.items position ≡ Some a → i < old.rows → numerator a i ≡ pos 0
-      → number_of shifted i ≢ pos 0 → Names new.lists.items i position
+  pub lists : new.lists.items ≡ old.lists.items
   pub marks : new.marks.items ≡ old.marks.items
   pub first : IsFirst old → IsFirst new
 
@@ -143,3 +138,9 @@ pub record ChangesBeside (old new : ColumnTable) : Type 0 where
   pub right : new.right ≡ old.right
   pub kept : new.columns.items ≡ old.columns.items
   pub beside : IsKept new
+
+-- these columns are put into the list of the row of each of the first m cells; what is kept beside the numbers is right,
+-- and all else is as before
+pub record ListsTouched (old new : ColumnTable) (cells : List Cell) (touched : List ℕ) (m : ℕ) : Type 0 where
+  pub changes : ChangesBeside old new
+  pub put : (k j : ℕ) (c : Cell) → k < m → slice_get cells k ≡ Some c → Contains touched j → Names new.lists.items c.row j

@@ -1,21 +1,12 @@
 -- What is answered of a size: a node that states it, or the first reason why there is none.
 use Rattle.std.specs.Prelude.{◌≡◌, ℕ, List, [], ◌∷◌}
-use Rattle.std.specs.List.{All}
-use Rattle.model.specs.Programs.{Program}
 use Rattle.model.specs.Facts.{Size}
-use Rattle.guard_prep.specs.its_model.Valid.{IsValid}
-use Rattle.its_graph.specs.Graphs.{IsGraphOf}
-use Rattle.its_graph.specs.declared.graph.Graph.{Graph}
-use Rattle.guard_prep.specs.declared.rule_rows.RuleRows.{RuleRows}
 use Rattle.proof_tree.specs.proof_nodes.Nodes.{Member, Spread, Cycle}
 use Rattle.proof_tree.specs.proof_nodes.Setting.{Setting}
 use Rattle.proof_tree.specs.proof_nodes.Known.{Table}
 use Rattle.proof_tree.specs.proof_nodes.AcceptsSizes.{AcceptsSpread, AcceptsCycle, spread_size, cycle_size, cycle_facts}
-use Rattle.proof_tree.specs.proof_nodes.AcceptsSizes.{HasMemberShape, HasCycleShape, AcceptsUp, AcceptsLow}
 use Rattle.proof_tree.specs.proof_nodes.Reasons.{MissingTime, MissingSize, Bent, Large, IsFirstAmong}
 use Rattle.proof_tree.specs.proof_nodes.Checks.{spread_checks, cycle_checks}
-use Rattle.proof_tree.specs.proof_setting.Setting.{setting_of}
-use Rattle.proof_tree.specs.Composing.{AreRowsOf}
 use Rattle.proof_tree.specs.Views.{facts_of, proof_of}
 use Rattle.bound_rounds.specs.Needs.{uses_for, spread_needs, cycle_needs}
 use Rattle.size_bounds.specs.declared.answer.SizeAnswer.{SizeAnswer}
@@ -44,21 +35,3 @@ IsCycleAnswer s tab number members (answers.Bent spot) =
     IsFirstAmong (cycle_checks s tab members) (Bent spot.rule spot.place)
 IsCycleAnswer s tab number members (answers.Untimed rule) = IsFirstAmong (cycle_checks s tab members) (MissingTime rule)
 IsCycleAnswer s tab number members (answers.Large nodes) = IsFirstAmong (cycle_checks s tab members) (Large nodes)
-
--- the graph and the rows are those of a program, and the arms of a member are accepted
-pub record IsMemberOfProgram (p : Program) (g : Graph) (preps : List RuleRows) (m : Member) : Type 0 where
-  pub valid : IsValid p
-  pub graph : IsGraphOf g p
-  pub rows : AreRowsOf preps p
-  pub shape : HasMemberShape (setting_of p) m
-  pub up : AcceptsUp (setting_of p) m
-  pub low : AcceptsLow (setting_of p) m
-
--- so are those of each of these members, which ascend
-pub record AreMembersOfProgram (p : Program) (g : Graph) (preps : List RuleRows) (members : List Member) : Type 0 where
-  pub valid : IsValid p
-  pub graph : IsGraphOf g p
-  pub rows : AreRowsOf preps p
-  pub shape : HasCycleShape (setting_of p) members
-  pub up : All (AcceptsUp (setting_of p)) members
-  pub low : All (AcceptsLow (setting_of p)) members

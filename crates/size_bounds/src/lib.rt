@@ -5,29 +5,16 @@
 #![tactic(auto)]
 
 mod answer;
-mod bent;
 mod copies;
-mod flow;
-mod growth;
-mod loop_bound;
 mod looping;
-mod members;
-mod missing;
-mod needs;
-mod rules;
-mod sized;
-mod sizing;
 mod spreading;
 mod table;
-mod updates;
 mod uses;
 
 pub use answer::SizeAnswer;
 pub use copies::{copied_member, copied_members};
 pub use looping::cycle;
 pub use outcome::Stored;
-pub use sized::{sized_cycle, sized_spread};
-pub use sizing::Sizing;
 pub use spreading::spread;
 pub use table::Table;
 pub use uses::{uses_of_lemmas, uses_of_needs};

@@ -9,18 +9,18 @@ ghost use Rattle.proof_tree.specs.proof_setting.Setting.{setting_of};
 ghost use Rattle.proof_tree.specs.Views.{facts_of, member_of, proof_of, spot_of};
 ghost use Rattle.bound_rounds.specs.Needs.{uses_for};
 ghost use Rattle.size_bounds.specs.Tables.{table_of, number_at};
-ghost use Rattle.size_bounds.specs.SizeAnswers.{AreMembersOfProgram, IsCycleAnswer};
+ghost use Rattle.size_nodes.specs.Members.{AreMembersOfProgram};
+ghost use Rattle.size_bounds.specs.SizeAnswers.{IsCycleAnswer};
 
 use crate::answer::SizeAnswer;
 use crate::copies::copied_members;
-use crate::sized::sized_cycle;
-use crate::sizing::Sizing;
 use crate::table::Table;
 use crate::uses::uses_of_needs;
 use bound_expr::{Bound, Memory};
 use guard_prep::RuleRows;
 use its_graph::Graph;
-use proof_tree::{CycleNode, Fact, Member, Proof, Spot};
+use proof_tree::{CycleNode, Member, Proof, Spot};
+use size_nodes::{Sizing, size_facts, sized_cycle};
 use std::alloc::Global;
 
 /// The size of all members of a loop of places: what comes into the loop from outside, and what its rules add, each as
@@ -65,20 +65,4 @@ fn cycle_node(alloc: Global, t: &Table, members: &[Member], needs: &[Spot]) -> R
     let uses = uses_of_needs(alloc, t, needs)?;
     let members = copied_members(alloc, members)?;
     Ok(Proof::Cycle(Box::new(alloc, CycleNode { members, uses })?))
-}
-
-// The facts that this is the size of each member.
-fn size_facts(alloc: Global, members: &[Member], bound: &Bound) -> Result<Vec<Fact>, Memory>
-    ensures { IfOk result (λ facts. facts_of facts.items ≡ cycle_facts (bound_of bound.now) (map member_of
-        members.now)) }
-{
-    let mut facts = Vec::new(alloc);
-    for member in members {
-        facts.push(Fact::Size {
-            rule: member.spot.rule,
-            place: member.spot.place,
-            bound: bound.copied(alloc)?,
-        })?;
-    }
-    Ok(facts)
 }

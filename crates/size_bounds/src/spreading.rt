@@ -9,17 +9,17 @@ ghost use Rattle.proof_tree.specs.proof_setting.Setting.{setting_of};
 ghost use Rattle.proof_tree.specs.Views.{facts_of, member_of, proof_of, spot_of};
 ghost use Rattle.bound_rounds.specs.Needs.{uses_for};
 ghost use Rattle.size_bounds.specs.Tables.{table_of, number_at};
-ghost use Rattle.size_bounds.specs.SizeAnswers.{IsMemberOfProgram, IsSpreadAnswer};
+ghost use Rattle.size_nodes.specs.Members.{IsMemberOfProgram};
+ghost use Rattle.size_bounds.specs.SizeAnswers.{IsSpreadAnswer};
 
 use crate::answer::SizeAnswer;
-use crate::sized::sized_spread;
-use crate::sizing::Sizing;
 use crate::table::Table;
 use crate::uses::uses_of_needs;
 use bound_expr::{Bound, Memory};
 use guard_prep::RuleRows;
 use its_graph::Graph;
 use proof_tree::{Fact, Member, Proof, Spot, SpreadNode, copied_local};
+use size_nodes::{Sizing, sized_spread};
 use std::alloc::Global;
 
 /// The size of a place after a rule where its arms read no place of its own loop: the maximum, over the rules that can

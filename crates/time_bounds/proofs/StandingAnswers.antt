@@ -18,8 +18,8 @@ use Rattle.bound_rounds.specs.Searches.{Unsized}
 use Rattle.bound_rounds.specs.Answers.{are_open}
 use Rattle.bound_rounds.specs.Right.{IsReasonFor}
 use Rattle.bound_rounds.proofs.FindLists.{bounds_of-kept}
-use Rattle.size_bounds.specs.declared.sizing.Sizing.{Sizing}
-use Rattle.size_bounds.specs.declared.sizing.Sizing.TheVariants as answers
+use Rattle.size_nodes.specs.declared.sizing.Sizing.{Sizing}
+use Rattle.size_nodes.specs.declared.sizing.Sizing.TheVariants as answers
 use Rattle.time_bounds.specs.declared.asking.Asked.{Asked}
 use Rattle.time_bounds.specs.declared.candidates.Candidate.{Candidate}
 use Rattle.time_bounds.specs.declared.sizing.Attempt.{Attempt}

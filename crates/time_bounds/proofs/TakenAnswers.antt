@@ -34,10 +34,10 @@ use Rattle.bound_rounds.proofs.FindLists.{found-here, found_known}
 use Rattle.bound_rounds.proofs.Keys.{has_key-first, has_key-later}
 use Rattle.bound_book.specs.declared.find.Find.{Find}
 use Rattle.bound_book.specs.Views.{finds_of}
-use Rattle.size_bounds.specs.SizeAnswers.{IsMemberOfProgram, AreMembersOfProgram}
-use Rattle.size_bounds.specs.Sizings as coded
-use Rattle.size_bounds.specs.declared.sizing.Sizing.{Sizing}
-use Rattle.size_bounds.specs.declared.sizing.Sizing.TheVariants as answers
+use Rattle.size_nodes.specs.Members.{IsMemberOfProgram, AreMembersOfProgram}
+use Rattle.size_nodes.specs.Sizings as coded
+use Rattle.size_nodes.specs.declared.sizing.Sizing.{Sizing}
+use Rattle.size_nodes.specs.declared.sizing.Sizing.TheVariants as answers
 use Rattle.time_bounds.specs.declared.candidates.Candidate.{Candidate}
 use Rattle.time_bounds.specs.declared.candidates.Arms.{Arms}
 use Rattle.time_bounds.specs.declared.candidates.Arms.TheVariants as arms

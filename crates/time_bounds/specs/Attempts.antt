@@ -16,8 +16,8 @@ use Rattle.bound_rounds.specs.Answers.{SizesOf, are_open}
 use Rattle.bound_rounds.specs.Rounds.{Tries}
 use Rattle.bound_book.specs.declared.find.Find.{Find}
 use Rattle.bound_book.specs.Views.{finds_of}
-use Rattle.size_bounds.specs.declared.sizing.Sizing.{Sizing}
-use Rattle.size_bounds.specs.declared.sizing.Sizing.TheVariants as answers
+use Rattle.size_nodes.specs.declared.sizing.Sizing.{Sizing}
+use Rattle.size_nodes.specs.declared.sizing.Sizing.TheVariants as answers
 use Rattle.time_bounds.specs.declared.candidates.Candidate.{Candidate}
 use Rattle.time_bounds.specs.declared.candidates.Arms.{Arms}
 use Rattle.time_bounds.specs.declared.candidates.Arms.TheVariants as arms

@@ -5,8 +5,8 @@ use Rattle.model.specs.Programs.{Program}
 use Rattle.proof_tree.specs.proof_nodes.Known.{Table}
 use Rattle.bound_rounds.specs.Keys.{Bounds, over}
 use Rattle.bound_rounds.specs.Answers.{are_open}
-use Rattle.size_bounds.specs.declared.sizing.Sizing.{Sizing}
-use Rattle.size_bounds.specs.declared.sizing.Sizing.TheVariants.{Found, Missing, Bent, Untimed, Large}
+use Rattle.size_nodes.specs.declared.sizing.Sizing.{Sizing}
+use Rattle.size_nodes.specs.declared.sizing.Sizing.TheVariants.{Found, Missing, Bent, Untimed, Large}
 use Rattle.time_bounds.specs.declared.candidates.Candidate.{Candidate}
 use Rattle.time_bounds.specs.declared.sizing.Attempt.{Attempt}
 use Rattle.time_bounds.specs.declared.sizing.Attempt.TheVariants as attempts

@@ -21,7 +21,8 @@ use bound_book::put_place;
 use model::Memory;
 use outcome::{SizeEntry, Stored};
 use proof_tree::Spot;
-use size_bounds::{Sizing, Table};
+use size_bounds::Table;
+use size_nodes::Sizing;
 use std::alloc::Global;
 
 /// For the virtual entry and for each rule, and for each place after it, its size, or by what the last round made of

@@ -22,7 +22,8 @@ use crate::context::Context;
 use bound_book::{Book, Find, Node, is_known};
 use model::Memory;
 use proof_tree::Spot;
-use size_bounds::{Sizing, Table, copied_member, copied_members, sized_cycle, sized_spread};
+use size_bounds::{Table, copied_member, copied_members};
+use size_nodes::{Sizing, sized_cycle, sized_spread};
 use std::alloc::Global;
 
 /// What a round made of a component.

@@ -1,7 +1,7 @@
 //! For each row the columns that may have a number there.
 
 ghost use Rattle.std.specs.Prelude.{◌≡◌, ℕ, ◌+◌, ◌<◌, ◌^◌, IfOk, true, Some, slice_get, length, ◌++◌, List, [], ◌∷◌};
-ghost use Rattle.simplex_core.specs.ColumnListing.{AreListed, PutsAt, PutsNew, AreRowsBelow, AreCellsOf, HasAll, HasFirst};
+ghost use Rattle.simplex_core.specs.ColumnListing.{AreListed, PutsCells, AreRowsBelow, HasAll, HasBoth, HasFirst};
 ghost use Rattle.sparse_columns.specs.declared.cell.Cell.{Cell};
 ghost use Rattle.sparse_columns.specs.declared.column.Column.{Column};
 
@@ -56,6 +56,20 @@ impl RowColumns {
         self.columns.push(column)?;
         Ok(())
     }
+
+    /// Adds columns. Where there are more than twice so many before, those that stand there before are taken out.
+    pub(super) fn extend(
+        &mut self,
+        alloc: Global,
+        columns: &[u32],
+        count: usize,
+    ) -> Result<(), AllocError>
+        ensures { IfOk result (λ _. HasBoth self.old.columns.items columns.now self.new.columns.items) }
+    {
+        self.shorten(alloc, count)?;
+        self.columns.extend_from_slice(columns)?;
+        Ok(())
+    }
 }
 
 /// Those of these columns that don't stand there before, of a table of so many.
@@ -99,11 +113,10 @@ pub(super) fn first_lists(
     ensures length { IfOk result (λ lists. length lists.items ≡ rows) }
     ensures listed { IfOk result (λ lists. AreListed columns.now lists.items rows (length columns.now)) }
 {
-    let none = Column::zeros(alloc);
     let mut lists = empty_lists(alloc, rows)?;
     for position in 0..columns.len() {
         let cells = columns[position].cells().before(rows);
-        put_new(&mut lists, &none, rows, cells, position as u32)?;
+        put_cells(&mut lists, cells, position as u32)?;
     }
     Ok(lists)
 }
@@ -119,59 +132,14 @@ fn empty_lists(alloc: Global, rows: u32) -> Result<Vec<RowColumns>, AllocError>
     Ok(lists)
 }
 
-/// Puts a position into the list of the row of each cell where a column has 0. The cells are in rows before this one.
-pub(super) fn put_new(
-    lists: &mut Vec<RowColumns>,
-    column: &Column,
-    rows: u32,
-    cells: &[Cell],
-    position: u32,
-) -> Result<(), AllocError>
+/// Puts a column into the list of each cell's row.
+fn put_cells(lists: &mut Vec<RowColumns>, cells: &[Cell], position: u32) -> Result<(), AllocError>
     requires { AreRowsBelow cells.now (length lists.old.items) }
     ensures size { length lists.new.items ≡ length lists.old.items }
-    ensures puts { IfOk result (λ _. PutsNew lists.old.items lists.new.items column.now cells.now position
-        (length cells.now)) }
+    ensures puts { IfOk result (λ _. PutsCells lists.old.items lists.new.items cells.now position (length cells.now)) }
 {
-    let own = column.cells().before(rows);
-    let mut index = 0;
     for cell in cells {
-        index = first_behind(own, index, cell.row);
-        put(lists, own, index, *cell, position)?;
+        lists[cell.row as usize].push(position)?;
     }
     Ok(())
-}
-
-/// The first index from one on whose cell isn't in a row before this one, where the rows ascend.
-fn first_behind(cells: &[Cell], index: usize, row: u32) -> usize {
-    let mut found = index;
-    while found < cells.len() && cells[found].row < row {
-        found += 1;
-    }
-    found
-}
-
-/// Puts a position into the list of a cell's row, unless a column's own cell at an index is in that row.
-fn put(
-    lists: &mut Vec<RowColumns>,
-    own: &[Cell],
-    index: usize,
-    cell: Cell,
-    position: u32,
-) -> Result<(), AllocError>
-    requires { cell.row < length lists.old.items }
-    ensures size { length lists.new.items ≡ length lists.old.items }
-    ensures puts { IfOk result (λ _. (x : Column) → AreCellsOf x own.now
-        → PutsAt lists.old.items lists.new.items x cell position) }
-{
-    if is_in_row(own, index, cell.row) {
-        return Ok(());
-    }
-    lists[cell.row as usize].push(position)
-}
-
-/// Whether there is a cell at an index, and it is in this row.
-fn is_in_row(cells: &[Cell], index: usize, row: u32) -> bool
-    ensures { result ≡ true → (c : Cell) × (slice_get cells.now index ≡ Some c) × (c.row ≡ row) }
-{
-    index < cells.len() && cells[index].row == row
 }

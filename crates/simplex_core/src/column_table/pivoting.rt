@@ -7,10 +7,10 @@ ghost use Rattle.sparse_columns.specs.declared.column.Column.{Column};
 ghost use Rattle.sparse_columns.specs.Columns.{numerator};
 ghost use Rattle.simplex_core.specs.ColumnListing.{AreTouched, AreRowsBelow};
 ghost use Rattle.simplex_core.specs.ColumnTables.{IsPivotedBy, ClearsColumns, ClearsTouched, ClearsColumn, ClearsRight};
-ghost use Rattle.simplex_core.specs.ColumnTables.{ChangesBeside, IsKept, IsFirst, AreNotNegative};
+ghost use Rattle.simplex_core.specs.ColumnTables.{ListsTouched, IsKept, IsFirst, AreNotNegative};
 
 use crate::column_table::ColumnTable;
-use crate::column_table::lists::{RowColumns, put_new};
+use crate::column_table::lists::RowColumns;
 use crate::simplex_table::Unmade;
 use sparse_columns::{Cell, Cells, Column};
 use std::alloc::{AllocError, Global};
@@ -88,22 +88,28 @@ impl ColumnTable {
         ensures { IfOk result (λ _. ClearsColumns self.old self.new row pivot shifted.now.items.items) }
     {
         let touched = self.touched_columns(alloc, row)?;
-        self.shorten(alloc, shifted.before(self.rows))?;
+        let front = shifted.before(self.rows);
+        self.list_touched(alloc, front, touched.as_slice())?;
         self.clear_touched(alloc, row, pivot, shifted, touched.as_slice())?;
         self.lists[row as usize] = RowColumns::of(touched);
         Ok(())
     }
 
-    /// Makes the lists of these cells' rows shorter, which may have got long: so none ever names more than three times as
-    /// many columns as there are.
-    fn shorten(&mut self, alloc: Global, cells: &[Cell]) -> Result<(), AllocError>
+    /// Puts columns into the lists of these cells' rows. Lists that have got long are made shorter before, so none ever
+    /// names more than three times as many columns as there are.
+    fn list_touched(
+        &mut self,
+        alloc: Global,
+        cells: &[Cell],
+        touched: &[u32],
+    ) -> Result<(), AllocError>
         requires cells { AreRowsBelow cells.now self.old.rows }
         requires beside { IsKept self.old }
-        ensures { IfOk result (λ _. ChangesBeside self.old self.new) }
+        ensures { IfOk result (λ _. ListsTouched self.old self.new cells.now touched.now (length cells.now)) }
     {
         let count = self.columns.len();
         for cell in cells {
-            self.lists[cell.row as usize].shorten(alloc, count)?;
+            self.lists[cell.row as usize].extend(alloc, touched, count)?;
         }
         Ok(())
     }
@@ -129,8 +135,8 @@ impl ColumnTable {
         Ok(())
     }
 
-    /// Clears a column's number in a row, and puts the column into the list of each row where that makes a number. Where it
-    /// makes a number below 0 in the first cost row, the first column is this one or before it.
+    /// Clears a column's number in a row. Where it makes a number below 0 in the first cost row, the first column is this
+    /// one or before it.
     fn clear_column(
         &mut self,
         alloc: Global,
@@ -144,12 +150,10 @@ impl ColumnTable {
         requires positive { pos 0 <ℤ pivot }
         ensures { IfOk result (λ _. ClearsColumn self.old self.new position row pivot shifted.now.items.items) }
     {
-        let front = shifted.before(self.rows);
         let old = &self.columns[position as usize];
         let Some(column) = old.cleared(alloc, row, pivot, shifted.as_slice())? else {
             return Err(Unmade::Beyond);
         };
-        put_new(&mut self.lists, old, self.rows, front, position)?;
         self.first = lesser(self.first, position, &column, self.rows);
         self.columns[position as usize] = column;
         Ok(())

@@ -4,7 +4,7 @@ use Rattle.std.specs.Prelude.{string_bytes}
 use Rattle.koat_cli.specs.Calls.{Seen, call_of, seen_of}
 use Rattle.koat_cli.specs.OnFiles.{OnProgram}
 use Rattle.koat_cli.specs.OnTexts.{OnText, OnProgramFirst}
-use Rattle.koat_cli.specs.Outputs.{IsReportOf, IsReplayOf}
+use Rattle.koat_cli.specs.Outputs.{IsReportOf, IsReplayOf, IsFactsReportOf}
 use Rattle.koat_cli.specs.RunTexts.{runs}
 use Rattle.koat_cli.proofs.Preparing.{said_of, usage_of}
 use Rattle.koat_cli.proofs.preparation.prepare.Goals as goal
@@ -28,6 +28,14 @@ returns-in-Some-Selfrun-clause-says g c =
     let w = c.in-Some-Selfrun in
     said_of (call_of g.F.Shelf c.args.words.now c.args.shelf.now c.args.shelf.now) c.in_ok-pivots.field-0 (requests.Selfrun w.n)
     c.summary.result (cc (w.is, w.field-0-is)) c.in_ok-pivots.ensures c.summary.ensures
+
+pub returns-in-Some-Facts-clause-says : goal.returns-in-Some-Facts-clause-says
+returns-in-Some-Facts-clause-says g c =
+    let w = c.in-Some-Facts in
+    said_of (call_of g.F.Shelf c.args.words.now c.args.shelf.now c.facts_of.new.shelf) c.in_ok-pivots.field-0
+    (requests.Facts w.pivots w.file) c.facts_of.result (cc (w.is, w.field-0-is)) c.in_ok-pivots.ensures
+    (subst (λ (file : List ℕ). IfOk c.facts_of.result (λ said. OnProgram (seen_of g.F.Shelf c.args.shelf.now c.facts_of.new.shelf) file
+    (λ program. IsFactsReportOf program w.pivots) said.status said.text.items)) c.as_str-in-Some-Facts.ensures.value c.facts_of.ensures.says)
 
 pub returns-in-Some-Prove-clause-says : goal.returns-in-Some-Prove-clause-says
 returns-in-Some-Prove-clause-says g c =

@@ -1,4 +1,4 @@
-use Rattle.std.proofs.Common.{◌≡◌, refl, subst, length}
+use Rattle.std.proofs.Common.{refl, subst, length}
 use Rattle.lp_builder.specs.simplex_core.Problem.{program_of}
 use Rattle.lp_builder.specs.simplex_core.Trips.{IsWholeAnswer}
 use Rattle.location_facts.proofs.GoalProblems.{goal-room, goal-follows, against-room, goal-fails, goal-trips}

@@ -1,4 +1,3 @@
-use Rattle.std.proofs.Common.{arith}
 use Rattle.std.proofs.lemmas.Result.{IfOk-weaker}
 use Rattle.location_facts.proofs.GoalProblems.{goal-writable, goal-built}
 use Rattle.location_facts.proofs.asking.goal_problem.Goals as goal

@@ -1,4 +1,4 @@
-use Rattle.std.proofs.Common.{◌≡◌, ℕ, [], ap, arith, refl, ◌∙◌, subst, length}
+use Rattle.std.proofs.Common.{◌≡◌, ℕ, [], arith, refl, subst, length}
 use Rattle.std.specs.List.{range_with_len}
 use Rattle.its_model.specs.Views.{program_of}
 use Rattle.location_facts.specs.Candidates.{candidates_at, candidates_among}

@@ -1,4 +1,4 @@
-use Rattle.std.proofs.Common.{◌≡◌, ◌++◌, suc}
+use Rattle.std.proofs.Common.{◌≡◌, ◌++◌}
 use Rattle.std.specs.List.{range_with_len}
 use Rattle.location_facts.specs.Candidates.{with_plus}
 use Rattle.location_facts.proofs.candidates.push_plus.Given as goal

@@ -5,4 +5,5 @@ use Rattle.location_facts.proofs.candidates.push_symbol.Given as goal
 
 -- those with a plus passed stand behind those that were there
 abbrev pub invariant-loop-plus : goal.invariant-loop-plus
-invariant-loop-plus l = l.all.items ≡ l.fn.all.items ++ with_symbol l.symbol (range_with_len 0 l.plus) (range_with_len 0 (suc l.last))
+invariant-loop-plus l =
+    l.all.items ≡ l.fn.all.items ++ with_symbol l.symbol (range_with_len 0 l.plus) (range_with_len 0 (suc l.last))

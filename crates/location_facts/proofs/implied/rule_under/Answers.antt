@@ -1,4 +1,4 @@
-use Rattle.std.proofs.Common.{◌≡◌, ◌++◌, arith, ap, ◌∙◌, List, map, subst, sym}
+use Rattle.std.proofs.Common.{◌++◌, arith, ap, ◌∙◌, List, map, subst, sym}
 use Rattle.std.specs.List.{All}
 use Rattle.poly_terms.specs.declared.poly.Row.{Row}
 use Rattle.poly_terms.specs.Views.{form_of}

@@ -9,7 +9,8 @@ use Rattle.location_facts.proofs.rounds.facts.Given as goal
 abbrev pub invariant-loop-kept : goal.invariant-loop-kept
 invariant-loop-kept l = record {
   ordered : AreInOrder (program_of l.p) l.kept.items;
-  ends : (end : List LocFact) → EndsWith (program_of l.p) l.pivots end l.kept.items → AreKept (program_of l.p) l.pivots end;
+  ends : (end : List LocFact) → EndsWith (program_of l.p) l.pivots end l.kept.items
+      → AreKept (program_of l.p) l.pivots end;
 }
 
 abbrev pub decreases-loop-kept : goal.decreases-loop-kept

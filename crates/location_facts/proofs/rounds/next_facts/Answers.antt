@@ -1,8 +1,7 @@
-use Rattle.std.proofs.Common.{arith, List, subst, sym}
+use Rattle.std.proofs.Common.{List, subst, sym}
 use Rattle.std.proofs.lemmas.List.{take_all}
 use Rattle.its_model.specs.Views.{program_of}
 use Rattle.location_facts.specs.declared.fact.LocFact.{LocFact}
-use Rattle.location_facts.specs.declared.implied.Under.{Under}
 use Rattle.location_facts.specs.Implied.{AreUnder}
 use Rattle.location_facts.specs.Kept.{IsImpliedByAll, HasThose}
 use Rattle.location_facts.proofs.NextFacts.{next-pushed, shown-pushed}
@@ -12,14 +11,14 @@ pub proofs_under-requires-clause-under : goal.proofs_under-requires-clause-under
 proofs_under-requires-clause-under c = record {
   kept = c.args.kept.now;
   are = subst (AreUnder (program_of c.args.p.now) c.args.pivots c.args.kept.now) (sym c.deref.ensures.value)
-      (c.in_ok-unders.ensures {u = tt});
+      (c.in_ok-rules.ensures {u = tt});
 }
 
 pub loop-fact-preserved : goal.loop-fact-preserved
 loop-fact-preserved c =
     let told = c.in_ok-shown.ensures {u = tt} c.args.kept.now
     (subst (AreUnder (program_of c.args.p.now) c.args.pivots c.args.kept.now) (sym c.deref.ensures.value)
-    (c.in_ok-unders.ensures {u = tt})) in
+    (c.in_ok-rules.ensures {u = tt})) in
     record {
       next = next-pushed (program_of c.args.p.now) c.args.pivots c.args.kept.now c.loop-fact.fact-index
           _ c.loop-fact-test.true c.in_ok-shown.shown c.loop-fact.found.items

@@ -26,8 +26,8 @@ overflow_sub-under c =
     (into-rule (program_of c.args.p.now) c.args.fact.symbol c.loop-k.k c.index-rule.result.now
     c.in_ok-into.into.items (c.in_ok-into.ensures {u = tt}) (omega arith) c.index-rule.ensures).0
 
-pub bounds-unders-rule : goal.bounds-unders-rule
-bounds-unders-rule c =
+pub bounds-rules-rule : goal.bounds-rules-rule
+bounds-rules-rule c =
     let w = (into-rule (program_of c.args.p.now) c.args.fact.symbol c.loop-k.k c.index-rule.result.now
     c.in_ok-into.into.items (c.in_ok-into.ensures {u = tt}) (omega arith) c.index-rule.ensures) in
     omega (arith, w.0, w.1, c.requires.under.are.many)
@@ -41,21 +41,21 @@ proof_under-requires-clause-prepared c =
 
 pub proof_under-requires-clause-few : goal.proof_under-requires-clause-few
 proof_under-requires-clause-few c =
-    (under-read (program_of c.args.p.now) c.args.pivots c.requires.under.kept c.args.unders.now c.index-rule.result.now
-    c.index-unders-rule.result
+    (under-read (program_of c.args.p.now) c.args.pivots c.requires.under.kept c.args.rules.now c.index-rule.result.now
+    c.index-rules-rule.result
     (into-rule (program_of c.args.p.now) c.args.fact.symbol c.loop-k.k c.index-rule.result.now
     c.in_ok-into.into.items (c.in_ok-into.ensures {u = tt}) (omega arith) c.index-rule.ensures)
-    c.requires.under.are c.index-unders-rule.is).few
+    c.requires.under.are c.index-rules-rule.is).few
 
 pub proof_under-requires-clause-rows : goal.proof_under-requires-clause-rows
 proof_under-requires-clause-rows c =
     let within = (into-rule (program_of c.args.p.now) c.args.fact.symbol c.loop-k.k c.index-rule.result.now
     c.in_ok-into.into.items (c.in_ok-into.ensures {u = tt}) (omega arith) c.index-rule.ensures) in
     writable-read (program_of c.args.p.now) c.args.preps.now c.args.pivots c.requires.under.kept
-    c.index-rule.result.now c.index-preps-rule.result c.index-unders-rule.result c.requires.rows within
+    c.index-rule.result.now c.index-preps-rule.result c.index-rules-rule.result c.requires.rows within
     c.index-preps-rule.is
-    (under-read (program_of c.args.p.now) c.args.pivots c.requires.under.kept c.args.unders.now
-    c.index-rule.result.now c.index-unders-rule.result within c.requires.under.are c.index-unders-rule.is)
+    (under-read (program_of c.args.p.now) c.args.pivots c.requires.under.kept c.args.rules.now
+    c.index-rule.result.now c.index-rules-rule.result within c.requires.under.are c.index-rules-rule.is)
 
 pub returns-in-None : goal.returns-in-None
 returns-in-None c = λ kept are.
@@ -67,9 +67,9 @@ returns-in-None c = λ kept are.
     c.index-rule.result.now).unknowns (combined (forms_at (program_of c.args.p.now) c.index-rule.result.now) kept)
     (row_after (forms_at (program_of c.args.p.now) c.index-rule.result.now).news c.args.fact) o) c.in-None.is
     (told-of-rule (program_of c.args.p.now) c.args.preps.now c.args.pivots kept c.index-rule.result.now
-    c.index-preps-rule.result c.index-unders-rule.result c.args.fact _ c.requires.rows within c.index-preps-rule.is
-    (under-read (program_of c.args.p.now) c.args.pivots kept c.args.unders.now c.index-rule.result.now
-    c.index-unders-rule.result within are c.index-unders-rule.is)
+    c.index-preps-rule.result c.index-rules-rule.result c.args.fact _ c.requires.rows within c.index-preps-rule.is
+    (under-read (program_of c.args.p.now) c.args.pivots kept c.args.rules.now c.index-rule.result.now
+    c.index-rules-rule.result within are c.index-rules-rule.is)
     (c.in_ok-proof.ensures {u = tt})))
 
 pub loop-k-preserved : goal.loop-k-preserved
@@ -90,10 +90,10 @@ loop-k-preserved c =
           (combined (forms_at (program_of c.args.p.now) c.index-rule.result.now) kept)
           (row_after (forms_at (program_of c.args.p.now) c.index-rule.result.now).news c.args.fact) o) c.in-Some.is
           (told-of-rule (program_of c.args.p.now) c.args.preps.now c.args.pivots kept c.index-rule.result.now
-          c.index-preps-rule.result c.index-unders-rule.result c.args.fact _ c.requires.rows within
+          c.index-preps-rule.result c.index-rules-rule.result c.args.fact _ c.requires.rows within
           c.index-preps-rule.is
-          (under-read (program_of c.args.p.now) c.args.pivots kept c.args.unders.now c.index-rule.result.now
-          c.index-unders-rule.result within are c.index-unders-rule.is)
+          (under-read (program_of c.args.p.now) c.args.pivots kept c.args.rules.now c.index-rule.result.now
+          c.index-rules-rule.result within are c.index-rules-rule.is)
           (c.in_ok-proof.ensures {u = tt}))));
     }
 

@@ -8,6 +8,6 @@ use Rattle.location_facts.proofs.rounds.proofs_under.Given as goal
 abbrev pub invariant-loop-k : goal.invariant-loop-k
 invariant-loop-k l = record {
   many : length l.proofs.items ≡ l.k;
-  implied : (kept : List LocFact) → AreUnder (program_of l.p) l.pivots kept l.unders
+  implied : (kept : List LocFact) → AreUnder (program_of l.p) l.pivots kept l.rules
       → AreImplied (program_of l.p) l.pivots kept l.fact l.proofs.items l.k;
 }

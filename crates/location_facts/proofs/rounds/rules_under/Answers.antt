@@ -1,6 +1,4 @@
-use Rattle.std.proofs.Common.{◌≡◌, ◌++◌, ap, arith, refl, ◌∙◌, List, length, map, subst, sym}
-use Rattle.std.specs.List.{All}
-use Rattle.poly_terms.specs.declared.poly.Row.{Row}
+use Rattle.std.proofs.Common.{◌≡◌, arith, ◌∙◌, length, sym}
 use Rattle.its_model.specs.Views.{program_of, rule_of}
 use Rattle.location_facts.proofs.CombinedLists.{prepared-at, prepared-many}
 use Rattle.location_facts.proofs.ShownRules.{read, rule-count}
@@ -49,9 +47,9 @@ loop-i-preserved c =
     let at-rule = rule-here c.args.p.now c.loop-i.i c.index-rule.result.now
     (read c.args.p.now.rules.items c.loop-i.i c.index-rule.result.now (omega arith) c.index-rule.ensures) in
     record {
-      many = under-more c.loop-i.unders.items c.push.new.self.items c.loop-i.i c.in_ok-under.under
+      many = under-more c.loop-i.rules.items c.push.new.self.items c.loop-i.i c.in_ok-under.under
           c.loop-i.invariant.many c.in_ok-push.ensures.items;
-      each = under-pushed (program_of c.args.p.now) c.args.pivots c.args.kept.now c.loop-i.unders.items
+      each = under-pushed (program_of c.args.p.now) c.args.pivots c.args.kept.now c.loop-i.rules.items
           c.push.new.self.items c.loop-i.i c.in_ok-under.under (rule_of c.index-rule.result.now)
           c.loop-i.invariant.many c.loop-i.invariant.each at-rule
           (is-under c.args.pivots c.args.kept.now c.index-preps-i.result (rule_of c.index-rule.result.now)

@@ -10,7 +10,7 @@ use Rattle.location_facts.proofs.rounds.rules_under.Given as goal
 -- the rules passed
 abbrev pub invariant-loop-i : goal.invariant-loop-i
 invariant-loop-i l = record {
-  many : length l.unders.items ≡ l.i;
-  each : (k : ℕ) (u : Under) (r : Rule) → slice_get l.unders.items k ≡ Some u
+  many : length l.rules.items ≡ l.i;
+  each : (k : ℕ) (u : Under) (r : Rule) → slice_get l.rules.items k ≡ Some u
       → slice_get (program_of l.p).rules k ≡ Some r → IsUnder l.pivots (forms_in (Some r)) l.kept u;
 }

@@ -7,4 +7,5 @@ use Rattle.location_facts.proofs.strengthening.push_with_plus.Given as goal
 -- the atoms with a minus passed stand behind those that were there
 abbrev pub invariant-loop-minus : goal.invariant-loop-minus
 invariant-loop-minus l =
-    map atom_of l.atoms.items ≡ map atom_of l.fn.atoms.items ++ atoms_with_plus l.facts l.plus (range_with_len 0 l.minus)
+    map atom_of l.atoms.items
+    ≡ map atom_of l.fn.atoms.items ++ atoms_with_plus l.facts l.plus (range_with_len 0 l.minus)

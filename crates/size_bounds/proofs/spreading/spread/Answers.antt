@@ -6,7 +6,7 @@ use Rattle.proof_tree.specs.proof_setting.Setting.{setting_of}
 use Rattle.proof_tree.specs.Views.{spot_of, member_of}
 use Rattle.bound_rounds.specs.Needs.{uses_for}
 use Rattle.size_bounds.specs.Tables.{table_of, number_at}
-use Rattle.size_bounds.specs.Sizings.{IsSpreadSizing}
+use Rattle.size_nodes.specs.Sizings.{IsSpreadSizing}
 use Rattle.size_bounds.proofs.spreading.spread.Goals as goal
 
 -- the node rests on the lemmas of what is needed, and its fact is the size

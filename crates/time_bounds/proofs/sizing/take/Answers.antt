@@ -6,7 +6,7 @@ use Rattle.proof_tree.specs.Views.{spot_of}
 use Rattle.bound_book.specs.Books.{AreOpen}
 use Rattle.bound_book.specs.Views.{finds_of}
 use Rattle.bound_book.proofs.Room.{room_for}
-use Rattle.size_bounds.specs.declared.sizing.Sizing.{Sizing}
+use Rattle.size_nodes.specs.declared.sizing.Sizing.{Sizing}
 use Rattle.time_bounds.specs.Attempts.{attempt_by, finds_by, node_in}
 use Rattle.time_bounds.specs.Candidates.{spots_in}
 use Rattle.time_bounds.specs.Questions.{program_in}

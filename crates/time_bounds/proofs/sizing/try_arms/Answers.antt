@@ -4,9 +4,9 @@ use Rattle.proof_tree.specs.declared.arm.Member.{Member}
 use Rattle.proof_tree.specs.proof_nodes.Known.{Table}
 use Rattle.proof_tree.specs.proof_setting.Setting.{setting_of}
 use Rattle.proof_tree.specs.Views.{member_of}
-use Rattle.size_bounds.specs.SizeAnswers.{IsMemberOfProgram, AreMembersOfProgram}
+use Rattle.size_nodes.specs.Members.{IsMemberOfProgram, AreMembersOfProgram}
 use Rattle.size_bounds.specs.Tables.{table_of}
-use Rattle.size_bounds.specs.Sizings.{IsSpreadSizing, IsCycleSizing}
+use Rattle.size_nodes.specs.Sizings.{IsSpreadSizing, IsCycleSizing}
 use Rattle.bound_rounds.specs.Finds as plain
 use Rattle.bound_book.specs.Views.{finds_of}
 use Rattle.time_bounds.specs.Attempts.{IsSizeStep, has_arms, finds_by, node_in}

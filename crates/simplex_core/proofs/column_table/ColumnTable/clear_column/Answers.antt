@@ -1,25 +1,20 @@
-use Rattle.std.proofs.Common.{◌≡◌, ap, sym, ◌∙◌, subst, Some, Option, refl, arith, length, to_z, of_z, ℕ, List}
+use Rattle.std.proofs.Common.{◌≡◌, sym, ◌∙◌, subst, Some, Option, refl, length, to_z, of_z, List}
 use Rattle.std.specs.Prelude.{ℤ, slice_get, IfSome}
 use Rattle.std.specs.Int.{w64}
 use Rattle.std.proofs.lemmas.Int.{to_z-of_z}
-use Rattle.std.proofs.lemmas.Option.{slice_get_read, slice_get_within, same_Some}
+use Rattle.std.proofs.lemmas.Option.{slice_get_read, same_Some}
 use Rattle.sparse_columns.specs.declared.cell.Cell.{Cell}
 use Rattle.sparse_columns.specs.declared.column.Column.{Column}
-use Rattle.sparse_columns.specs.Columns.{numerator, IsCleared}
-use Rattle.simplex_core.specs.ColumnListing.{Names}
+use Rattle.sparse_columns.specs.Columns.{IsCleared}
 use Rattle.simplex_core.proofs.Positions.{slice_get-set_same, slice_get-set_other}
 use Rattle.simplex_core.proofs.ColumnTableLaws.{not_negative-set}
 use Rattle.simplex_core.proofs.column_table.ColumnTable.clear_column.Goals as goal
-
-pub put_new-requires : goal.put_new-requires
-put_new-requires c = record { each = λ k e is. (let below = c.before-front.ensures.lists.within k e is in let size = c.args.self.now.listed in omega (arith, below, size)) }
 
 pub returns : goal.returns
 returns c =
     let items = c.args.self.now.columns.items in
     let column = c.index-old.result.now in
     let shifted = c.args.shifted.now.items.items in
-    let front = c.before-front.result.now in
     let is : slice_get items c.args.position ≡ Some column = slice_get_read items (length items) c.args.position column refl c.requires.position c.index-old.ensures in
     let made = c.in-Some.column in
     let plain = to_z-of_z w64 c.args.pivot c.ranges.pivot in
@@ -27,7 +22,6 @@ returns c =
     subst (λ (xs : List Cell). IsCleared column made c.args.row c.args.pivot xs) c.as_slice.ensures.items
     (subst (λ (z : ℤ). IsCleared column made c.args.row z c.as_slice.result.now) plain
     (subst (λ (o : Option Column). IfSome o (λ x. IsCleared column x c.args.row (to_z w64 (of_z w64 c.args.pivot)) c.as_slice.result.now)) c.in-Some.is c.in_ok-column.ensures)) in
-    let puts = c.in_ok-put_new.ensures.puts in
     record {
       rows = refl;
       columns = refl;
@@ -39,13 +33,7 @@ returns c =
           subst (λ (x : Column). IsCleared x b c.args.row c.args.pivot shifted) first
           (subst (λ (x : Column). IsCleared column x c.args.row c.args.pivot shifted) second told);
       others = λ j d. slice_get-set_other items c.args.position j made d;
-      kept = puts.kept;
-      put = λ a i is_a below none number.
-          let same : column ≡ a = same_Some column a (sym is ∙ is_a) in
-          let there = c.before-front.ensures.lists.all i below number in
-          subst (λ (k : ℕ). Names c.put_new.new.lists.items k c.args.position) there.3
-          (puts.put there.0 there.1 (slice_get_within front there.0 there.1 there.2) there.2
-          (ap (λ (k : ℕ). numerator column k) there.3 ∙ (ap (λ (y : Column). numerator y i) same ∙ none)));
+      lists = refl;
       marks = refl;
       first = λ h. not_negative-set items c.args.self.now.rows c.args.self.now.first c.lesser-self.result c.args.position made h c.lesser-self.ensures.within c.requires.position c.lesser-self.ensures.own;
     }

@@ -15,8 +15,7 @@ loop-place-init c = record {
   right = refl;
   cleared = λ n j a b l is is_a is_b. absurd (omega arith);
   others = λ j d. refl;
-  kept = λ i j h. h;
-  put = λ n j a i l is is_a below e f. absurd (omega arith);
+  lists = refl;
   marks = refl;
   first = λ h. h;
 }

@@ -10,8 +10,8 @@ loop-position-init c = record {
   listed = record { each = λ i j x l lj is d. absurd (omega arith) };
 }
 
-pub put_new-requires : goal.put_new-requires
-put_new-requires c = record {
+pub put_cells-requires : goal.put_cells-requires
+put_cells-requires c = record {
   each = λ k e is. (let below = c.before-cells.ensures.lists.within k e is in let size = c.loop-position.invariant.size in omega (arith, below, size));
 }
 
@@ -22,9 +22,9 @@ loop-position-preserved c =
     let is = slice_get_read columns (length columns) c.loop-position.position x refl c.loop-position-test.true c.index-columns-position.is in
     let cells = c.before-cells.result.now in
     record {
-      size = c.in_ok-put_new.ensures.size ∙ c.loop-position.invariant.size;
-      listed = listed-more columns c.loop-position.lists.items c.put_new.new.lists.items c.args.rows c.loop-position.position c.zeros-none.result x cells
-          c.loop-position.invariant.listed c.in_ok-put_new.ensures.puts c.zeros-none.ensures.numbers is
+      size = c.in_ok-put_cells.ensures.size ∙ c.loop-position.invariant.size;
+      listed = listed-more columns c.loop-position.lists.items c.put_cells.new.lists.items c.args.rows c.loop-position.position x cells
+          c.loop-position.invariant.listed c.in_ok-put_cells.ensures.puts is
           (λ i l d. c.before-cells.ensures.lists.all i l (λ e. d (sym (c.cells.ensures i) ∙ e)));
     }
 

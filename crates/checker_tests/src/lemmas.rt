@@ -1,0 +1,97 @@
+//! Lemmas as lines write them: the words of their nodes, each behind those of its children. What a word is behind its
+//! kind, colons divide:
+//! `start`, `cite:LEMMA`, `empty:RULE:MULTIPLIERS`, `unreached:RULE:USES`, `never`, `weaken:NUMBER`,
+//! `rank:RULE:SET:DEN:FORMS:MOVES:FLOOR:USES`, `spread:RULE:PLACE:UP:LOW:USES`, `cycle:MEMBERS:USES`,
+//! `cost:RULE:BY:USES`, where USES says how many of the nodes before are its uses.
+
+use crate::nodes::{cost_node, cycle_node, empty_node, rank_node, spread_node};
+use crate::words::{number, part, parts_of};
+use bound_expr::Bound;
+use model::Memory;
+use proof_tree::{Proof, UnreachedNode};
+use std::alloc::Global;
+
+/// The lemma whose nodes these words are, where there is a word.
+pub(crate) fn lemma(alloc: Global, words: &str) -> Result<Option<Proof>, Memory> {
+    let mut stack = Vec::new(alloc);
+    for word in words.split_whitespace() {
+        let proof = node(alloc, word, &mut stack)?;
+        stack.push(proof)?;
+    }
+    Ok(stack.pop())
+}
+
+// The node of a word, over those before.
+fn node(alloc: Global, word: &str, stack: &mut Vec<Proof>) -> Result<Proof, Memory> {
+    let (kind, rest) = word.split_once(':').unwrap_or((word, ""));
+    let parts = parts_of(alloc, rest, ':')?;
+    match kind {
+        "cite" => Ok(Proof::Cite(number(rest))),
+        "empty" => Ok(Proof::Empty(Box::new(alloc, empty_node(alloc, &parts)?)?)),
+        "never" => Ok(Proof::Never(Box::new(alloc, child(stack))?)),
+        "weaken" => Ok(Proof::Weaken(
+            Box::new(alloc, child(stack))?,
+            Bound::Const(u128::from(number(rest))),
+        )),
+        _ => keyed_node(alloc, kind, &parts, stack),
+    }
+}
+
+// The node of a word that tells how many uses it has; of any other word, `start`.
+fn keyed_node(
+    alloc: Global,
+    kind: &str,
+    parts: &[&str],
+    stack: &mut Vec<Proof>,
+) -> Result<Proof, Memory> {
+    let count = number(part(parts, parts.len().saturating_sub(1)));
+    match kind {
+        "unreached" => {
+            let uses = last(alloc, stack, count)?;
+            let node = UnreachedNode {
+                rule: number(part(parts, 0)),
+                uses,
+            };
+            Ok(Proof::Unreached(Box::new(alloc, node)?))
+        }
+        "rank" => {
+            let uses = last(alloc, stack, count)?;
+            Ok(Proof::Rank(Box::new(alloc, rank_node(alloc, parts, uses)?)?))
+        }
+        "spread" => {
+            let uses = last(alloc, stack, count)?;
+            Ok(Proof::Spread(Box::new(alloc, spread_node(alloc, parts, uses)?)?))
+        }
+        "cycle" => {
+            let uses = last(alloc, stack, count)?;
+            Ok(Proof::Cycle(Box::new(alloc, cycle_node(alloc, parts, uses)?)?))
+        }
+        "cost" => {
+            let uses = last(alloc, stack, count)?;
+            Ok(Proof::Cost(Box::new(alloc, cost_node(alloc, parts, uses)?)?))
+        }
+        _ => Ok(Proof::Start),
+    }
+}
+
+// The last node, as the child of one; where there is none, `start`.
+fn child(stack: &mut Vec<Proof>) -> Proof {
+    stack.pop().unwrap_or(Proof::Start)
+}
+
+// So many of the last nodes, in order.
+fn last(alloc: Global, stack: &mut Vec<Proof>, count: u32) -> Result<Vec<Proof>, Memory> {
+    let mut reversed = Vec::new(alloc);
+    for _ in 0..count {
+        if let Some(proof) = stack.pop() {
+            reversed.push(proof)?;
+        }
+    }
+    let mut uses = Vec::new(alloc);
+    for _ in 0..count {
+        if let Some(proof) = reversed.pop() {
+            uses.push(proof)?;
+        }
+    }
+    Ok(uses)
+}

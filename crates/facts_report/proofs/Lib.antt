@@ -1,0 +1,8 @@
+-- what is found with facts, and that it is one
+pub mod Finding
+pub mod OneFind
+-- texts of facts, as they are written
+pub mod Places
+pub mod EachLines
+-- values that were worked out by hand
+pub mod WorkedFactTexts

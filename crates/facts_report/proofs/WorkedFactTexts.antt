@@ -1,0 +1,30 @@
+-- Texts of facts are worked out.
+use Rattle.std.proofs.Common.{refl}
+use Rattle.std.specs.Fmt.{digits}
+use Rattle.report_text.specs.Reports.{text_of_report}
+use Rattle.facts_report.specs.FactTexts.{text_with_facts}
+use Rattle.facts_report.specs.WorkedFactTexts.{DifferencesAreTold, FactLinesAreTold, FactTextsAreWorkedOut}
+
+differences : DifferencesAreTold
+unfolding digits
+differences = record {
+  place = refl;
+  opposite = refl;
+  difference = refl;
+  turned = refl;
+  line = refl;
+  negative = refl;
+}
+
+lines : FactLinesAreTold
+unfolding text_with_facts text_of_report digits
+lines = record {
+  none = refl;
+  greatest = refl;
+  greatest_first = refl;
+  ordered = refl;
+  whole = refl;
+}
+
+pub texts_worked : FactTextsAreWorkedOut
+texts_worked = record { differences = differences; lines = lines }

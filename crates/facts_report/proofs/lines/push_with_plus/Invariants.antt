@@ -1,0 +1,12 @@
+use Rattle.std.proofs.Common.{◌≡◌, ◌++◌, None}
+use Rattle.std.specs.List.{range_with_len}
+use Rattle.its_model.specs.Views.{name_of}
+use Rattle.location_facts.specs.Strengthening.{greatest_least}
+use Rattle.facts_report.specs.FactTexts.{lines_of_each, line_by}
+use Rattle.facts_report.proofs.lines.push_with_plus.Given as goal
+
+-- the lines with a minus passed stand behind what was written
+abbrev pub invariant-loop-minus : goal.invariant-loop-minus
+invariant-loop-minus l =
+    l.text.items ≡ l.initial.text.items ++ lines_of_each (λ j. line_by (name_of l.name) l.plus j
+    (greatest_least l.plus j None l.facts)) (range_with_len 0 l.minus)

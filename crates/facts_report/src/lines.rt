@@ -1,0 +1,192 @@
+//! Facts as text: for each two places the line of the greatest least.
+
+ghost use Rattle.std.specs.Prelude.{◌≡◌, ◌++◌, length, map, decimal, IfOk, OnOk};
+ghost use Rattle.its_model.specs.Views.{name_of, symbol_of, program_of};
+ghost use Rattle.outcome.specs.Printing.{IsPrintableOutcome};
+ghost use Rattle.outcome.specs.Views.{report_of};
+ghost use Rattle.report_text.specs.Pieces.{numbered_lines};
+ghost use Rattle.facts_report.specs.FactTexts.{place_text, difference_text, fact_head, fact_end, fact_line, line_by};
+ghost use Rattle.facts_report.specs.FactTexts.{lines_with_plus};
+ghost use Rattle.facts_report.specs.FactTexts.{lines_of_facts, symbol_lines, fact_lines, text_with_facts};
+
+use crate::analysis::WithFacts;
+use itoa::Buffer;
+use its_model::{Name, Program, Symbol};
+use location_facts::{LocFact, facts_at, greatest_least};
+use model::Memory;
+use std::alloc::{AllocError, Global};
+
+/// The text of what an analysis finds of a program with facts: a line for each two places of a symbol with facts that
+/// are kept, with the greatest least, in order, and then the report.
+///
+/// # Errors
+///
+/// `Memory` where an allocation fails, and where the number of a symbol has more than 32 bits.
+pub fn print(alloc: Global, p: &Program, w: &WithFacts) -> Result<Vec<u8>, Memory>
+    requires { IsPrintableOutcome (length p.now.start_names.items) w.now.outcome }
+    ensures { IfOk result (λ text. text.items
+        ≡ text_with_facts (program_of p.now) w.now.kept.items (report_of w.now.outcome)) }
+{
+    let mut text = all_lines(alloc, p, &w.kept)?;
+    let report = report_text::print(alloc, p, &w.outcome)?;
+    text.extend_from_slice(&report)?;
+    Ok(text)
+}
+
+// The lines of the facts at all symbols of a program.
+fn all_lines(alloc: Global, p: &Program, kept: &[LocFact]) -> Result<Vec<u8>, Memory>
+    ensures { IfOk result (λ text. text.items ≡ fact_lines (program_of p.now) kept.now) }
+{
+    let mut text = Vec::new(alloc);
+    push_lines(alloc, &mut text, &p.symbols, kept)?;
+    Ok(text)
+}
+
+// Appends those of symbols.
+fn push_lines(
+    alloc: Global,
+    text: &mut Vec<u8>,
+    symbols: &[Symbol],
+    kept: &[LocFact],
+) -> Result<(), Memory>
+    ensures { OnOk result (text.new.items
+        ≡ text.old.items ++ numbered_lines (λ s symbol. symbol_lines kept.now s (symbol_of symbol)) 0 symbols.now) }
+{
+    for (s, symbol) in symbols.iter().enumerate() {
+        push_symbol(alloc, text, s, symbol, kept)?;
+    }
+    Ok(())
+}
+
+// Appends those of the symbol with this number.
+fn push_symbol(
+    alloc: Global,
+    text: &mut Vec<u8>,
+    number: usize,
+    symbol: &Symbol,
+    kept: &[LocFact],
+) -> Result<(), Memory>
+    ensures { OnOk result (text.new.items
+        ≡ text.old.items ++ symbol_lines kept.now number (symbol_of symbol.now)) }
+{
+    let facts = facts_at(alloc, narrow(number)?, kept)?;
+    push_facts(text, &symbol.name, &facts)
+}
+
+// A number of a symbol as one of 32 bits.
+fn narrow(number: usize) -> Result<u32, Memory>
+    ensures { IfOk result (λ n. n ≡ number) }
+{
+    u32::try_from(number).map_err(|_| AllocError)
+}
+
+// Appends the lines of the facts of a symbol with this name.
+fn push_facts(text: &mut Vec<u8>, name: &Name, facts: &[LocFact]) -> Result<(), Memory>
+    ensures { OnOk result (text.new.items ≡ text.old.items ++ lines_of_facts (name_of name.now) facts.now) }
+{
+    for plus in 0..9 {
+        push_with_plus(text, name, facts, plus)?;
+    }
+    Ok(())
+}
+
+// Appends those with this plus.
+fn push_with_plus(
+    text: &mut Vec<u8>,
+    name: &Name,
+    facts: &[LocFact],
+    plus: u32,
+) -> Result<(), Memory>
+    ensures { OnOk result (text.new.items
+        ≡ text.old.items ++ lines_with_plus (name_of name.now) facts.now plus) }
+{
+    for minus in 0..9 {
+        push_by(text, name, plus, minus, greatest_least(facts, plus, minus))?;
+    }
+    Ok(())
+}
+
+// Appends the line of two places by their greatest least, where there is one.
+fn push_by(
+    text: &mut Vec<u8>,
+    name: &Name,
+    plus: u32,
+    minus: u32,
+    found: Option<i64>,
+) -> Result<(), Memory>
+    ensures { OnOk result (text.new.items ≡ text.old.items ++ line_by (name_of name.now) plus minus found) }
+{
+    match found {
+        None => Ok(()),
+        Some(least) => push_fact(text, name, plus, minus, least),
+    }
+}
+
+// Appends the line of a fact of a symbol with this name.
+fn push_fact(
+    text: &mut Vec<u8>,
+    name: &Name,
+    plus: u32,
+    minus: u32,
+    least: i64,
+) -> Result<(), Memory>
+    ensures { OnOk result (text.new.items ≡ text.old.items ++ fact_line (name_of name.now) plus minus least) }
+{
+    push_head(text, name)?;
+    push_difference(text, plus, minus)?;
+    push_end(text, least)
+}
+
+// Appends what stands before the difference.
+fn push_head(text: &mut Vec<u8>, name: &Name) -> Result<(), Memory>
+    ensures { OnOk result (text.new.items ≡ text.old.items ++ fact_head (name_of name.now)) }
+{
+    text.extend_from_slice(b"fact ")?;
+    text.extend_from_slice(&name.bytes)?;
+    text.extend_from_slice(b": ")
+}
+
+// Appends what stands behind it.
+fn push_end(text: &mut Vec<u8>, least: i64) -> Result<(), Memory>
+    ensures { OnOk result (text.new.items ≡ text.old.items ++ fact_end least) }
+{
+    text.extend_from_slice(b" >= ")?;
+    text.extend_from_slice(Buffer::new().format(least).as_bytes())?;
+    text.extend_from_slice(b"\n")
+}
+
+// Appends the value at a place, less that at another.
+#[tactic(auto, using(crate::proofs::Places::plus_alone, crate::proofs::Places::both_places))]
+fn push_difference(text: &mut Vec<u8>, plus: u32, minus: u32) -> Result<(), Memory>
+    ensures { OnOk result (text.new.items ≡ text.old.items ++ difference_text plus minus) }
+{
+    if plus == 0 {
+        return push_opposite(text, minus);
+    }
+    push_place(text, plus)?;
+    if minus == 0 {
+        return Ok(());
+    }
+    text.extend_from_slice(b" - ")?;
+    push_place(text, minus)
+}
+
+// Appends the opposite of the value at a place.
+#[tactic(auto, using(crate::proofs::Places::no_places, crate::proofs::Places::minus_alone))]
+fn push_opposite(text: &mut Vec<u8>, minus: u32) -> Result<(), Memory>
+    ensures { OnOk result (text.new.items ≡ text.old.items ++ difference_text 0 minus) }
+{
+    if minus == 0 {
+        return text.extend_from_slice(b"0");
+    }
+    text.extend_from_slice(b"-")?;
+    push_place(text, minus)
+}
+
+// Appends a place.
+fn push_place(text: &mut Vec<u8>, place: u32) -> Result<(), Memory>
+    ensures { OnOk result (text.new.items ≡ text.old.items ++ place_text place) }
+{
+    text.extend_from_slice(b"x")?;
+    text.extend_from_slice(Buffer::new().format(place).as_bytes())
+}

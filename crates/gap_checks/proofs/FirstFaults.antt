@@ -1,0 +1,149 @@
+-- Which fault of a gap is the first, from what was found of its shape, its points and its balances.
+use Rattle.std.proofs.Common.{◌≡◌, inl, inr, ℕ, List, map, refl, sym, subst}
+use Rattle.std.specs.List.{AllByRecursion}
+use Rattle.farkas_cert.specs.linear_forms.Forms.{Form}
+use Rattle.farkas_cert.specs.model.Programs.{Program}
+use Rattle.farkas_cert.specs.declared.scaled.Scaled.{Scaled}
+use Rattle.guard_prep.specs.declared.rule_rows.RuleRows.{RuleRows}
+use Rattle.proof_tree.specs.proof_setting.RankedSets.{forms_at}
+use Rattle.proof_tree.specs.proof_nodes.GapChecks.{MoveOff, FloorOff, NotKept, Unbalanced, LosesNothing}
+use Rattle.proof_tree.specs.proof_nodes.GapChecks.{GapHolds, HasGapShape, MeetsAt, IsPointOf, point_of, gap_checks}
+use Rattle.proof_tree.specs.proof_nodes.GapChecks.{check_move, check_kept, check_balance, balanced}
+use Rattle.proof_tree.specs.proof_nodes.Gaps.{ScaledPoint}
+use Rattle.proof_tree.specs.proof_nodes.Reasons.{IsFirstAmong}
+use Rattle.proof_tree.proofs.proof_nodes.CheckLists.{passes_each}
+use Rattle.proof_tree.proofs.proof_nodes.GapsInLine.{passed-holds}
+use Rattle.proof_tree.specs.declared.gap.Gap.{Gap}
+use Rattle.proof_tree.specs.AnswerViews.{scaled_of, gap_of}
+use Rattle.proof_tree.specs.Composing.{AreRowsOf}
+use Rattle.gap_checks.specs.GapTests.{forms_by, IsFirstFailing, IsBalanced, coefficient_at}
+use Rattle.gap_checks.proofs.GapFaults.{failing-agree, all-agree, first-of-each, behind-each, forms-alike}
+
+module _ (p : Program) (preps : List RuleRows) (rows : AreRowsOf preps p) (g : Gap) where
+  -- the rows of a rule are those that were prepared
+  to-program : (t : ℕ) (z : ScaledPoint) → MeetsAt (forms_by preps t).rows z → MeetsAt (forms_at p t).rows z
+  to-program t z h = subst (λ (fs : List Form). MeetsAt fs z) (sym (forms-alike p preps rows t).rows) h
+
+  from-program : (t : ℕ) (z : ScaledPoint) → MeetsAt (forms_at p t).rows z → MeetsAt (forms_by preps t).rows z
+  from-program t z h = subst (λ (fs : List Form). MeetsAt fs z) (forms-alike p preps rows t).rows h
+
+  point-program : (t : ℕ) (z : ScaledPoint) → IsPointOf (forms_by preps t).rows z → IsPointOf (forms_at p t).rows z
+  point-program t z h = subst (λ (fs : List Form). IsPointOf fs z) (sym (forms-alike p preps rows t).rows) h
+
+  point-prepared : (t : ℕ) (z : ScaledPoint) → IsPointOf (forms_at p t).rows z → IsPointOf (forms_by preps t).rows z
+  point-prepared t z h = subst (λ (fs : List Form). IsPointOf fs z) (forms-alike p preps rows t).rows h
+
+  -- the move of a rule, and its kept point, as they were judged and as they are to be
+  abbrev Moves : List ℕ → List Scaled → ℕ → Type 0
+  Moves set zs t = MeetsAt (forms_by preps t).rows (point_of set (map scaled_of zs) t)
+
+  abbrev Keeps : List ℕ → List Scaled → ℕ → Type 0
+  Keeps set zs t = IsPointOf (forms_by preps t).rows (point_of set (map scaled_of zs) t)
+
+  abbrev MovesRight : ℕ → Type 0
+  MovesRight t = MeetsAt (forms_at p t).rows (point_of g.set.items (map scaled_of g.moves.items) t)
+
+  abbrev KeepsRight : ℕ → Type 0
+  KeepsRight t = IsPointOf (forms_at p t).rows (point_of g.set.items (map scaled_of g.kept.items) t)
+
+  module _ (shape : HasGapShape p (forms_at p) (gap_of g)) where
+    -- the first move that isn't met is the first fault
+    pub first-move : (xs : List ℕ) (zs : List Scaled) (u : ℕ) → xs ≡ g.set.items → zs ≡ g.moves.items
+        → IsFirstFailing (λ t. MeetsAt (forms_by preps t).rows (point_of xs (map scaled_of zs) t)) xs u
+        → IsFirstAmong (gap_checks p (forms_at p) (gap_of g)) (MoveOff u)
+    first-move xs zs u e f h = inr (
+      shape,
+      first-of-each (check_move (forms_at p) (gap_of g)) _ g.set.items u
+          (failing-agree (Moves g.set.items g.moves.items) MovesRight
+          (λ t. to-program t (point_of g.set.items (map scaled_of g.moves.items) t))
+          (λ t. from-program t (point_of g.set.items (map scaled_of g.moves.items) t)) g.set.items u
+          (subst (λ (ys : List Scaled). IsFirstFailing (Moves g.set.items ys) g.set.items u) f
+          (subst (λ (ts : List ℕ). IsFirstFailing (Moves ts zs) ts u) e h))),
+    )
+
+    -- all moves are met
+    module _ (xs : List ℕ) (zs : List Scaled) (xs-are : xs ≡ g.set.items) (zs-are : zs ≡ g.moves.items)
+        (moves : AllByRecursion (λ t. MeetsAt (forms_by preps t).rows (point_of xs (map scaled_of zs) t)) xs) where
+      moves-right : AllByRecursion MovesRight g.set.items
+      moves-right =
+          all-agree (Moves g.set.items g.moves.items) MovesRight
+          (λ t. to-program t (point_of g.set.items (map scaled_of g.moves.items) t)) g.set.items
+          (subst (λ (ys : List Scaled). AllByRecursion (Moves g.set.items ys) g.set.items) zs-are
+          (subst (λ (ts : List ℕ). AllByRecursion (Moves ts zs) ts) xs-are moves))
+
+      -- then a floor that isn't met is
+      pub first-floor : ¬ (MeetsAt (forms_by preps g.rule).rows (scaled_of g.floor))
+          → IsFirstAmong (gap_checks p (forms_at p) (gap_of g)) FloorOff
+      first-floor n = inr (
+        shape,
+        behind-each (check_move (forms_at p) (gap_of g)) _ g.set.items FloorOff moves-right
+            (inl ((λ h. n (from-program g.rule (scaled_of g.floor) h)), refl)),
+      )
+
+      module _ (floor : MeetsAt (forms_by preps g.rule).rows (scaled_of g.floor)) where
+        -- then the first kept point that isn't one
+        pub first-kept : (ys : List ℕ) (ks : List Scaled) (u : ℕ) → ys ≡ g.set.items → ks ≡ g.kept.items
+            → IsFirstFailing (λ t. IsPointOf (forms_by preps t).rows (point_of ys (map scaled_of ks) t)) ys u
+            → IsFirstAmong (gap_checks p (forms_at p) (gap_of g)) (NotKept u)
+        first-kept ys ks u e f h = inr (
+          shape,
+          behind-each (check_move (forms_at p) (gap_of g)) _ g.set.items (NotKept u) moves-right (inr (
+            to-program g.rule (scaled_of g.floor) floor,
+            first-of-each (check_kept (forms_at p) (gap_of g)) _ g.set.items u
+                (failing-agree (Keeps g.set.items g.kept.items) KeepsRight
+                (λ t. point-program t (point_of g.set.items (map scaled_of g.kept.items) t))
+                (λ t. point-prepared t (point_of g.set.items (map scaled_of g.kept.items) t)) g.set.items u
+                (subst (λ (zs : List Scaled). IsFirstFailing (Keeps g.set.items zs) g.set.items u) f
+                (subst (λ (ts : List ℕ). IsFirstFailing (Keeps ts ks) ts u) e h))),
+          )),
+        )
+
+        -- all kept points are points
+        module _ (ys : List ℕ) (ks : List Scaled) (ys-are : ys ≡ g.set.items) (ks-are : ks ≡ g.kept.items)
+            (kept : AllByRecursion (λ t. IsPointOf (forms_by preps t).rows (point_of ys (map scaled_of ks) t)) ys) where
+          kept-right : AllByRecursion KeepsRight g.set.items
+          kept-right =
+              all-agree (Keeps g.set.items g.kept.items) KeepsRight
+              (λ t. point-program t (point_of g.set.items (map scaled_of g.kept.items) t)) g.set.items
+              (subst (λ (vs : List Scaled). AllByRecursion (Keeps g.set.items vs) g.set.items) ks-are
+              (subst (λ (ts : List ℕ). AllByRecursion (Keeps ts ks) ts) ys-are kept))
+
+          -- then the first place that isn't balanced
+          pub first-balance : (symbol place : ℕ)
+              → IsFirstFailing (IsBalanced p (gap_of g)) (balanced p (gap_of g)) (coefficient_at symbol place)
+              → IsFirstAmong (gap_checks p (forms_at p) (gap_of g)) (Unbalanced symbol place)
+          first-balance symbol place h = inr (
+            shape,
+            behind-each (check_move (forms_at p) (gap_of g)) _ g.set.items (Unbalanced symbol place) moves-right (inr (
+              to-program g.rule (scaled_of g.floor) floor,
+              behind-each (check_kept (forms_at p) (gap_of g)) _ g.set.items (Unbalanced symbol place) kept-right
+                  (first-of-each (check_balance (forms_at p) (gap_of g)) _ (balanced p (gap_of g))
+                  (coefficient_at symbol place) h),
+            )),
+          )
+
+          module _ (balances : AllByRecursion (IsBalanced p (gap_of g)) (balanced p (gap_of g))) where
+            -- then that nothing is lost
+            pub first-loss : (point_of g.set.items (map scaled_of g.moves.items) g.rule).den ≡ 0 → g.floor.den ≡ 0
+                → IsFirstAmong (gap_checks p (forms_at p) (gap_of g)) LosesNothing
+            first-loss d e = inr (
+              shape,
+              behind-each (check_move (forms_at p) (gap_of g)) _ g.set.items LosesNothing moves-right (inr (
+                to-program g.rule (scaled_of g.floor) floor,
+                behind-each (check_kept (forms_at p) (gap_of g)) _ g.set.items LosesNothing kept-right
+                    (behind-each (check_balance (forms_at p) (gap_of g)) _ (balanced p (gap_of g)) LosesNothing balances
+                    (inl ((λ n. n (d, e)), refl))),
+              )),
+            )
+
+            -- else the gap holds
+            pub gap-holds : ¬ (((point_of g.set.items (map scaled_of g.moves.items) g.rule).den ≡ 0) × (g.floor.den ≡ 0))
+                → GapHolds p (forms_at p) (gap_of g)
+            gap-holds loses = passed-holds p (forms_at p) (gap_of g) (
+              shape,
+              passes_each (check_move (forms_at p) (gap_of g)) _ g.set.items moves-right (
+                to-program g.rule (scaled_of g.floor) floor,
+                passes_each (check_kept (forms_at p) (gap_of g)) _ g.set.items kept-right
+                    (passes_each (check_balance (forms_at p) (gap_of g)) _ (balanced p (gap_of g)) balances (loses, tt)),
+              ),
+            )

@@ -1,0 +1,6 @@
+pub mod GapFaults
+pub mod GapPositions
+pub mod GapShapes
+pub mod GapValues
+pub mod FirstFaults
+pub mod Balances

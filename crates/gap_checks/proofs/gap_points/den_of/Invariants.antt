@@ -1,0 +1,9 @@
+use Rattle.std.proofs.Common.{◌≡◌, drop, map}
+use Rattle.proof_tree.specs.proof_nodes.GapChecks.{point_of}
+use Rattle.proof_tree.specs.AnswerViews.{scaled_of}
+use Rattle.gap_checks.proofs.gap_points.den_of.Given as goal
+
+abbrev pub invariant-loop-i : goal.invariant-loop-i
+invariant-loop-i l =
+    (point_of (drop l.i l.set) (map scaled_of (drop l.i l.points)) l.rule).den
+    ≡ (point_of l.set (map scaled_of l.points) l.rule).den

@@ -1,0 +1,107 @@
+-- What finding the first fault of a gap meets: points with small numbers, the rows and new values that were prepared of a
+-- rule, and the first element of a list that fails.
+use Rattle.std.specs.Prelude.{◌≡◌, ◌⊎◌, ℕ, zero, suc, ◌≤◌, true, false, List, [], ◌∷◌, length, option_map, Option, Some, None}
+use Rattle.std.specs.Prelude.{slice_get, slice_index_or, ◌<◌, ◌*◌, ◌^◌, ◌||◌, Bool, pos, map, filter, not}
+use denote.Ref.{Bor}
+use Rattle.farkas_cert.specs.linear_forms.Limits.{point_limit}
+use Rattle.farkas_cert.specs.linear_forms.RuleQuestions.{RuleForms, Coefficient}
+use Rattle.farkas_cert.specs.model.Entries.{is_in}
+use Rattle.farkas_cert.specs.model.Paths.{source_of, target_of, same_symbol}
+use Rattle.farkas_cert.specs.model.Programs.{Program, arity_of}
+use Rattle.farkas_cert.specs.Sizes.{AreParts, HasRowNumbers}
+use Rattle.farkas_cert.specs.declared.scaled.Scaled.{Scaled}
+use Rattle.guard_prep.specs.declared.rule_rows.RuleRows.{RuleRows}
+use Rattle.guard_prep.specs.Views.{prepared_of}
+use Rattle.proof_tree.specs.proof_nodes.AcceptsPlain.{IsRule}
+use Rattle.proof_tree.specs.proof_setting.RankedSets.{forms_of, forms_at}
+use Rattle.proof_tree.specs.proof_nodes.GapChecks.{IsGapPoint, point_of, balance}
+use Rattle.proof_tree.specs.proof_nodes.Gaps.{ScaledPoint}
+use Rattle.proof_tree.specs.proof_nodes.Gaps as plain
+use Rattle.proof_tree.specs.proof_nodes.Numbers.{IsAscending}
+use Rattle.std.specs.List.{All, AllByRecursion, range_with_len}
+use Rattle.proof_tree.specs.AnswerViews.{scaled_of}
+
+-- what was prepared of the rule with a number; rules count from 1
+abbrev pub prep_in : List RuleRows → ℕ → Option RuleRows
+prep_in preps zero = None
+prep_in preps (suc t) = slice_get preps t
+
+-- the forms of a rule of which this was prepared, but for its symbols
+abbrev pub forms_by_prep : Option RuleRows → RuleForms
+forms_by_prep None = record { source = 0; target = 0; left = 0; unknowns = 0; rows = []; news = [] }
+forms_by_prep (Some m) = forms_of 0 0 (prepared_of m)
+
+-- and of the rule with a number
+abbrev pub forms_by : List RuleRows → ℕ → RuleForms
+forms_by preps t = forms_by_prep (prep_in preps t)
+
+-- a point with at most 128 parts and numbers within the limit
+pub record IsNear (z : ScaledPoint) : Type 0 where
+  pub few : length z.parts ≤ 128
+  pub parts_limit : AreParts z.parts
+  pub den_limit : z.den ≤ point_limit
+
+-- all points of the rules of an ascending set are near, and there is one for each rule
+pub record AreNearPoints (set : List ℕ) (zs : List ScaledPoint) : Type 0 where
+  pub ascending : IsAscending set
+  pub long : length zs ≡ length set
+  pub near : (t : ℕ) → is_in t set ≡ true → IsNear (point_of set zs t)
+
+-- there is a scaled point for each rule of a set, with a part for each of the rule's unknowns and numbers within the limit
+abbrev pub HaveGapPoints : List RuleRows → List ℕ → List Scaled → Type 0
+HaveGapPoints preps set zs = (length zs ≡ length set)
+    × AllByRecursion (λ t. IsGapPoint (forms_by preps t) (point_of set (map scaled_of zs) t)) set
+
+-- the rows and the new values of each rule have small numbers
+pub record HaveSmallRows (preps : List RuleRows) : Type 0 where
+  pub rows : (t : ℕ) → All HasRowNumbers (forms_by preps t).rows
+  pub news : (t : ℕ) → All HasRowNumbers (forms_by preps t).news
+
+-- an element is the first of a list that fails: all before it hold
+abbrev pub IsFirstFailing : {A : Type 0} → (A → Type 0) → List A → A → Type 0
+IsFirstFailing P [] y = ⊥
+IsFirstFailing P (x ∷ xs) y = (¬ P x × (x ≡ y)) ⊎ (P x × IsFirstFailing P xs y)
+
+-- what was found, as it is
+abbrev pub optional_prep : Option (Bor RuleRows) → Option RuleRows
+optional_prep o = option_map (λ m. m.now) o
+
+-- a place of a symbol
+abbrev pub coefficient_at : ℕ → ℕ → Coefficient
+coefficient_at symbol place = record { symbol = symbol; place = place }
+
+-- what an absolute value of a new value at a near point is at most, and what one of a rule's parts of a balance is
+abbrev pub value_limit : ℕ
+value_limit = 129 * 2 ^ 108
+
+abbrev pub net_limit : ℕ
+net_limit = 130 * 2 ^ 108
+
+-- a flag for place 0 and each place that a symbol may have: whether it is shut
+pub record AreShutFlags (flags : List Bool) (shut : List plain.SymbolPlace) (symbol : ℕ) : Type 0 where
+  pub long : length flags ≡ 33
+  pub each : (i : ℕ) → i < 33 → slice_index_or flags i false ≡ plain.is_shut shut symbol i
+
+-- a rule leaves the symbol or leads to it
+abbrev pub touches_by : Program → ℕ → ℕ → Bool
+touches_by p t a = same_symbol (Some a) (source_of p t) || same_symbol (Some a) (target_of p t)
+
+-- the balance of a coefficient is 0
+abbrev pub IsBalanced : Program → plain.Gap → Coefficient → Type 0
+IsBalanced p g c = balance (forms_at p) g c ≡ pos 0
+
+-- the places of a symbol that have a balance: place 0, and each that isn't shut
+abbrev pub places_at : Program → plain.Gap → ℕ → List Coefficient
+places_at p g s =
+    map (λ i. record { symbol = s; place = i })
+    (0 ∷ filter (λ i. not (plain.is_shut g.shut s i)) (range_with_len 1 (arity_of p s)))
+
+-- the set of a gap ascends, has only numbers of rules and holds the strict rule
+pub record IsGapSet (p : Program) (g : plain.Gap) : Type 0 where
+  pub ascending : IsAscending g.set
+  pub rules : AllByRecursion (IsRule p) g.set
+  pub inside : is_in g.rule g.set ≡ true
+
+-- the denominators of the strict rule's move and of the floor are both 0
+abbrev pub HasNoDenominators : plain.Gap → Type 0
+HasNoDenominators g = ((point_of g.set g.moves g.rule).den ≡ 0) × (g.floor.den ≡ 0)

@@ -1,0 +1,116 @@
+//! Whether the shape of a gap is right.
+
+ghost use Rattle.std.specs.Prelude.{◌≡◌, ◌↔◌, ◌≤◌, ℕ, length, map, true, IsTrue, nat_abs};
+ghost use Rattle.std.specs.List.{All, AllByRecursion};
+ghost use Rattle.farkas_cert.specs.linear_forms.Limits.{point_limit};
+ghost use Rattle.its_model.specs.Views.{program_of};
+ghost use Rattle.proof_tree.specs.proof_setting.RankedSets.{forms_at};
+ghost use Rattle.proof_tree.specs.proof_nodes.AcceptsPlain.{IsRule};
+ghost use Rattle.proof_tree.specs.proof_nodes.GapChecks.{HasGapShape, IsGapPoint};
+ghost use Rattle.proof_tree.specs.proof_nodes.Numbers.{IsAscending};
+ghost use Rattle.proof_tree.specs.AnswerViews.{scaled_of, gap_of};
+ghost use Rattle.proof_tree.specs.Composing.{AreRowsOf};
+ghost use Rattle.gap_checks.specs.GapTests.{forms_by, HaveGapPoints, IsGapSet};
+
+use crate::gap_points::prep_at;
+use farkas_cert::Scaled;
+use guard_prep::RuleRows;
+use its_model::Program;
+use proof_tree::{Gap, has_number};
+
+// The most that a part of a point or its denominator may be in absolute value.
+const LIMIT: u64 = 1 << 45;
+
+// Whether each number is less than the next.
+fn ascends(numbers: &[u32]) -> bool
+    ensures { IsTrue result ↔ IsAscending numbers.now }
+{
+    for i in 1..numbers.len() {
+        if numbers[i - 1] >= numbers[i] {
+            return false;
+        }
+    }
+    true
+}
+
+// Whether the numbers are those of rules.
+fn are_rules(p: &Program, numbers: &[u32]) -> bool
+    ensures { IsTrue result ↔ AllByRecursion (IsRule (program_of p.now)) numbers.now }
+{
+    for number in numbers {
+        if *number == 0 || *number as usize > p.rules.len() {
+            return false;
+        }
+    }
+    true
+}
+
+// Whether the set ascends, has numbers of rules alone and holds the strict rule.
+fn is_gap_set(p: &Program, g: &Gap) -> bool
+    ensures { IsTrue result ↔ IsGapSet (program_of p.now) (gap_of g.now) }
+{
+    ascends(&g.set) && are_rules(p, &g.set) && has_number(&g.set, g.rule)
+}
+
+// Whether the parts are within the limit of points.
+fn are_parts(parts: &[i64]) -> bool
+    ensures { IsTrue result ↔ All (λ x. nat_abs x ≤ point_limit) parts.now }
+{
+    for part in parts {
+        if part.unsigned_abs() > LIMIT {
+            return false;
+        }
+    }
+    true
+}
+
+// How many unknowns a rule has.
+fn unknowns_at(preps: &[RuleRows], rule: u32) -> usize
+    ensures { result ≡ (forms_by preps.now rule).unknowns }
+{
+    match prep_at(preps, rule) {
+        Some(prep) => prep.unknowns as usize,
+        None => 0,
+    }
+}
+
+// Whether a scaled point has a part for each unknown of a rule, and numbers within the limit.
+fn is_gap_point(preps: &[RuleRows], rule: u32, z: &Scaled) -> bool
+    ensures { IsTrue result ↔ IsGapPoint (forms_by preps.now rule) (scaled_of z.now) }
+{
+    z.parts.len() == unknowns_at(preps, rule) && z.den <= LIMIT && are_parts(&z.parts)
+}
+
+// Whether there is a scaled point for each rule of a set, each of which is like that.
+fn are_gap_points(preps: &[RuleRows], set: &[u32], zs: &[Scaled]) -> bool
+    requires { IsAscending set.now }
+    ensures { IsTrue result ↔ HaveGapPoints preps.now set.now zs.now }
+{
+    if zs.len() != set.len() {
+        return false;
+    }
+    for i in 0..set.len() {
+        let fits = is_gap_point(preps, set[i], &zs[i]);
+        if !fits {
+            return false;
+        }
+    }
+    true
+}
+
+/// Whether the shape of a gap is right.
+pub(crate) fn has_gap_shape(p: &Program, preps: &[RuleRows], g: &Gap) -> bool
+    requires { AreRowsOf preps.now (program_of p.now) }
+    ensures { IsTrue result ↔ HasGapShape (program_of p.now) (forms_at (program_of p.now)) (gap_of g.now) }
+{
+    if !is_gap_set(p, g) {
+        return false;
+    }
+    if !are_gap_points(preps, &g.set, &g.moves) {
+        return false;
+    }
+    if !are_gap_points(preps, &g.set, &g.kept) {
+        return false;
+    }
+    is_gap_point(preps, g.rule, &g.floor)
+}

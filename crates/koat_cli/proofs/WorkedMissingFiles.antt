@@ -1,0 +1,96 @@
+-- What is answered to a replay where a shelf lacks one of the two files.
+use Rattle.std.proofs.Common.{◌≡◌, ℕ, List, [], ◌∷◌, Some, None, refl, sym, ◌∙◌, inl, inr, arith, codes}
+use Rattle.std.specs.Fmt.{digits}
+use Rattle.std.specs.Cmp.Lexicographic.{slice_cmp, nat_list_cmp_total}
+use Rattle.std.specs.Ordering.{nat_cmp}
+use Rattle.std.specs.FinMap.{get, empty, insert, get-insert, get-empty}
+use Rattle.outside_io.specs.Counts.{Rose}
+use Rattle.outside_io.specs.Files.{Files}
+use Rattle.model.specs.Programs.{Program}
+use Rattle.its_model.specs.text_core.Reading.{Answer, Stands, Refused}
+use Rattle.its_reader.specs.its_text.Kinds.{Kind, MissingSection}
+use Rattle.its_reader.specs.its_text.Answers.{verdict}
+use Rattle.its_reader.proofs.its_text.VerdictLaws.{verdicts_are_right}
+use Rattle.asks.specs.Lines.{Word}
+use Rattle.asks.specs.Requests.{Replay}
+use Rattle.asks.proofs.WorkedLines.{command_lines}
+use Rattle.koat_cli.specs.declared.status.Status.{Status}
+use Rattle.koat_cli.specs.declared.status.Status.TheVariants.{ReadFault, ProgramRefused}
+use Rattle.koat_cli.specs.Report.{read_fault_text}
+use Rattle.koat_cli.specs.Calls.{Seen}
+use Rattle.koat_cli.specs.OnFiles as files
+use Rattle.koat_cli.specs.OnFiles.{program_limit}
+use Rattle.koat_cli.specs.OnTexts.{NoProgram}
+use Rattle.koat_cli.specs.Answers.{Answers, ToRequest}
+use Rattle.koat_cli.specs.Answering.{SpellsNone}
+use Rattle.koat_cli.specs.WorkedMissingFiles.{holding, Replayed, FilesAreReadInOrder}
+use Rattle.koat_cli.proofs.Exclusions.{Determined}
+use Rattle.koat_cli.proofs.MissingFiles.{program_missed, told_refused}
+use Rattle.koat_cli.proofs.OneRequest.{answer_of}
+
+-- the files of such a shelf
+abbrev one_file : Word → Files
+one_file name = insert empty name []
+
+-- it has no fault
+steady : ¬ (Rose 0 0)
+steady (inl more) = omega (arith, more)
+steady (inr most) = omega (arith, most)
+
+-- what it tells of two names
+lacks_program : get (one_file (codes "-q")) (codes "p") ≡ None
+lacks_program = get-insert nat_list_cmp_total empty (codes "-q") [] (codes "p") ∙ get-empty (slice_cmp nat_cmp) (codes "p")
+
+has_program : get (one_file (codes "p")) (codes "p") ≡ Some []
+has_program = get-insert nat_list_cmp_total empty (codes "p") [] (codes "p")
+
+-- what no bytes are read as
+no_bytes_refused : ◌≡◌ {A = Answer Program Kind} (verdict []) (Refused (record { kind = MissingSection; at = 0 }))
+no_bytes_refused = refl
+
+-- so they spell no program
+no_bytes_spell_none : Determined → SpellsNone []
+no_bytes_spell_none laws = inr (λ p spelled. apart p (sym no_bytes_refused ∙ (laws.verdicts.stands [] p).1 spelled))
+  where
+    apart : (p : Program) → ◌≡◌ {A = Answer Program Kind} (Refused (record { kind = MissingSection; at = 0 })) (Stands p) → ⊥
+    apart p e = cc
+
+-- what is answered to the words, is answered to a replay
+of_replay : (seen : Seen) (status : Status) (text : List ℕ) → Replayed seen status text
+    → Answers seen (Replay (codes "p") (codes "-q")) status text
+of_replay seen status text said =
+    answer_of (record { words = codes "replay" ∷ codes "p" ∷ codes "--" ∷ codes "-q" ∷ []; shelf = seen })
+    (Replay (codes "p") (codes "-q")) status text command_lines.replay said
+
+-- a program that is lacking
+no_program : Replayed (holding (codes "-q")) ReadFault read_fault_text
+no_program =
+    ToRequest (Replay (codes "p") (codes "-q")) command_lines.replay
+    (NoProgram (files.Unread (record { fault = inr lacks_program; told = refl; ends = refl })))
+
+-- one without bytes
+no_run : Replayed (holding (codes "p")) ProgramRefused (codes "program refused at 0: MissingSection\n")
+unfolding digits
+no_run =
+    ToRequest (Replay (codes "p") (codes "-q")) command_lines.replay
+    (NoProgram (files.Refused (record {
+      bytes = [];
+      fetched = record { held = has_program; taken = refl; within = omega arith };
+      fault = record { kind = MissingSection; at = 0 };
+      refused = refl;
+      first = verdicts_are_right.each [];
+      told = refl;
+      ends = refl;
+    })))
+
+pub files_read_in_order : Determined → FilesAreReadInOrder
+files_read_in_order laws = record {
+  no_program = no_program;
+  no_program_alone = λ status text said.
+      program_missed (holding (codes "-q")) (one_file (codes "-q")) (codes "p") (codes "-q") refl steady status text
+      lacks_program (of_replay (holding (codes "-q")) status text said);
+  no_run = no_run;
+  no_run_alone = λ status text said.
+      told_refused (holding (codes "p")) (one_file (codes "p")) (codes "p") (codes "-q") refl steady laws status text []
+      has_program (no_bytes_spell_none laws) (of_replay (holding (codes "p")) status text said);
+}

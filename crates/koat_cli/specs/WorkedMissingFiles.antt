@@ -1,0 +1,29 @@
+-- What is answered to a replay where a shelf lacks one of the two files, as it was worked out by hand.
+use Rattle.std.specs.Prelude.{◌≡◌, ℕ, List, [], ◌∷◌, Some, codes}
+use Rattle.std.specs.FinMap.{empty, insert}
+use Rattle.asks.specs.Lines.{Word}
+use Rattle.koat_cli.specs.declared.status.Status.{Status}
+use Rattle.koat_cli.specs.declared.status.Status.TheVariants.{ReadFault, ProgramRefused}
+use Rattle.koat_cli.specs.Calls.{Seen}
+use Rattle.koat_cli.specs.Report.{read_fault_text}
+use Rattle.koat_cli.specs.Answers.{Says}
+
+-- a shelf without faults that tells that it holds a file of this name without bytes, and no other
+abbrev pub holding : Word → Seen
+holding name = record { held = Some (insert empty name []); faults_before = 0; faults_after = 0; taken = 0 }
+
+-- `replay p -- -q`, on a shelf of which this was seen, is answered with this status and this text
+abbrev pub Replayed : Seen → Status → List ℕ → Type 0
+Replayed seen status text =
+    Says (record { words = codes "replay" ∷ codes "p" ∷ codes "--" ∷ codes "-q" ∷ []; shelf = seen }) status text
+
+-- the program of `replay p -- -q` is `p`, and its run `-q`: where `p` is lacking, the answer is a fault of reading and
+-- no other, though `-q` is there and is no run; and where `p` is there and has no bytes, it is a refusal of `p` and no
+-- other, though `-q` is lacking
+pub record FilesAreReadInOrder : Type 0 where
+  pub no_program : Replayed (holding (codes "-q")) ReadFault read_fault_text
+  pub no_program_alone : (status : Status) (text : List ℕ) → Replayed (holding (codes "-q")) status text
+      → status ≡ ReadFault
+  pub no_run : Replayed (holding (codes "p")) ProgramRefused (codes "program refused at 0: MissingSection\n")
+  pub no_run_alone : (status : Status) (text : List ℕ) → Replayed (holding (codes "p")) status text
+      → status ≡ ProgramRefused

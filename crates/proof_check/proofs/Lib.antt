@@ -1,0 +1,30 @@
+-- the nodes of a lemma and those of its children
+mod ChildNodes
+-- accepted lemmas, and their facts
+mod AcceptedLemmas
+-- what judging nodes gives
+mod Judged
+-- what is kept of lemmas
+mod Keeping
+-- gaps
+mod OffGaps
+-- what uses state
+mod UsedFacts
+-- rules of which a time is 0
+mod ZeroRules
+-- files
+mod FileAnswers
+-- plain nodes
+mod PlainNodes
+-- nodes that are judged by key
+mod KeyedNodes
+-- facts that stand alone, and weaker bounds
+mod SingleFacts
+-- bounds as they may be written
+mod WritableBounds
+-- nodes that have uses
+mod ProofViews
+-- lemmas that are cited
+mod CitedLemmas
+-- counts of nodes
+mod NodeCounts

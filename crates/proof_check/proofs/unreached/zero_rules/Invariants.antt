@@ -1,0 +1,8 @@
+use Rattle.std.proofs.Common.{[], take}
+use Rattle.proof_facts.specs.Statements.{joined_by}
+use Rattle.proof_check.specs.Zeros.{AddsZeros}
+use Rattle.proof_check.proofs.unreached.zero_rules.Given as goal
+
+-- the rules of the uses so far
+abbrev pub invariant-loop-used : goal.invariant-loop-used
+invariant-loop-used l = AddsZeros [] (joined_by l.kept (take l.used-index l.uses)) l.cut.items

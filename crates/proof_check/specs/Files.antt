@@ -1,0 +1,64 @@
+-- What is answered to a proof file.
+use Rattle.std.specs.Prelude.{◌≡◌, ◌<◌, ◌^◌, List, length, map, ⊤}
+use Rattle.std.specs.List.{All, AllByRecursion}
+use Rattle.model.specs.Facts.{Fact}
+use Rattle.model.specs.Programs.{Program}
+use Rattle.proof_tree.specs.AnswerViews.{reason_of, fault_of}
+use Rattle.proof_tree.specs.Views.{proof_of}
+use Rattle.proof_tree.specs.declared.file.ProofFile as code
+use Rattle.proof_tree.specs.proof_nodes.Nodes.{Proof}
+use Rattle.proof_tree.specs.proof_nodes.Numbering.{nodes_of}
+use Rattle.proof_tree.specs.proof_nodes.Acceptance.{facts_of_lemmas}
+use Rattle.proof_tree.specs.proof_nodes.Gaps.{Gap, ProofFile}
+use Rattle.proof_tree.specs.proof_nodes.GapChecks.{GapHolds}
+use Rattle.proof_tree.specs.proof_nodes.Refusals.{FailsFirst, IsFirstFault, IsRefusedAt, IsRefusedAtGap}
+use Rattle.proof_tree.specs.proof_nodes.Setting.{Setting}
+use Rattle.proof_tree.specs.rule_forms.Ranking.{NoRank}
+use Rattle.proof_tree.specs.proof_setting.Laws.{AcceptsFileFor}
+use Rattle.proof_tree.specs.proof_setting.RankedSets.{forms_at, ranked_set}
+use Rattle.proof_tree.specs.proof_setting.Setting.{setting_of}
+use Rattle.proof_check.specs.declared.error.CheckError.{CheckError}
+use Rattle.proof_check.specs.declared.error.CheckError.TheVariants as error
+use Rattle.proof_check.specs.declared.gaps.OffGap.{OffGap}
+use Rattle.proof_facts.specs.Statements.{all_facts}
+
+-- a lemma has fewer than 2^32 nodes
+abbrev pub HasFewNodes : Proof → Type 0
+HasFewNodes proof = length (nodes_of proof) < 2 ^ 32
+
+-- all that a file holds can be numbered in 32 bits: its lemmas, its gaps, and the nodes of each lemma
+pub record CanBeNumbered (f : code.ProofFile) : Type 0 where
+  pub lemmas : length f.lemmas.items < 2 ^ 32
+  pub gaps : length f.gaps.items < 2 ^ 32
+  pub nodes : AllByRecursion HasFewNodes (map proof_of f.lemmas.items)
+
+-- lemmas are refused at this node of this lemma, for this reason
+abbrev pub RefusesLemmas : Setting → List Proof → CheckError → Type 0
+RefusesLemmas s proofs (error.No lemma node reason) = IsRefusedAt s proofs lemma node (reason_of reason)
+RefusesLemmas s proofs (error.NoGap gap fault) = ⊥
+RefusesLemmas s proofs error.Memory = ⊤
+
+-- all gaps hold
+abbrev pub HoldAll : Program → List Gap → Type 0
+HoldAll p gaps = All (GapHolds p (forms_at p)) gaps
+
+-- this gap is the first that doesn't hold, and this is its first fault
+abbrev pub IsFirstOff : Program → List Gap → OffGap → Type 0
+IsFirstOff p gaps off =
+    FailsFirst (GapHolds p (forms_at p)) (IsFirstFault p (forms_at p)) gaps off.gap (fault_of off.fault)
+
+-- a file is accepted, and these are the facts of its lemmas, in order
+pub record IsAcceptedWith (p : Program) (f : ProofFile) (facts : List Fact) : Type 0 where
+  pub accepted : AcceptsFileFor p f
+  pub told : facts ≡ all_facts (facts_of_lemmas (setting_of p) f.lemmas)
+
+-- a file is refused: at the first node that isn't accepted, with its first reason; or where all lemmas are accepted at
+-- the first gap that doesn't hold, with its first fault; want of memory tells nothing
+abbrev pub RefusesFile : Program → ProofFile → CheckError → Type 0
+RefusesFile p f (error.No lemma node reason) = IsRefusedAt (setting_of p) f.lemmas lemma node (reason_of reason)
+RefusesFile p f (error.NoGap gap fault) = IsRefusedAtGap (setting_of p) (forms_at p) f gap (fault_of fault)
+RefusesFile p f error.Memory = ⊤
+
+-- of each gap: no affine function ranks its strict rule over its set without looking at one of its shut places
+abbrev pub ExcludeFunctions : Program → List Gap → Type 0
+ExcludeFunctions p gaps = All (λ g. NoRank (ranked_set p g.set g.rule g.shut)) gaps

@@ -1,0 +1,16 @@
+-- what nodes rest on
+pub mod Children
+-- why lemmas are refused
+pub mod Faults
+pub mod Refusing
+-- plain nodes
+pub mod PlainChecks
+pub mod Singles
+pub mod Writables
+pub mod Zeros
+-- lemmas
+pub mod Judging
+-- counts of nodes
+pub mod Counts
+-- files
+pub mod Files

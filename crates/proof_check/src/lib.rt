@@ -1,0 +1,24 @@
+//! The checker of proof files: it solves no linear program, and believes none that did.
+//! Contract to the layer above: `check` says yes exactly where every lemma and every gap of a file is accepted, as
+//! `proof_nodes` says it, and then every fact of the file holds on all runs, whoever made the file; else it names the
+//! first node or gap that isn't accepted, and why.
+#![tactic(auto)]
+
+mod by_key;
+mod children;
+mod emptiness;
+mod error;
+mod files;
+mod gaps;
+mod judging;
+mod lemmas;
+mod numbering;
+mod refusal;
+mod unreached;
+mod unused;
+mod weakening;
+mod writable;
+
+pub use error::CheckError;
+pub use files::{accepted_files_hold, check};
+pub use numbering::can_be_numbered;

@@ -1,0 +1,97 @@
+//! Rules whose source isn't reached.
+
+ghost use Rattle.std.specs.Prelude.{◌≡◌, ◌∷◌, [], IfOk, OnOk, MatchResult, slice_index_or, false};
+ghost use Rattle.model.specs.Bounds.{Constant};
+ghost use Rattle.model.specs.Facts.{Time};
+ghost use Rattle.proof_facts.specs.Grounds.{IsGround, setting};
+ghost use Rattle.proof_facts.specs.NodeAnswers.{States};
+ghost use Rattle.proof_facts.specs.NodeAnswers.{Refuses};
+ghost use Rattle.proof_facts.specs.Statements.{joined_by};
+ghost use Rattle.proof_check.specs.Zeros.{AddsZeros, AreZeros};
+ghost use Rattle.proof_tree.specs.Views.{fact_of, facts_of};
+ghost use Rattle.proof_tree.specs.proof_nodes.AcceptsPlain.{may_run};
+ghost use Rattle.proof_tree.specs.proof_nodes.Checks.{unreached_checks};
+
+use model::Memory;
+use proof_facts::{Ground, Kept, NodeFault, Use, facts_in, is_rule, zero_time};
+use proof_tree::{Fact, Reason};
+use size_nodes::is_zero;
+use std::alloc::Global;
+
+// Adds the rule of a fact to a list, where the fact is that its time is 0.
+fn push_zero(cut: &mut Vec<u32>, fact: &Fact) -> Result<(), Memory>
+    ensures { OnOk result (AddsZeros cut.old.items (fact_of fact.now ∷ []) cut.new.items) }
+{
+    match fact {
+        Fact::Time { rule, bound } => {
+            let is_dead = is_zero(bound);
+            if is_dead {
+                cut.push(*rule)?;
+            }
+            Ok(())
+        }
+        Fact::Size { .. } => Ok(()),
+        Fact::Cost { .. } => Ok(()),
+    }
+}
+
+// Adds the rules of which a time is 0 by these facts.
+fn push_zeros(cut: &mut Vec<u32>, facts: &[Fact]) -> Result<(), Memory>
+    ensures { OnOk result (AddsZeros cut.old.items (facts_of facts.now) cut.new.items) }
+{
+    for fact in facts {
+        push_zero(cut, fact)?;
+    }
+    Ok(())
+}
+
+// The rules of which a time is 0 by what the uses state.
+fn zero_rules(alloc: Global, kept: &Kept, uses: &[Use]) -> Result<Vec<u32>, Memory>
+    ensures { IfOk result (λ cut. AreZeros (joined_by kept.now uses.now) cut.items) }
+{
+    let mut cut = Vec::new(alloc);
+    for used in uses {
+        push_zeros(&mut cut, facts_in(kept, used))?;
+    }
+    Ok(cut)
+}
+
+/// What a node on a rule that isn't reached states, by what its uses state.
+///
+/// # Errors
+///
+/// `Refused` with the first reason why the node isn't accepted; `Memory` where an allocation fails.
+pub(crate) fn unreached_facts(
+    alloc: Global,
+    ground: &Ground,
+    kept: &Kept,
+    rule: u32,
+    uses: &[Use],
+) -> Result<Vec<Fact>, NodeFault>
+    requires { IsGround ground.now }
+    ensures { MatchResult result
+        (λ stated. States (unreached_checks (setting ground.now) (may_run (joined_by kept.now uses.now)) rule)
+        (Time rule (Constant 0) ∷ []) stated)
+        (λ fault. Refuses (unreached_checks (setting ground.now) (may_run (joined_by kept.now uses.now)) rule) fault) }
+{
+    if !is_rule(ground.program, rule) {
+        return Err(NodeFault::Refused(Reason::Shape));
+    }
+    let cut = zero_rules(alloc, kept, uses)?;
+    let seen = ground.graph.reached(alloc, &cut)?;
+    let source = ground.program.rules[rule as usize - 1].source;
+    if is_set(&seen, source) {
+        return Err(NodeFault::Refused(Reason::Reached));
+    }
+    Ok(zero_time(alloc, rule)?)
+}
+
+// Whether a flag is there and set.
+fn is_set(flags: &[bool], position: u32) -> bool
+    ensures { result ≡ slice_index_or flags.now position false }
+{
+    match flags.get(position as usize) {
+        Some(flag) => *flag,
+        None => false,
+    }
+}

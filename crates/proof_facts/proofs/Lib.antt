@@ -1,0 +1,17 @@
+-- lists that are cut
+pub mod Cuts
+-- what was prepared of rules
+pub mod Rows
+pub mod SuitedRows
+-- facts of places
+pub mod PlaceFacts
+-- facts that are kept
+pub mod KeptFacts
+-- facts joined
+pub mod JoinedFacts
+-- bounds by key
+pub mod Keys
+-- bounds that are needed
+pub mod NeededBounds
+-- forms, column by column
+pub mod FormColumns

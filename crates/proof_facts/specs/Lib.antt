@@ -1,0 +1,12 @@
+-- what was stated
+pub mod Statements
+-- what nodes are judged over
+pub mod Grounds
+pub mod SuitedRows
+-- what is answered to nodes
+pub mod NodeAnswers
+-- bounds by key, and bounds that are needed
+pub mod Lookups
+pub mod Needed
+-- forms, column by column
+pub mod Columns

@@ -1,0 +1,54 @@
+-- What was stated, as the checker keeps it.
+use Rattle.std.specs.Prelude.{Result, Ok, Err, ℕ, zero, suc, List, [], ◌∷◌, ◌++◌, map}
+use Rattle.std.specs.List.{All}
+use Rattle.std.specs.Global.{Vec}
+use Rattle.model.specs.Facts as plain
+use Rattle.proof_tree.specs.declared.fact.Fact.{Fact}
+use Rattle.proof_tree.specs.Views.{facts_of}
+use Rattle.proof_tree.specs.proof_nodes.Laws.{HasBasedBound}
+use Rattle.proof_facts.specs.declared.kept.Kept.{Kept}
+use Rattle.proof_facts.specs.declared.kept.Use.{Use}
+use Rattle.proof_facts.specs.declared.kept.Use.TheVariants as by
+use Rattle.proof_facts.specs.declared.refusal.NodeFault.{NodeFault}
+
+-- facts joined in order
+abbrev pub all_facts : List (List plain.Fact) → List plain.Fact
+all_facts [] = []
+all_facts (facts ∷ others) = facts ++ all_facts others
+
+-- the facts at a position of a list of lists of facts; past its end, none
+abbrev pub facts_from : List (Vec Fact) → ℕ → List plain.Fact
+facts_from [] n = []
+facts_from (facts ∷ others) zero = facts_of facts.items
+facts_from (facts ∷ others) (suc n) = facts_from others n
+
+-- the facts that are kept at a position
+abbrev pub stated_at : Kept → ℕ → List plain.Fact
+stated_at kept n = facts_from kept.stated.items n
+
+-- the facts of the lemmas before, lemma by lemma
+abbrev pub past_of : Kept → List (List plain.Fact)
+past_of kept = map (stated_at kept) kept.lemmas.items
+
+-- the facts that a node states
+abbrev pub facts_by : Kept → Use → List plain.Fact
+facts_by kept (by.Kept n) = stated_at kept n
+facts_by kept (by.Own facts) = facts_of facts.items
+
+-- and those that several state, joined in order
+abbrev pub joined_by : Kept → List Use → List plain.Fact
+joined_by kept uses = all_facts (map (facts_by kept) uses)
+
+-- those of the first of several; of none, no fact
+abbrev pub first_by : Kept → List Use → List plain.Fact
+first_by kept [] = []
+first_by kept (used ∷ uses) = facts_by kept used
+
+-- every base in the bounds of facts is at least 1
+abbrev pub AreBased : List plain.Fact → Type 0
+AreBased facts = All HasBasedBound facts
+
+-- facts of a node's own, where there are
+abbrev pub owned_by : Result (Vec Fact) NodeFault → Result Use NodeFault
+owned_by (Ok facts) = Ok (by.Own facts)
+owned_by (Err fault) = Err fault

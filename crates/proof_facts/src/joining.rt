@@ -1,0 +1,111 @@
+//! What the uses of a node state, by key.
+
+ghost use Rattle.std.specs.Prelude.{◌≡◌, ◌++◌, IfOk, OnOk};
+ghost use Rattle.proof_facts.specs.Lookups.{EntersSize, EntersTime, HasSizes, HasTimes, facts_at};
+ghost use Rattle.proof_facts.specs.Statements.{joined_by};
+ghost use Rattle.proof_tree.specs.Views.{fact_of, facts_of};
+
+use crate::kept::{Kept, Use, facts_in};
+use crate::lookup::Lookup;
+use model::Memory;
+use proof_tree::Fact;
+use std::alloc::Global;
+use std::collections::BTreeMap;
+
+// Enters the position of a fact that is a time, unless its rule has one.
+fn enter_time(times: &mut BTreeMap<u32, usize>, fact: &Fact, position: usize) -> Result<(), Memory>
+    ensures { OnOk result (EntersTime times.old (fact_of fact.now) position times.new) }
+{
+    match fact {
+        Fact::Time { rule, .. } => {
+            if !times.contains_key(rule) {
+                times.insert(*rule, position)?;
+            }
+            Ok(())
+        }
+        Fact::Size { .. } => Ok(()),
+        Fact::Cost { .. } => Ok(()),
+    }
+}
+
+// Enters the position of a fact that is a size, unless its place has one.
+fn enter_size(
+    sizes: &mut BTreeMap<(u32, u32), usize>,
+    fact: &Fact,
+    position: usize,
+) -> Result<(), Memory>
+    ensures { OnOk result (EntersSize sizes.old (fact_of fact.now) position sizes.new) }
+{
+    match fact {
+        Fact::Time { .. } => Ok(()),
+        Fact::Size { rule, place, .. } => {
+            let key = (*rule, *place);
+            if !sizes.contains_key(&key) {
+                sizes.insert(key, position)?;
+            }
+            Ok(())
+        }
+        Fact::Cost { .. } => Ok(()),
+    }
+}
+
+// Of each rule the position of its first time among facts.
+fn times_of(alloc: Global, facts: &[&Fact]) -> Result<BTreeMap<u32, usize>, Memory>
+    ensures { IfOk result (λ times. HasTimes (facts_at facts.now) times) }
+{
+    let mut times = BTreeMap::new(alloc);
+    for i in 0..facts.len() {
+        enter_time(&mut times, facts[i], i)?;
+    }
+    Ok(times)
+}
+
+// Of each place after a rule that of its first size.
+fn sizes_of(alloc: Global, facts: &[&Fact]) -> Result<BTreeMap<(u32, u32), usize>, Memory>
+    ensures { IfOk result (λ sizes. HasSizes (facts_at facts.now) sizes) }
+{
+    let mut sizes = BTreeMap::new(alloc);
+    for i in 0..facts.len() {
+        enter_size(&mut sizes, facts[i], i)?;
+    }
+    Ok(sizes)
+}
+
+// Appends references to facts.
+fn push_facts<'a>(all: &mut Vec<&'a Fact>, facts: &'a [Fact]) -> Result<(), Memory>
+    ensures { OnOk result (facts_at all.new.items ≡ facts_at all.old.items ++ facts_of facts.now) }
+{
+    for fact in facts {
+        all.push(fact)?;
+    }
+    Ok(())
+}
+
+// What the uses of a node state, in order.
+fn joined<'a>(alloc: Global, kept: &'a Kept, uses: &'a [Use]) -> Result<Vec<&'a Fact>, Memory>
+    ensures { IfOk result (λ facts. facts_at facts.items ≡ joined_by kept.now uses.now) }
+{
+    let mut all = Vec::new(alloc);
+    for used in uses {
+        push_facts(&mut all, facts_in(kept, used))?;
+    }
+    Ok(all)
+}
+
+/// What the uses of a node state, by key. No fact is copied, and the time is near-linear in their number.
+///
+/// # Errors
+///
+/// `Memory` where an allocation fails.
+pub fn lookup_of<'a>(alloc: Global, kept: &'a Kept, uses: &'a [Use]) -> Result<Lookup<'a>, Memory>
+    ensures { IfOk result (λ l. facts_at l.facts.items ≡ joined_by kept.now uses.now) }
+{
+    let facts = joined(alloc, kept, uses)?;
+    let times = times_of(alloc, &facts)?;
+    let sizes = sizes_of(alloc, &facts)?;
+    Ok(Lookup {
+        facts,
+        times,
+        sizes,
+    })
+}

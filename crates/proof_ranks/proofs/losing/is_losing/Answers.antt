@@ -1,0 +1,56 @@
+use Rattle.std.proofs.Common.{◌≤◌, ◌∙◌, List, length, map, ap, subst, sym}
+use Rattle.farkas_cert.specs.Sizes.{AreSmall, HasRowNumbers}
+use Rattle.std.specs.List.{All}
+use Rattle.poly_terms.specs.Views.{form_of}
+use Rattle.poly_terms.specs.declared.poly.Row.{Row}
+use Rattle.proof_tree.specs.Sizes.{form_found}
+use Rattle.proof_tree.specs.Views.{form_of as form_at_symbol}
+use Rattle.proof_tree.specs.proof_nodes.Composed.{rank_form}
+use Rattle.proof_facts.specs.Grounds.{program}
+use Rattle.proof_ranks.specs.Goals.{AreWithin}
+use Rattle.proof_ranks.proofs.LossRows.{found-limited, found-within, losing-by}
+use Rattle.proof_ranks.proofs.losing.is_losing.Goals as goal
+
+pub loss_row-requires-clause-before : goal.loss_row-requires-clause-before
+loss_row-requires-clause-before c =
+    found-limited (program c.args.ground.now) c.args.node.now c.requires.shape c.rank_form-before.result c.source_of.result
+    (c.rank_form-before.ensures.first ∙ ap (λ fs. rank_form (map form_at_symbol fs) c.source_of.result) c.deref.ensures.value)
+
+pub loss_row-requires-clause-after : goal.loss_row-requires-clause-after
+loss_row-requires-clause-after c =
+    found-limited (program c.args.ground.now) c.args.node.now c.requires.shape c.rank_form-after.result c.target_of.result
+    (c.rank_form-after.ensures.first ∙ ap (λ fs. rank_form (map form_at_symbol fs) c.target_of.result) c.deref-2.ensures.value)
+
+pub loss_row-requires-clause-few : goal.loss_row-requires-clause-few
+loss_row-requires-clause-few c =
+    subst (λ (rs : List Row). length rs ≤ 32) (sym c.deref-3.ensures.value) c.prep-rows.ensures.suits.few
+
+pub loss_row-requires-clause-news : goal.loss_row-requires-clause-news
+loss_row-requires-clause-news c =
+    subst (λ (rs : List Row). All HasRowNumbers (map form_of rs)) (sym c.deref-3.ensures.value) c.prep-rows.ensures.suits.news
+
+pub loss_row-requires-clause-within : goal.loss_row-requires-clause-within
+loss_row-requires-clause-within c =
+    subst (λ (rs : List Row). AreWithin c.prep-rows.result.now.unknowns (form_found c.rank_form-before.result) (map form_of rs))
+    (sym c.deref-3.ensures.value)
+    (found-within (program c.args.ground.now) c.args.node.now c.requires.shape c.args.rule c.prep-rows.result.now
+    c.prep-rows.ensures.suits c.rank_form-before.result
+    (c.rank_form-before.ensures.first
+    ∙ (λ i. rank_form (map form_at_symbol (c.deref.ensures.value i)) (c.source_of.ensures i))))
+
+pub implies-requires-clause-rows_small : goal.implies-requires-clause-rows_small
+implies-requires-clause-rows_small c =
+    subst (λ (rs : List Row). AreSmall (map form_of rs)) (sym c.deref-4.ensures.value) c.prep-rows.ensures.small
+
+pub returns : goal.returns
+returns c =
+    losing-by (program c.args.ground.now) c.args.node.now c.requires.shape c.args.rule c.least_of-least.result
+    c.implies.result c.in_ok-goal.goal (map form_of c.deref-4.result.now) (map form_of c.deref-3.result.now) c.args.moves.now
+    c.rank_form-before.result c.rank_form-after.result c.implies.ensures c.in_ok-goal.ensures
+    (ap (map form_of) c.deref-4.ensures.value ∙ c.prep-rows.ensures.rows)
+    (ap (map form_of) c.deref-3.ensures.value ∙ c.prep-rows.ensures.news)
+    (c.rank_form-before.ensures.first
+    ∙ (λ i. rank_form (map form_at_symbol (c.deref.ensures.value i)) (c.source_of.ensures i)))
+    (c.rank_form-after.ensures.first
+    ∙ (λ i. rank_form (map form_at_symbol (c.deref-2.ensures.value i)) (c.target_of.ensures i)))
+    c.least_of-least.ensures.least

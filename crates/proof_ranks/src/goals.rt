@@ -1,0 +1,210 @@
+//! What a ranking function loses by a rule, as a row.
+
+ghost use Rattle.std.specs.Prelude.{◌≡◌, ◌*◌, ◌^◌, ◌≤◌, ◌-ℤ◌, length, map, pos, IfOk, unsigned_abs, nat_abs};
+ghost use Rattle.std.specs.List.{All};
+ghost use Rattle.farkas_cert.specs.Sizes.{HasRowNumbers};
+ghost use Rattle.poly_terms.specs.Views.{form_of};
+ghost use Rattle.poly_terms.specs.linear_forms.Forms.{at, list_dot};
+ghost use Rattle.poly_terms.specs.linear_forms.Combinations.{less};
+ghost use Rattle.poly_terms.specs.linear_forms.Losses.{loss};
+ghost use Rattle.poly_terms.specs.linear_forms.RuleQuestions.{constant_form};
+ghost use Rattle.proof_facts.specs.Columns.{HasColumns, IsAlike, number_in};
+ghost use Rattle.proof_facts.specs.declared.columns.Column.TheVariants.{Unknown, Constant};
+ghost use Rattle.proof_ranks.specs.Goals.{AreWithin};
+ghost use Rattle.proof_tree.specs.Sizes.{form_found};
+ghost use Rattle.proof_tree.specs.Views.{form_of as form_at_symbol};
+ghost use Rattle.proof_tree.specs.proof_nodes.Limits.{IsFormInLimit, IsInLimit};
+
+use model::Memory;
+use poly_terms::Row;
+use proof_facts::{Column, coefficient, number, product};
+use proof_tree::Form;
+use std::alloc::Global;
+
+// The number of a form of a ranking function in a column.
+fn number_at(form: &Form, column: Column) -> i64
+    ensures { result ≡ number_in column (form_at_symbol form.now).form }
+{
+    match column {
+        Column::Unknown(unknown) => coefficient(&form.coefs, unknown),
+        Column::Constant => form.constant,
+    }
+}
+
+// The same where there is one; where there is no form, 0.
+fn number_of(form: Option<&Form>, column: Column) -> i64
+    ensures { result ≡ number_in column (form_found form.entry) }
+{
+    match form {
+        Some(f) => number_at(f, column),
+        None => 0,
+    }
+}
+
+// The same in more bits.
+fn wide_number(form: Option<&Form>, column: Column) -> i128
+    ensures { result ≡ number_in column (form_found form.entry) }
+{
+    i128::from(number_of(form, column))
+}
+
+// A column of the new values, each number times the coefficient of its place.
+fn combined(news: &[Row], coefs: &[i64], column: Column) -> i128
+    requires few { length news.now ≤ 32 }
+    requires news { All HasRowNumbers (map form_of news.now) }
+    requires coefs { All (λ c. IsInLimit (nat_abs c)) coefs.now }
+    ensures value { result ≡ list_dot (map (number_in column) (map form_of news.now)) (at coefs.now) }
+    ensures size { unsigned_abs result ≤ 32 * 2 ^ 118 }
+{
+    let mut sum = 0;
+    for i in 0..news.len().min(coefs.len()) {
+        sum += product(number(&news[i], column), i128::from(coefs[i]));
+    }
+    sum
+}
+
+/// The coefficients of a form; where there is none, none.
+pub(crate) fn coefs_of(form: Option<&Form>) -> &[i64]
+    ensures { result.now ≡ (form_found form.entry).coefs }
+{
+    match form {
+        Some(f) => &f.coefs,
+        None => &[],
+    }
+}
+
+// A number less another.
+fn difference(first: i128, second: i128) -> i128
+    requires first_small { unsigned_abs first ≤ 2 ^ 125 }
+    requires second_small { unsigned_abs second ≤ 2 ^ 124 }
+    ensures { result ≡ first -ℤ second }
+{
+    first - second
+}
+
+// A column of what is lost: the form before the rule, less that after it at the new values.
+fn lost(before: Option<&Form>, after: Option<&Form>, news: &[Row], column: Column) -> i128
+    requires before { IsFormInLimit (form_found before) }
+    requires after { IsFormInLimit (form_found after) }
+    requires few { length news.now ≤ 32 }
+    requires news { All HasRowNumbers (map form_of news.now) }
+    ensures value { result ≡ number_in column (form_found before.entry)
+        -ℤ list_dot (map (number_in column) (map form_of news.now)) (at (form_found after.entry).coefs) }
+    ensures size { unsigned_abs result ≤ 2 ^ 124 }
+{
+    difference(
+        i128::from(number_of(before, column)),
+        combined(news, coefs_of(after), column),
+    )
+}
+
+/// What is lost by a rule, less the least, as a row: the form before the rule, less that after it at the new values.
+///
+/// # Errors
+///
+/// `Memory` where an allocation fails.
+pub(crate) fn loss_row(
+    alloc: Global,
+    width: usize,
+    before: Option<&Form>,
+    after: Option<&Form>,
+    news: &[Row],
+    least: u64,
+) -> Result<Row, Memory>
+    requires before { IsFormInLimit (form_found before) }
+    requires after { IsFormInLimit (form_found after) }
+    requires few { length news.now ≤ 32 }
+    requires news { All HasRowNumbers (map form_of news.now) }
+    requires least { IsInLimit least }
+    requires within { AreWithin width (form_found before) (map form_of news.now) }
+    ensures { IfOk result (λ row. IsAlike (form_of row)
+        (loss (form_found before.entry) (form_found after.entry) (map form_of news.now) (pos least))) }
+{
+    let coefs = lost_coefs(alloc, width, before, after, news)?;
+    let constant = lost_constant(before, after, news, least);
+    Ok(Row { coefs, constant })
+}
+
+// What is lost at each of so many unknowns.
+fn lost_coefs(
+    alloc: Global,
+    width: usize,
+    before: Option<&Form>,
+    after: Option<&Form>,
+    news: &[Row],
+) -> Result<Vec<i128>, Memory>
+    requires before { IsFormInLimit (form_found before) }
+    requires after { IsFormInLimit (form_found after) }
+    requires few { length news.now ≤ 32 }
+    requires news { All HasRowNumbers (map form_of news.now) }
+    ensures { IfOk result (λ coefs. HasColumns (λ u. at (form_found before.entry).coefs u
+        -ℤ list_dot (map (number_in (Unknown u)) (map form_of news.now)) (at (form_found after.entry).coefs))
+        width coefs.items) }
+{
+    let mut coefs = Vec::new(alloc);
+    for unknown in 0..width {
+        coefs.push(lost(before, after, news, Column::Unknown(unknown)))?;
+    }
+    Ok(coefs)
+}
+
+// What is lost in the column of constants, less the least.
+fn lost_constant(before: Option<&Form>, after: Option<&Form>, news: &[Row], least: u64) -> i128
+    requires before { IsFormInLimit (form_found before) }
+    requires after { IsFormInLimit (form_found after) }
+    requires few { length news.now ≤ 32 }
+    requires news { All HasRowNumbers (map form_of news.now) }
+    requires least { IsInLimit least }
+    ensures { result ≡ (form_found before.entry).constant
+        -ℤ list_dot (map (number_in Constant) (map form_of news.now)) (at (form_found after.entry).coefs)
+        -ℤ (form_found after.entry).constant -ℤ pos least }
+{
+    let kept = i128::from(number_of(after, Column::Constant));
+    let more = difference(lost(before, after, news, Column::Constant), kept);
+    difference(more, i128::from(least))
+}
+
+/// A form less a number, as a row.
+///
+/// # Errors
+///
+/// `Memory` where an allocation fails.
+pub(crate) fn floor_row(
+    alloc: Global,
+    width: usize,
+    before: Option<&Form>,
+    least: u64,
+) -> Result<Row, Memory>
+    requires before { IsFormInLimit (form_found before) }
+    requires least { IsInLimit least }
+    requires within { length (form_found before).coefs ≤ width }
+    ensures { IfOk result (λ row. IsAlike (form_of row) (less (form_found before.entry) (constant_form (pos least)))) }
+{
+    let coefs = own_coefs(alloc, width, before)?;
+    let constant = floor_constant(before, least);
+    Ok(Row { coefs, constant })
+}
+
+// The constant of a form, less a number.
+fn floor_constant(form: Option<&Form>, least: u64) -> i128
+    requires form { IsFormInLimit (form_found form) }
+    requires least { IsInLimit least }
+    ensures { result ≡ (form_found form.entry).constant -ℤ pos least }
+{
+    difference(
+        i128::from(number_of(form, Column::Constant)),
+        i128::from(least),
+    )
+}
+
+// The coefficients of so many unknowns.
+fn own_coefs(alloc: Global, width: usize, form: Option<&Form>) -> Result<Vec<i128>, Memory>
+    requires { IsFormInLimit (form_found form) }
+    ensures { IfOk result (λ coefs. HasColumns (at (form_found form.entry).coefs) width coefs.items) }
+{
+    let mut coefs = Vec::new(alloc);
+    for unknown in 0..width {
+        coefs.push(wide_number(form, Column::Unknown(unknown)))?;
+    }
+    Ok(coefs)
+}

@@ -1,0 +1,160 @@
+//! Whether the shape of a node with a ranking function is right.
+
+ghost use Rattle.std.specs.Prelude.{◌≡◌, ◌↔◌, map, IfOk, IsTrue};
+ghost use Rattle.std.specs.List.{All, AllByRecursion};
+ghost use Rattle.its_model.specs.Views.{program_of};
+ghost use Rattle.model.specs.Entries.{is_in};
+ghost use Rattle.proof_facts.specs.Grounds.{IsGround, program, setting};
+ghost use Rattle.proof_ranks.specs.RankShapes.{HasMoves, HasRankNumbers, IsRankSet, symbol_in};
+ghost use Rattle.proof_tree.specs.Views.{form_of, rank_of};
+ghost use Rattle.proof_tree.specs.proof_nodes.AcceptsPlain.{IsRule};
+ghost use Rattle.proof_tree.specs.proof_nodes.AcceptsRank.{HasFormShape, HasRankShape};
+ghost use Rattle.proof_tree.specs.proof_nodes.Numbers.{IsAscending};
+
+use crate::symbols::symbols_of_set;
+use farkas_cert::LIMIT;
+use its_model::Program;
+use model::Memory;
+use proof_facts::{Ground, are_multipliers, are_within, arity_at, is_rule, is_within};
+use proof_tree::{Form, RankNode};
+use std::alloc::Global;
+
+// Whether each number is less than the next.
+fn ascends(numbers: &[u32]) -> bool
+    ensures { IsTrue result ↔ IsAscending numbers.now }
+{
+    for i in 1..numbers.len() {
+        if numbers[i - 1] >= numbers[i] {
+            return false;
+        }
+    }
+    true
+}
+
+// Whether a number is in a list.
+fn has(numbers: &[u32], number: u32) -> bool
+    ensures { result ≡ is_in number numbers.now }
+{
+    for other in numbers {
+        let is_same = number == *other;
+        if is_same {
+            return true;
+        }
+    }
+    false
+}
+
+// Whether the numbers are those of rules.
+fn are_rules(p: &Program, numbers: &[u32]) -> bool
+    ensures { IsTrue result ↔ AllByRecursion (IsRule (program_of p.now)) numbers.now }
+{
+    for number in numbers {
+        let fits = is_rule(p, *number);
+        if !fits {
+            return false;
+        }
+    }
+    true
+}
+
+// Whether the set ascends, has numbers of rules alone and holds the rule.
+fn is_rank_set(p: &Program, node: &RankNode) -> bool
+    ensures { IsTrue result ↔ IsRankSet (program_of p.now) (rank_of node.now) }
+{
+    ascends(&node.set) && are_rules(p, &node.set) && has(&node.set, node.rule)
+}
+
+// Whether a form has a coefficient for each place of its symbol, and numbers within the limit.
+fn has_form_shape(p: &Program, form: &Form) -> bool
+    ensures { IsTrue result ↔ HasFormShape (program_of p.now) (form_of form.now) }
+{
+    if form.coefs.len() != arity_at(p, form.symbol) as usize {
+        return false;
+    }
+    are_within(&form.coefs) && is_within(form.constant)
+}
+
+// Whether each form has the right shape.
+fn have_form_shapes(p: &Program, forms: &[Form]) -> bool
+    ensures { IsTrue result ↔ All (HasFormShape (program_of p.now)) (map form_of forms.now) }
+{
+    for form in forms {
+        let fits = has_form_shape(p, form);
+        if !fits {
+            return false;
+        }
+    }
+    true
+}
+
+// Whether the forms are those of these symbols, in order.
+fn are_of(forms: &[Form], symbols: &[u32]) -> bool
+    ensures { IsTrue result ↔ (map symbol_in forms.now ≡ symbols.now) }
+{
+    if forms.len() != symbols.len() {
+        return false;
+    }
+    for i in 0..forms.len() {
+        if forms[i].symbol != symbols[i] {
+            return false;
+        }
+    }
+    true
+}
+
+// Whether there are multipliers for each rule of a set.
+fn are_moves(ground: &Ground, set: &[u32], moves: &[Vec<u64>]) -> bool
+    requires ground { IsGround ground.now }
+    requires ascending { IsAscending set.now }
+    requires rules { AllByRecursion (IsRule (program ground.now)) set.now }
+    ensures { IsTrue result ↔ HasMoves (setting ground.now) set.now (map (λ m. m.items) moves.now) }
+{
+    if moves.len() != set.len() {
+        return false;
+    }
+    for i in 0..set.len() {
+        let fits = are_multipliers(ground, set[i], &moves[i]);
+        if !fits {
+            return false;
+        }
+    }
+    true
+}
+
+// Whether the multipliers and the denominator of a node are right whose set is.
+fn has_numbers(ground: &Ground, node: &RankNode) -> bool
+    requires ground { IsGround ground.now }
+    requires set { IsRankSet (program ground.now) (rank_of node.now) }
+    ensures { IsTrue result ↔ HasRankNumbers (setting ground.now) (rank_of node.now) }
+{
+    if node.den == 0 || node.den > LIMIT {
+        return false;
+    }
+    are_moves(ground, &node.set, &node.moves) && are_multipliers(ground, node.rule, &node.floor)
+}
+
+/// Whether the shape of a node with a ranking function is right.
+///
+/// # Errors
+///
+/// `Memory` where an allocation fails.
+pub(crate) fn has_rank_shape(
+    alloc: Global,
+    ground: &Ground,
+    node: &RankNode,
+) -> Result<bool, Memory>
+    requires { IsGround ground.now }
+    ensures { IfOk result (λ is_right. IsTrue is_right ↔ HasRankShape (setting ground.now) (rank_of node.now)) }
+{
+    if !is_rank_set(ground.program, node) {
+        return Ok(false);
+    }
+    if !has_numbers(ground, node) {
+        return Ok(false);
+    }
+    let symbols = symbols_of_set(alloc, ground.program, &node.set)?;
+    if !are_of(&node.forms, &symbols) {
+        return Ok(false);
+    }
+    Ok(have_form_shapes(ground.program, &node.forms))
+}

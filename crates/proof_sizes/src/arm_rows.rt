@@ -1,0 +1,115 @@
+//! What an arm asks of the rows of a rule, as a row.
+
+ghost use Rattle.std.specs.Prelude.{◌≡◌, ◌≤◌, ◌<◌, ◌+ℤ◌, ◌*ℤ◌, length, map, IfOk, nat_abs, unsigned_abs};
+ghost use Rattle.std.specs.List.{All};
+ghost use Rattle.farkas_cert.specs.Sizes.{HasRowNumbers, row_limit};
+ghost use Rattle.poly_terms.specs.Views.{form_of};
+ghost use Rattle.poly_terms.specs.linear_forms.Forms.{at};
+ghost use Rattle.poly_terms.specs.linear_forms.Limits.{certificate_limit};
+ghost use Rattle.proof_facts.specs.Columns.{HasColumns, IsAlike};
+ghost use Rattle.proof_sizes.specs.Arms.{factor_of, side_of};
+ghost use Rattle.proof_tree.specs.proof_nodes.AcceptsSizes.{arm_goal};
+ghost use Rattle.proof_tree.specs.proof_nodes.Limits.{IsInLimit};
+
+use crate::arms::Side;
+use model::Memory;
+use poly_terms::Row;
+use proof_facts::{Column, coefficient, number, product};
+use std::alloc::Global;
+
+// By what the new value is taken.
+fn factor(side: Side, den: u64) -> i128
+    requires { IsInLimit den }
+    ensures value { result ≡ factor_of (side_of side) den }
+    ensures size { unsigned_abs result ≤ certificate_limit }
+{
+    match side {
+        Side::Up => -i128::from(den),
+        Side::Low => i128::from(den),
+    }
+}
+
+// The number of an arm, and that of the new value times a factor.
+fn goal_number(own: i64, value: i128, times: i128) -> i128
+    requires own_small { unsigned_abs own ≤ certificate_limit }
+    requires value_small { unsigned_abs value < row_limit }
+    requires times_small { unsigned_abs times ≤ certificate_limit }
+    ensures { result ≡ own +ℤ (value *ℤ times) }
+{
+    i128::from(own) + product(value, times)
+}
+
+// So at an unknown.
+fn goal_at(coefs: &[i64], value: &Row, times: i128, unknown: usize) -> i128
+    requires coefs_small { All (λ c. IsInLimit (nat_abs c)) coefs.now }
+    requires value_small { HasRowNumbers (form_of value.now) }
+    requires times_small { unsigned_abs times ≤ certificate_limit }
+    ensures { result ≡ at coefs.now unknown +ℤ (at (form_of value.now).coefs unknown *ℤ times) }
+{
+    let own = coefficient(coefs, unknown);
+    let other = number(value, Column::Unknown(unknown));
+    goal_number(own, other, times)
+}
+
+// So in the column of constants.
+fn goal_constant(constant: i64, value: &Row, times: i128) -> i128
+    requires constant_small { IsInLimit (nat_abs constant) }
+    requires value_small { HasRowNumbers (form_of value.now) }
+    requires times_small { unsigned_abs times ≤ certificate_limit }
+    ensures { result ≡ constant +ℤ ((form_of value.now).constant *ℤ times) }
+{
+    goal_number(constant, value.constant, times)
+}
+
+// So at each of so many unknowns.
+fn goal_coefs(
+    alloc: Global,
+    width: usize,
+    coefs: &[i64],
+    value: &Row,
+    times: i128,
+) -> Result<Vec<i128>, Memory>
+    requires coefs_small { All (λ c. IsInLimit (nat_abs c)) coefs.now }
+    requires value_small { HasRowNumbers (form_of value.now) }
+    requires times_small { unsigned_abs times ≤ certificate_limit }
+    ensures { IfOk result
+        (λ goal. HasColumns (λ u. at coefs.now u +ℤ (at (form_of value.now).coefs u *ℤ times)) width goal.items) }
+{
+    let mut goal = Vec::new(alloc);
+    for unknown in 0..width {
+        goal.push(goal_at(coefs, value, times, unknown))?;
+    }
+    Ok(goal)
+}
+
+/// What has to be at least 0 for an arm with this denominator and these numbers, as a row over so many unknowns.
+///
+/// # Errors
+///
+/// `Memory` where an allocation fails.
+pub(crate) fn arm_row(
+    alloc: Global,
+    width: usize,
+    side: Side,
+    den: u64,
+    coefs: &[i64],
+    constant: i64,
+    value: &Row,
+) -> Result<Row, Memory>
+    requires den_small { IsInLimit den }
+    requires coefs_small { All (λ c. IsInLimit (nat_abs c)) coefs.now }
+    requires constant_small { IsInLimit (nat_abs constant) }
+    requires value_small { HasRowNumbers (form_of value.now) }
+    requires own_width { length coefs.now ≤ width }
+    requires value_width { length (form_of value.now).coefs ≤ width }
+    ensures { IfOk result (λ row. IsAlike (form_of row)
+        (arm_goal (side_of side) den (record { coefs = coefs.now; constant = constant }) (form_of value.now))) }
+{
+    let times = factor(side, den);
+    let goal = goal_coefs(alloc, width, coefs, value, times)?;
+    let last = goal_constant(constant, value, times);
+    Ok(Row {
+        coefs: goal,
+        constant: last,
+    })
+}

@@ -1,0 +1,26 @@
+-- loops over lists
+pub mod ListSteps
+-- the sizes that arms need
+pub mod NeededSpots
+-- the first of them that isn't known
+pub mod FirstMissing
+-- the rows and arms of members
+pub mod ProgramMembers
+-- what is answered of a place that doesn't loop
+pub mod SpreadAnswers
+-- the members after one rule
+pub mod MembersAfter
+-- the graph and the limits of a member of a loop
+pub mod LoopMembers
+-- parts that are pushed
+pub mod PushedParts
+-- what flows into members
+pub mod LoopFlows
+-- what the rules of a loop do
+pub mod LoopParts
+-- the rules of members
+pub mod MemberRules
+-- the members of which an arm reads a member
+pub mod BentMembers
+-- what is answered of a loop
+pub mod LoopAnswers

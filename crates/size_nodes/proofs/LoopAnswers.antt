@@ -1,0 +1,177 @@
+-- What is answered of a loop is the first reason why it isn't accepted, or the node that is.
+use Rattle.std.proofs.Common.{◌≡◌, inl, inr, ℕ, cond, List, [], ◌∷◌, ◌++◌, map, Option, Some, None, refl, sym, ap, ◌∙◌, subst}
+use Rattle.std.specs.List.{AllByRecursion}
+use Rattle.std.proofs.lemmas.List.Elements.{recursion_from_All}
+use Rattle.model.specs.Bounds.{Bound}
+use Rattle.model.specs.Programs.{Program}
+use Rattle.its_graph.specs.declared.graph.Graph.{Graph}
+use Rattle.guard_prep.specs.declared.rule_rows.RuleRows.{RuleRows}
+use Rattle.bound_table.specs.InForce.{rewritten}
+use Rattle.proof_tree.specs.proof_nodes.Nodes.{Spot, Member}
+use Rattle.proof_tree.specs.proof_nodes.Known.{IsKnown, Table}
+use Rattle.proof_tree.specs.proof_nodes.Limits.{IsSmallComposed}
+use Rattle.proof_tree.specs.proof_nodes.ComposedSizes.{Flow, flows, base_of, rules_of}
+use Rattle.proof_tree.specs.proof_nodes.AcceptsSizes.{AcceptsUp, AcceptsLow, AcceptsCycle, cycle_size}
+use Rattle.proof_tree.specs.proof_nodes.Reasons.{Reason, MissingTime, MissingSize, Bent, Large, Check, for_each}
+use Rattle.proof_tree.specs.proof_nodes.Reasons.{IsFirstAmong}
+use Rattle.proof_tree.specs.proof_nodes.Checks.{large_nodes, check_up, check_low, check_size, check_time, check_small}
+use Rattle.proof_tree.specs.proof_nodes.Checks.{needed_into}
+use Rattle.proof_tree.specs.proof_nodes.Checks.{needed_times, straight_into, cycle_checks}
+use Rattle.proof_tree.proofs.proof_nodes.CheckLists.{passes_each}
+use Rattle.proof_tree.proofs.proof_nodes.SizeReasons.{passes-cycle}
+use Rattle.proof_tree.specs.proof_setting.Setting.{setting_of}
+use Rattle.size_nodes.specs.Needs.{lacks}
+use Rattle.size_nodes.specs.Sizings.{time_key}
+use Rattle.size_nodes.specs.Needs.{first_missing, first_unknown}
+use Rattle.size_nodes.specs.Growths.{growth_by_flows, growing_rule_numbers, composed}
+use Rattle.size_nodes.specs.BentArms.{first_bent}
+use Rattle.size_nodes.specs.Members.{AreMembersOfProgram}
+use Rattle.size_nodes.specs.declared.sizing.Sizing.{Sizing}
+use Rattle.size_nodes.specs.declared.sizing.Sizing.TheVariants as sizings
+use Rattle.size_nodes.specs.Sizings.{IsTimedSizing, IsSizingWhere, IsLoopSizing, IsCycleSizing}
+use Rattle.size_nodes.proofs.FirstMissing.{all-known, first-missing, behind-each}
+use Rattle.size_nodes.proofs.BentMembers.{straight-first, straight-passes, bent-first}
+use Rattle.size_nodes.proofs.LoopParts.{composed-is, growing-are}
+use Rattle.model.proofs.Cases.{some_same as some-same, none_some as no-bound}
+
+none-some : (t : ℕ) → None ≡ Some t → ⊥
+none-some t e = cc
+
+module _ (tab : Table) where
+  -- where no rule is without a time all times are known
+  times-known : (ts : List ℕ) → first_unknown tab.time ts ≡ None → AllByRecursion (λ t. IsKnown (tab.time t)) ts
+  times-known [] h = tt
+  times-known (t ∷ ts) h = go (tab.time t) refl h (times-known ts)
+    where
+      go : (o : Option Bound) → tab.time t ≡ o → cond (lacks o) (Some t) (first_unknown tab.time ts) ≡ None
+          → (first_unknown tab.time ts ≡ None → AllByRecursion (λ u. IsKnown (tab.time u)) ts)
+          → AllByRecursion (λ u. IsKnown (tab.time u)) (t ∷ ts)
+      go None e k later = absurd (none-some t (sym k))
+      go (Some b) e k later = ((b, e), later k)
+
+  -- the first rule without a time is that of the first check that fails
+  first-untimed : (ts : List ℕ) (rest : List Check) (t : ℕ) → first_unknown tab.time ts ≡ Some t
+      → IsFirstAmong (for_each (check_time tab) ts rest) (MissingTime t)
+  first-untimed [] rest t h = absurd (none-some t h)
+  first-untimed (u ∷ ts) rest t h = go (tab.time u) refl h (first-untimed ts rest t)
+    where
+      go : (o : Option Bound) → tab.time u ≡ o → cond (lacks o) (Some u) (first_unknown tab.time ts) ≡ Some t
+          → (first_unknown tab.time ts ≡ Some t → IsFirstAmong (for_each (check_time tab) ts rest) (MissingTime t))
+          → IsFirstAmong (for_each (check_time tab) (u ∷ ts) rest) (MissingTime t)
+      go None e k later =
+          inl ((λ known. no-bound known.0 (sym e ∙ known.1)), ap MissingTime (some-same u t k))
+      go (Some b) e k later = inr ((b, e), later k)
+
+module _ (p : Program) (g : Graph) (preps : List RuleRows) (tab : Table) (ms : List Member)
+    (given : AreMembersOfProgram p g preps ms) where
+  -- what the loop needs
+  abbrev needed : List Spot
+  needed = needed_into (setting_of p) ms ms
+
+  abbrev timed : List ℕ
+  timed = needed_times (setting_of p) tab ms
+
+  abbrev whole : Bound
+  whole = cycle_size (setting_of p) tab ms
+
+  ups : AllByRecursion (AcceptsUp (setting_of p)) ms
+  ups = recursion_from_All (AcceptsUp (setting_of p)) ms given.up
+
+  lows : AllByRecursion (AcceptsLow (setting_of p)) ms
+  lows = recursion_from_All (AcceptsLow (setting_of p)) ms given.low
+
+  -- the checks behind those of the arms, of the sizes, of the bends and of the times
+  abbrev small_checks : List Check
+  small_checks = check_small (setting_of p) whole ∷ []
+
+  abbrev time_checks : List Check
+  time_checks = for_each (check_time tab) timed small_checks
+
+  abbrev bent_checks : List Check
+  bent_checks = straight_into (setting_of p) ms ms time_checks
+
+  abbrev size_checks : List Check
+  size_checks = for_each (check_size tab) needed bent_checks
+
+  behind-arms : (r : Reason) → IsFirstAmong size_checks r → IsFirstAmong (cycle_checks (setting_of p) tab ms) r
+  behind-arms r h =
+      inr (
+        given.shape,
+        behind-each (check_up (setting_of p)) ms (for_each (check_low (setting_of p)) ms size_checks) r ups
+            (behind-each (check_low (setting_of p)) ms size_checks r lows h),
+      )
+
+  -- the first size that is missing
+  pub is-missing : (spot : Spot) → first_missing tab needed ≡ Some spot
+      → IsFirstAmong (cycle_checks (setting_of p) tab ms) (MissingSize spot.rule spot.place)
+  is-missing spot e = behind-arms (MissingSize spot.rule spot.place) (first-missing tab needed bent_checks spot e)
+
+  module _ (none : first_missing tab needed ≡ None) where
+    behind-sizes : (r : Reason) → IsFirstAmong bent_checks r → IsFirstAmong (cycle_checks (setting_of p) tab ms) r
+    behind-sizes r h = behind-arms r (behind-each (check_size tab) needed bent_checks r (all-known tab needed none) h)
+
+    -- where none is, the first member that is bent
+    pub is-bent : (spot : Spot) → first_bent (setting_of p) ms ms ≡ Some spot
+        → IsFirstAmong (cycle_checks (setting_of p) tab ms) (Bent spot.rule spot.place)
+    is-bent spot e =
+        behind-sizes (Bent spot.rule spot.place) (bent-first (setting_of p) ms time_checks ms spot e)
+
+    module _ (straight : first_bent (setting_of p) ms ms ≡ None) where
+      behind-straight : (r : Reason) → IsFirstAmong time_checks r → IsFirstAmong (cycle_checks (setting_of p) tab ms) r
+      behind-straight r h = behind-sizes r (straight-first (setting_of p) ms time_checks ms straight r h)
+
+      -- where none is, the first rule that needs a time and has none
+      is-untimed : (t : ℕ) → first_unknown tab.time timed ≡ Some t
+          → IsFirstAmong (cycle_checks (setting_of p) tab ms) (MissingTime t)
+      is-untimed t e = behind-straight (MissingTime t) (first-untimed tab timed small_checks t e)
+
+      -- where each has one, a bound that is too large
+      is-large : (n : ℕ) → first_unknown tab.time timed ≡ None → ¬ (IsSmallComposed rewritten whole)
+          → n ≡ large_nodes rewritten whole → IsFirstAmong (cycle_checks (setting_of p) tab ms) (Large n)
+      is-large n e h k =
+          behind-straight (Large n)
+          (behind-each (check_time tab) timed small_checks (Large n) (times-known tab timed e)
+          (inl (h, ap Large (sym k))))
+
+      -- and else the node is accepted
+      is-accepted : first_unknown tab.time timed ≡ None → IsSmallComposed rewritten whole
+          → AcceptsCycle (setting_of p) tab ms
+      is-accepted e h = passes-cycle (setting_of p) tab ms (
+        given.shape,
+        passes_each (check_up (setting_of p)) (for_each (check_low (setting_of p)) ms size_checks) ms ups
+            (passes_each (check_low (setting_of p)) size_checks ms lows
+            (passes_each (check_size tab) bent_checks needed (all-known tab needed none)
+            (straight-passes (setting_of p) ms time_checks ms straight
+            (passes_each (check_time tab) small_checks timed (times-known tab timed e) (h, tt))))),
+      )
+
+      timed-sizing : (a : Sizing) → first_unknown tab.time timed ≡ None
+          → IsTimedSizing (needed ++ map time_key timed) whole a → IsCycleSizing (setting_of p) tab ms a
+      timed-sizing (sizings.Found needs bound) e h = (is-accepted e h.0, h.1, h.2)
+      timed-sizing (sizings.Missing spot) e h = absurd h
+      timed-sizing (sizings.Bent spot) e h = absurd h
+      timed-sizing (sizings.Untimed rule) e h = absurd h
+      timed-sizing (sizings.Large nodes) e h = is-large nodes e h.0 h.1
+
+      sizing-where : (a : Sizing) (o : Option ℕ) → first_unknown tab.time timed ≡ o
+          → IsSizingWhere o (needed ++ map time_key timed) whole a → IsCycleSizing (setting_of p) tab ms a
+      sizing-where a None e h = timed-sizing a e h
+      sizing-where a (Some t) e h = subst (IsCycleSizing (setting_of p) tab ms) (sym h) (is-untimed t e)
+
+      -- what is answered over the flows and the rules of the loop is answered of it
+      pub is-sized : (a : Sizing) (spots : List Spot) (fs : List Flow) (ts : List ℕ)
+          → spots ≡ needed → fs ≡ flows (setting_of p) ms tab.size → ts ≡ rules_of (setting_of p) ms
+          → IsLoopSizing tab spots (base_of fs) (map (growth_by_flows fs) ts) a → IsCycleSizing (setting_of p) tab ms a
+      is-sized a spots fs ts es ef et h =
+          sizing-where a (first_unknown tab.time timed) refl
+          (subst (λ (ss : List Spot). IsSizingWhere (first_unknown tab.time timed) (ss ++ map time_key timed) whole a) es
+          (subst (λ (us : List ℕ). IsSizingWhere (first_unknown tab.time us) (spots ++ map time_key us) whole a) times-are
+          (subst (λ (b : Bound). IsSizingWhere (first_unknown tab.time (growing_rule_numbers (map (growth_by_flows fs) ts)))
+          (spots ++ map time_key (growing_rule_numbers (map (growth_by_flows fs) ts))) b a) bound-is h)))
+        where
+          times-are : growing_rule_numbers (map (growth_by_flows fs) ts) ≡ timed
+          times-are = (λ i. growing_rule_numbers (map (growth_by_flows (ef i)) (et i))) ∙ growing-are p (flows (setting_of p) ms tab.size) (rules_of (setting_of p) ms)
+
+          bound-is : composed tab.time (base_of fs) (map (growth_by_flows fs) ts) ≡ whole
+          bound-is = (λ i. composed tab.time (base_of (ef i)) (map (growth_by_flows (ef i)) (et i)))
+              ∙ composed-is p (flows (setting_of p) ms tab.size) tab.time (rules_of (setting_of p) ms)

@@ -1,0 +1,172 @@
+-- What is known of a member of a program: its rule's rows, and that its arms can be read.
+use Rattle.std.proofs.Common.{◌≡◌, ℕ, zero, suc, ◌+◌, ◌-◌, ◌^◌, ◌<◌, ◌≤◌, Bool, true, false, if◌then◌else◌, List, []}
+use Rattle.std.proofs.Common.{◌∷◌, length, map, get_or, slice_get, All, Option, Some, None, option_map, refl, sym, ap}
+use Rattle.std.proofs.Common.{subst, ◌∙◌, arith}
+use Rattle.std.specs.List.{AllByRecursion}
+use Rattle.std.proofs.lemmas.Option.{slice_get_read, slice_get_within, slice_get-map}
+use Rattle.std.proofs.lemmas.List.{length-map}
+use Rattle.std.proofs.lemmas.List.Elements.{All-from_recursion, recursion_from_All}
+use denote.Ref.{Bor}
+use Rattle.model.specs.Programs.{Program, Rule, rule_at}
+use Rattle.model.specs.Polynomials.{Polynomial}
+use Rattle.model.specs.Terms.{Term}
+use Rattle.poly_terms.specs.declared.poly.Monomial.{Monomial}
+use Rattle.poly_terms.specs.declared.poly.Poly.{Poly}
+use Rattle.poly_terms.specs.Views.{monomial_of, poly_of}
+use Rattle.poly_terms.specs.Rows.{AreVariablesBelow, HasVariablesBelow}
+use Rattle.poly_terms.specs.Expanding.{expanded}
+use Rattle.guard_prep.specs.its_model.Valid.{IsValid, IsValidTerm}
+use Rattle.guard_prep.proofs.its_model.ListLaws.{mapped-all}
+use Rattle.its_graph.specs.declared.graph.Graph.{Graph}
+use Rattle.guard_prep.specs.declared.rule_rows.RuleRows.{RuleRows}
+use Rattle.guard_prep.specs.Views.{prepared_of}
+use Rattle.guard_prep.specs.Prepared.{Prepared, prepared, is_bent}
+use Rattle.guard_prep.proofs.StepLaws.{valid-at}
+use Rattle.poly_terms.proofs.VariableLaws.{variables-expanded}
+use Rattle.proof_tree.specs.proof_nodes.Nodes as nodes
+use Rattle.proof_tree.specs.proof_nodes.Nodes.{Spot}
+use Rattle.proof_tree.specs.proof_nodes.ComposedSizes.{poly_at, poly_of as poly_in}
+use Rattle.proof_tree.specs.proof_nodes.AcceptsSizes.{IsSpot, left_in, left_of, HasMemberShape, AcceptsUp, AcceptsLow}
+use Rattle.proof_tree.specs.proof_setting.Setting.{bent_at, polys_in, setting_of}
+use Rattle.proof_tree.specs.declared.arm.Member.{Member}
+use Rattle.proof_tree.specs.Views.{member_of}
+use Rattle.proof_tree.specs.Composing.{optional_poly, HasFewVariables, HasFewPlaces, AreRowsOf}
+use Rattle.size_nodes.specs.Needs.{update_at}
+use Rattle.size_nodes.specs.Members.{IsMemberOfProgram, AreMembersOfProgram}
+use Rattle.model.proofs.Cases.{some_same as some-same}
+
+-- the update at a place is that at the position before it
+pub update_next : (polys : List Polynomial) (place : ℕ) → 0 < place → bent_at polys (place - 1) ≡ update_at polys place
+update_next polys zero l = absurd (omega (arith, l))
+update_next polys (suc i) l = ap (bent_at polys) (let k : suc i - 1 ≡ i = omega arith in k)
+
+module _ (p : Program) (preps : List RuleRows) (rows : AreRowsOf preps p) where
+  -- there are as many rows as rules
+  same-length : length preps ≡ length p.rules
+  same-length = sym (length-map preps prepared_of) ∙ (ap length rows ∙ length-map p.rules prepared)
+
+  -- a rule with a number has rows
+  pub row-within : (t : ℕ) (r : Rule) → rule_at p t ≡ Some r → (0 < t) × (t ≤ length preps)
+  row-within zero r e = absurd (none e)
+    where
+      none : None ≡ Some r → ⊥
+      none h = cc
+  row-within (suc t) r e =
+      let l = slice_get_within p.rules t r e in (omega arith, omega (arith, l, same-length))
+
+  -- which are its own
+  pub row-is : (t : ℕ) (r : Rule) (prep : RuleRows) → rule_at p t ≡ Some r → prep ≡ get_or preps (t - 1) prep
+      → prepared_of prep ≡ prepared r
+  row-is zero r prep e h = absurd (none e)
+    where
+      none : None ≡ Some r → ⊥
+      none k = cc
+  row-is (suc t) r prep e h =
+      some-same (prepared_of prep) (prepared r)
+      (sym (slice_get-map prepared_of preps t ∙ ap (option_map prepared_of) here)
+      ∙ (ap (λ (xs : List Prepared). slice_get xs t) rows
+      ∙ (slice_get-map prepared p.rules t ∙ ap (option_map prepared) e)))
+    where
+      low : t < length preps
+      low = let l = slice_get_within p.rules t r e in omega (arith, l, same-length)
+
+      here : slice_get preps t ≡ Some prep
+      here = slice_get_read preps (length preps) t prep refl low
+          (h ∙ ap (λ (i : ℕ). get_or preps i prep) (let k : suc t - 1 ≡ t = omega arith in k))
+
+-- a polynomial that is told of a place has variables below what all have
+told-below : (w : ℕ) (polys : List Polynomial) (i : ℕ) (q : Polynomial) → AllByRecursion (HasVariablesBelow w) polys
+    → bent_at polys i ≡ Some q → HasVariablesBelow w q
+told-below w [] i q h e = absurd (none e)
+  where
+    none : None ≡ Some q → ⊥
+    none k = cc
+told-below w (x ∷ polys) zero q h e = go (is_bent x) e
+  where
+    go : (v : Bool) → (if v then Some x else None) ≡ Some q → HasVariablesBelow w q
+    go true k = subst (HasVariablesBelow w) (some-same x q k) h.0
+    go false k = absurd (none k)
+      where
+        none : None ≡ Some q → ⊥
+        none l = cc
+told-below w (x ∷ polys) (suc i) q h e = told-below w polys i q h.1 e
+
+few-variables : (w : ℕ) (vs : List ℕ) → w ≤ 64 → AreVariablesBelow w vs → AllByRecursion (λ v. v < 2 ^ 31) vs
+few-variables w [] l h = tt
+few-variables w (v ∷ vs) l h = (omega (arith, l, h.0), few-variables w vs l h.1)
+
+few-terms : (w : ℕ) (ms : List Monomial) → w ≤ 64 → HasVariablesBelow w (map monomial_of ms)
+    → AllByRecursion HasFewVariables ms
+few-terms w [] l h = tt
+few-terms w (m ∷ ms) l h =
+    (All-from_recursion (λ v. v < 2 ^ 31) m.vars.items (few-variables w m.vars.items l h.0), few-terms w ms l h.1)
+
+-- so it has few places
+pub few-places : (w : ℕ) (o : Option (Bor Poly)) (polys : List Polynomial) (place : ℕ) → w ≤ 64
+    → AllByRecursion (HasVariablesBelow w) polys → optional_poly o ≡ update_at polys place → HasFewPlaces o
+few-places w None polys place l h e = tt
+few-places w (Some q) polys zero l h e = absurd (none e)
+  where
+    none : Some (poly_of q.now) ≡ None → ⊥
+    none k = cc
+few-places w (Some q) polys (suc i) l h e =
+    All-from_recursion HasFewVariables q.now.terms.items
+    (few-terms w q.now.terms.items l (told-below w polys i (poly_of q.now) h (sym e)))
+
+-- expanded updates have variables below those of the rule
+pub updates-below : (n : ℕ) (us : List Term) → AllByRecursion (IsValidTerm n) us
+    → AllByRecursion (HasVariablesBelow n) (map expanded us)
+updates-below n [] h = tt
+updates-below n (u ∷ us) h = (variables-expanded n u h.0.variables, updates-below n us h.1)
+
+module _ (p : Program) (preps : List RuleRows) (rows : AreRowsOf preps p) where
+  -- the update of a spot is that of its rule's rows
+  pub poly_is : (spot : Spot) → IsSpot p spot → (prep : RuleRows) → prep ≡ get_or preps (spot.rule - 1) prep
+      → update_at (map poly_of prep.polys.items) spot.place ≡ poly_at (setting_of p) spot
+  poly_is spot is prep e =
+      ap (λ (m : Prepared). update_at m.polys spot.place) (row-is p preps rows spot.rule is.rule prep is.numbered e)
+      ∙ (ap (λ (o : Option Rule). update_at (polys_in o) spot.place) (sym is.numbered) ∙ told spot.place)
+    where
+      told : (place : ℕ) → update_at (polys_in (rule_at p spot.rule)) place ≡ poly_in (setting_of p) spot.rule place
+      told zero = refl
+      told (suc i) = refl
+
+  -- and has few places
+  pub poly_few : IsValid p → (spot : Spot) → IsSpot p spot → (prep : RuleRows) → prep ≡ get_or preps (spot.rule - 1) prep
+      → (o : Option (Bor Poly)) → optional_poly o ≡ update_at (map poly_of prep.polys.items) spot.place → HasFewPlaces o
+  poly_few v spot is prep e o seen =
+      let h = valid-at p spot.rule is.rule v is.numbered in
+      few-places (is.rule.left + is.rule.free) o (map poly_of prep.polys.items) spot.place h.few_variables
+      (subst (λ (m : Prepared). AllByRecursion (HasVariablesBelow (is.rule.left + is.rule.free)) m.polys)
+      (sym (row-is p preps rows spot.rule is.rule prep is.numbered e))
+      (updates-below (is.rule.left + is.rule.free) is.rule.updates h.updates))
+      seen
+
+  -- so many left variables has its rule, which are few
+  pub left_is : (spot : Spot) → IsSpot p spot → (prep : RuleRows) → prep ≡ get_or preps (spot.rule - 1) prep
+      → prep.left ≡ left_of p spot.rule
+  left_is spot is prep e =
+      ap (λ (m : Prepared). m.left) (row-is p preps rows spot.rule is.rule prep is.numbered e)
+      ∙ ap left_in (sym is.numbered)
+
+-- a rule has few left variables
+pub few_left : (p : Program) → IsValid p → (spot : Spot) → IsSpot p spot → left_of p spot.rule ≤ 64
+few_left p v spot is =
+    let h = (valid-at p spot.rule is.rule v is.numbered).few_variables in
+    subst (λ (o : Option Rule). left_in o ≤ 64) (sym is.numbered) (omega (arith, h))
+
+-- each of given members is given
+pub given_at : (p : Program) (g : Graph) (preps : List RuleRows) (members : List Member) (i : ℕ) (m : Member)
+    → AreMembersOfProgram p g preps (map member_of members) → i < length members → m ≡ get_or members i m
+    → IsMemberOfProgram p g preps (member_of m)
+given_at p g preps members i m given low e = record {
+  valid = given.valid;
+  graph = given.graph;
+  rows = given.rows;
+  shape = one (HasMemberShape (setting_of p)) given.shape.each;
+  up = one (AcceptsUp (setting_of p)) given.up;
+  low = one (AcceptsLow (setting_of p)) given.low;
+}
+  where
+    one : (P : nodes.Member → Type 0) → All P (map member_of members) → P (member_of m)
+    one P h = mapped-all P member_of members i m (recursion_from_All P (map member_of members) h) low e

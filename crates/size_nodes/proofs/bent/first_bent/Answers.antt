@@ -1,0 +1,44 @@
+use Rattle.std.proofs.Common.{◌≤◌, List, length, map, sym, ap, ◌∙◌, arith}
+use Rattle.std.proofs.lemmas.List.{drop_all}
+use Rattle.proof_tree.specs.proof_setting.Setting.{setting_of}
+use Rattle.proof_tree.specs.declared.arm.Member.{Member}
+use Rattle.proof_tree.specs.Views.{member_of}
+use Rattle.size_nodes.specs.BentArms.{first_bent}
+use Rattle.size_nodes.specs.Members.{IsMemberIn}
+use Rattle.size_nodes.proofs.ProgramMembers.{given_at}
+use Rattle.size_nodes.proofs.BentMembers.{bent-here, bent-later}
+use Rattle.size_nodes.proofs.bent.first_bent.Goals as goal
+
+pub is_bent_member-is_here-requires : goal.is_bent_member-is_here-requires
+is_bent_member-is_here-requires c = record {
+  ascending = c.requires.1.shape.ascending;
+  given = (
+    c.requires.0,
+    given_at c.requires.0 c.args.setting.now.graph.now c.args.setting.now.rows.now c.args.members.now
+        c.loop-member.member-index c.member-item.result c.requires.1 c.loop-member-test.true c.member-item.is,
+  );
+}
+
+pub returns-then-is_here : goal.returns-then-is_here
+returns-then-is_here c = λ p h.
+    let given : IsMemberIn p c.args.setting.now (member_of c.member-item.result) =
+    given_at p c.args.setting.now.graph.now c.args.setting.now.rows.now c.args.members.now c.loop-member.member-index c.member-item.result h
+    c.loop-member-test.true c.member-item.is in
+    bent-here (setting_of p) (map member_of c.args.members.now) c.args.members.now c.loop-member.member-index
+    c.member-item.result c.loop-member-test.true c.member-item.is
+    (sym (c.is_bent_member-is_here.ensures p given) ∙ c.if-is_here.true) (c.loop-member.invariant p h)
+
+pub loop-member-preserved : goal.loop-member-preserved
+loop-member-preserved c = λ p h.
+    let given : IsMemberIn p c.args.setting.now (member_of c.member-item.result) =
+    given_at p c.args.setting.now.graph.now c.args.setting.now.rows.now c.args.members.now c.loop-member.member-index c.member-item.result h
+    c.loop-member-test.true c.member-item.is in
+    bent-later (setting_of p) (map member_of c.args.members.now) c.args.members.now c.loop-member.member-index
+    c.member-item.result c.loop-member-test.true c.member-item.is
+    (sym (c.is_bent_member-is_here.ensures p given) ∙ c.if-is_here.false) (c.loop-member.invariant p h)
+
+pub returns : goal.returns
+returns c = λ p h.
+    let end : length c.args.members.now ≤ c.loop-member.member-index = omega (arith, c.loop-member-test.false) in
+    sym (ap (λ (ms : List Member). first_bent (setting_of p) (map member_of c.args.members.now) (map member_of ms))
+    (drop_all c.loop-member.member-index c.args.members.now end)) ∙ c.loop-member.invariant p h

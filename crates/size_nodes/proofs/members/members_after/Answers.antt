@@ -1,0 +1,26 @@
+use Rattle.std.proofs.Common.{◌∙◌, ap, sym, subst, List, map, arith}
+use Rattle.std.specs.List.Sorted.{IsNonDecreasingBy}
+use Rattle.std.proofs.lemmas.List.Sorted.{IsNonDecreasingBy-drop}
+use Rattle.proof_tree.specs.proof_nodes.ComposedSizes.{is_member}
+use Rattle.proof_tree.specs.declared.arm.Member.{Member}
+use Rattle.proof_tree.specs.Views.{member_of}
+use Rattle.size_nodes.proofs.MembersAfter.{rules-ascend, behind-lesser, before-greater}
+use Rattle.size_nodes.proofs.members.members_after.Goals as goal
+
+pub count_below-requires : goal.count_below-requires
+count_below-requires c = rules-ascend c.args.members.now c.requires
+
+pub count_below-requires-2 : goal.count_below-requires-2
+count_below-requires-2 c =
+    subst (IsNonDecreasingBy (λ (m : Member). m.spot.rule)) (sym c.split_at.ensures.back)
+    (IsNonDecreasingBy-drop (λ (m : Member). m.spot.rule) c.count_below.result c.args.members.now (rules-ascend c.args.members.now c.requires))
+
+pub returns : goal.returns
+returns c =
+    let inside = λ (ms : List Member). is_member (map member_of ms) c.args.rule in
+    ap inside c.split_at-2.ensures.front
+    ∙ (before-greater c.split_at.result.1.now c.args.rule c.count_below-2.result
+    (λ k d l h. omega (arith, c.count_below-2.ensures.behind k d l h, c.from-2.ensures))
+    ∙ (ap inside c.split_at.ensures.back
+    ∙ behind-lesser c.args.members.now c.args.rule c.count_below.result
+    (λ k d l h. omega (arith, c.count_below.ensures.below k d l h, c.from.ensures))))

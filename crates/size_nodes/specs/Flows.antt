@@ -1,0 +1,42 @@
+-- What flows into the members of a loop, as the code keeps it, and their rules.
+use Rattle.std.specs.Prelude.{ℕ, ◌≤◌, ◌==◌, cond, List, [], ◌∷◌, length, nat_abs, All, Option}
+use Rattle.model.specs.Bounds.{Bound}
+use Rattle.model.specs.Polynomials.{Polynomial}
+use Rattle.bound_expr.specs.Views.{bound_of}
+use Rattle.proof_tree.specs.proof_nodes.Nodes as nodes
+use Rattle.proof_tree.specs.proof_nodes.Nodes.{Member}
+use Rattle.proof_tree.specs.proof_nodes.Limits.{IsInLimit}
+use Rattle.proof_tree.specs.proof_nodes.Composed.{sizes_after}
+use Rattle.proof_tree.specs.proof_nodes.ComposedSizes.{Flow, slope_of, offset_of, is_member}
+use Rattle.proof_tree.specs.declared.arm.Arm.{Arm}
+use Rattle.proof_tree.specs.declared.arm.Arm.TheVariants.{Linear, Poly}
+use Rattle.size_nodes.specs.declared.flow.Flow as code
+
+-- the numbers of a linear arm are within their limits, and it has no more coefficients than a rule has variables
+abbrev pub IsLimited : Arm → Type 0
+IsLimited (Linear den coefs constant multipliers) =
+    (1 ≤ den) × ((length coefs.items ≤ 64) × All (λ c. IsInLimit (nat_abs c)) coefs.items)
+IsLimited Poly = Unit {0}
+
+-- a flow as plain data
+abbrev pub flow_of : code.Flow → Flow
+flow_of f = record { rule = f.rule; slope = f.slope; offset = bound_of f.offset }
+
+-- what flows into a member by an arm from rule e, with the polynomial of its place
+abbrev pub flow_over : Option Polynomial → List Member → (ℕ → ℕ → Option Bound) → Member → nodes.Arm → ℕ → Flow
+flow_over q members size m arm e = record {
+  rule = m.spot.rule;
+  slope = slope_of arm (is_member members e);
+  offset = offset_of q arm (is_member members e) (sizes_after size e);
+}
+
+-- what flows into it from these rules, up before low
+abbrev pub flows_over : Option Polynomial → List Member → (ℕ → ℕ → Option Bound) → Member → List ℕ → List Flow
+flows_over q members size m [] = []
+flows_over q members size m (e ∷ es) =
+    flow_over q members size m m.local.up e ∷ flow_over q members size m m.local.low e ∷ flows_over q members size m es
+
+-- the rules of these members that ascend, each once, but for this one
+abbrev pub rules_after : ℕ → List Member → List ℕ
+rules_after t [] = []
+rules_after t (m ∷ ms) = cond (m.spot.rule == t) (rules_after t ms) (m.spot.rule ∷ rules_after m.spot.rule ms)

@@ -1,0 +1,123 @@
+//! The members of a loop with a polynomial arm that reads a member.
+
+ghost use Rattle.std.specs.Prelude.{◌≡◌, ◌<◌, ◌^◌, map, All, option_map};
+ghost use Rattle.std.specs.List.{list_any};
+ghost use Rattle.model.specs.Programs.{Program};
+ghost use Rattle.poly_terms.specs.Views.{monomial_of};
+ghost use Rattle.proof_tree.specs.proof_nodes.AcceptsSizes.{AreAscending};
+ghost use Rattle.proof_tree.specs.proof_nodes.ComposedSizes.{is_member};
+ghost use Rattle.proof_tree.specs.proof_setting.Setting.{setting_of};
+ghost use Rattle.proof_tree.specs.Composing.{optional_poly, HasFewVariables, HasFewPlaces};
+ghost use Rattle.proof_tree.specs.Views.{arm_of, member_of, local_of, spot_of};
+ghost use Rattle.size_nodes.specs.BentArms.{is_bent_arm, is_bent_from, is_bent_over, is_bent_by};
+ghost use Rattle.size_nodes.specs.BentArms.{first_bent as first_bent_of};
+ghost use Rattle.size_nodes.specs.Members.{IsMemberIn, AreMembersIn};
+
+use crate::members::members_after;
+use crate::setting::Setting;
+use crate::updates::poly_at;
+use poly_terms::{Monomial, Poly};
+use proof_tree::{Arm, LocalBound, Member, Spot, has_spot};
+
+// Whether one of these variables is the place of a member, after a rule.
+fn has_member(variables: &[u32], members: &[Member], rule: u32) -> bool
+    requires { All (λ v. v < 2 ^ 31) variables.now }
+    ensures { result ≡ list_any (is_member (map member_of members.now) rule) variables.now }
+{
+    for variable in variables {
+        let is_inside = has_spot(members, rule, *variable + 1);
+        if is_inside {
+            return true;
+        }
+    }
+    false
+}
+
+// Whether one of these monomials reads a member, after a rule.
+fn reads_member(monomials: &[Monomial], members: &[Member], rule: u32) -> bool
+    requires { All HasFewVariables monomials.now }
+    ensures { result ≡ list_any (λ m. list_any (is_member (map member_of members.now) rule) m.vars) (map monomial_of
+        monomials.now) }
+{
+    for monomial in monomials {
+        let reads = has_member(&monomial.vars, members, rule);
+        if reads {
+            return true;
+        }
+    }
+    false
+}
+
+// Whether an arm is polynomial and reads a member, after a rule.
+fn is_bent(arm: &Arm, poly: Option<&Poly>, members: &[Member], rule: u32) -> bool
+    requires { HasFewPlaces poly }
+    ensures { result ≡ is_bent_arm (optional_poly poly.entry) (map member_of members.now) (arm_of arm.now) rule }
+{
+    match (arm, poly) {
+        (Arm::Poly, Some(q)) => reads_member(&q.terms, members, rule),
+        _ => false,
+    }
+}
+
+// Whether one of both arms is. Of the members, which ascend, only those after the rule are looked at.
+fn is_bent_bound(local: &LocalBound, poly: Option<&Poly>, members: &[Member], rule: u32) -> bool
+    requires ascending { AreAscending (map member_of members.now) }
+    requires few { HasFewPlaces poly }
+    ensures { result ≡ is_bent_from (optional_poly poly.entry) (map member_of members.now) (local_of local.now) rule }
+{
+    let inside = members_after(members, rule);
+    is_bent(&local.up, poly, inside, rule) || is_bent(&local.low, poly, inside, rule)
+}
+
+// Whether one of both arms is, after one of these rules.
+fn is_bent_after(
+    local: &LocalBound,
+    poly: Option<&Poly>,
+    members: &[Member],
+    before: &[u32],
+) -> bool
+    requires ascending { AreAscending (map member_of members.now) }
+    requires few { HasFewPlaces poly }
+    ensures { result ≡ is_bent_over (optional_poly poly.entry) (map member_of members.now) (local_of local.now)
+        before.now }
+{
+    for rule in before {
+        let is_here = is_bent_bound(local, poly, members, *rule);
+        if is_here {
+            return true;
+        }
+    }
+    false
+}
+
+// Whether one of both arms of a member is, after what can come before it.
+fn is_bent_member(setting: &Setting, members: &[Member], member: &Member) -> bool
+    requires ascending { AreAscending (map member_of members.now) }
+    requires given { (p : Program) × IsMemberIn p setting.now (member_of member.now) }
+    ensures { (p : Program) → IsMemberIn p setting.now (member_of member.now)
+        → result ≡ is_bent_by (setting_of p) (map member_of members.now) (member_of member.now) }
+{
+    let poly = poly_at(setting.rows, member.spot);
+    is_bent_after(
+        &member.local,
+        poly,
+        members,
+        setting.graph.pre(member.spot.rule),
+    )
+}
+
+/// The first member with a polynomial arm that reads a member, after what can come before it.
+pub(crate) fn first_bent(setting: &Setting, members: &[Member]) -> Option<Spot>
+    requires { (p : Program) × AreMembersIn p setting.now (map member_of members.now) }
+    ensures { (p : Program) → AreMembersIn p setting.now (map member_of members.now)
+        → option_map spot_of result ≡ first_bent_of (setting_of p) (map member_of members.now) (map member_of
+        members.now) }
+{
+    for member in members {
+        let is_here = is_bent_member(setting, members, member);
+        if is_here {
+            return Some(member.spot);
+        }
+    }
+    None
+}

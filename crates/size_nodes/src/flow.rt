@@ -1,0 +1,205 @@
+//! What flows into the members of a loop.
+
+ghost use Rattle.std.specs.Prelude.{◌≡◌, ℕ, ◌+◌, ◌*◌, ◌^◌, ◌≤◌, ◌++◌, ◌∷◌, [], cond, length, map, All};
+ghost use Rattle.std.specs.Prelude.{IfOk, OnOk, nat_abs};
+ghost use Rattle.poly_terms.specs.linear_forms.Limits.{certificate_limit};
+ghost use Rattle.model.specs.Programs.{Program};
+ghost use Rattle.model.specs.Paths.{pre};
+ghost use Rattle.proof_tree.specs.proof_nodes.ComposedSizes.{inner_sum as inner_sum_of, is_member, slope_of};
+ghost use Rattle.proof_tree.specs.proof_nodes.ComposedSizes.{flows_from};
+ghost use Rattle.proof_tree.specs.proof_nodes.ComposedSizes.{flows};
+ghost use Rattle.proof_tree.specs.proof_nodes.AcceptsSizes.{AreAscending};
+ghost use Rattle.proof_tree.specs.proof_nodes.Limits.{IsInLimit};
+ghost use Rattle.proof_tree.specs.proof_nodes.Numbers.{rounded_up};
+ghost use Rattle.proof_tree.specs.proof_setting.Setting.{setting_of};
+ghost use Rattle.proof_tree.specs.Composing.{optional_poly, HasFewPlaces};
+ghost use Rattle.proof_tree.specs.Sizes.{is_spot, members_from};
+ghost use Rattle.proof_tree.specs.Views.{arm_of, member_of};
+ghost use Rattle.size_nodes.specs.Flows.{IsLimited, flow_of, flow_over, flows_over};
+ghost use Rattle.size_nodes.specs.Members.{IsMemberIn, AreMembersIn};
+
+use crate::members::members_after;
+use crate::setting::Setting;
+use crate::updates::poly_at;
+use bound_expr::{Bound, Memory};
+use poly_terms::Poly;
+use proof_tree::{Arm, Known, Member, arm_bound, has_spot, rounded_coefficient};
+use std::alloc::Global;
+
+/// What flows into a member by one arm from one rule before.
+#[derive(Drop)]
+pub(crate) struct Flow {
+    /// The member's rule.
+    pub rule: u32,
+    /// How often the arm takes the members.
+    pub slope: u64,
+    /// What it adds to them.
+    pub offset: Bound,
+}
+
+/// What the arms of a loop's members read: the bounds that are known outside of it, and the members.
+#[derive(Drop)]
+pub(crate) struct Scope<'a, K> {
+    pub known: &'a K,
+    pub members: &'a [Member],
+}
+
+// The member that flows come into, with the update of its place where that has degree 2 or more.
+#[derive(Clone, Copy)]
+struct Sink<'a> {
+    member: &'a Member,
+    poly: Option<&'a Poly>,
+}
+
+// The coefficient of a place over the denominator, rounded up, where the place is a member.
+fn inner(coef: &i64, den: u64, members: &[Member], rule: u32, place: u32) -> u64
+    requires over { 1 ≤ den }
+    requires limit { IsInLimit (nat_abs coef.now) }
+    ensures sum { result ≡ cond (is_spot (map member_of members.now) rule place) (rounded_up (nat_abs coef.now) den) 0 }
+    ensures limit { result ≤ certificate_limit }
+{
+    if has_spot(members, rule, place) {
+        rounded_coefficient(coef, den) as u64
+    } else {
+        0
+    }
+}
+
+// The coefficients over the denominator, rounded up, of the places that are members, added up. The first place has this
+// number.
+fn inner_sum(coefs: &[i64], den: u64, members: &[Member], rule: u32, place: u32) -> u64
+    requires over { 1 ≤ den }
+    requires few { place + length coefs.now ≤ 65 }
+    requires limit { All (λ c. IsInLimit (nat_abs c)) coefs.now }
+    ensures sum { result ≡ inner_sum_of coefs.now den (members_from (map member_of members.now) rule place) }
+    ensures limit { result ≤ length coefs.now * certificate_limit }
+{
+    let Some((coef, others)) = coefs.split_first() else {
+        return 0;
+    };
+    inner(coef, den, members, rule, place) + inner_sum(others, den, members, rule, place + 1)
+}
+
+// How often an arm takes the members, after a rule.
+fn slope(arm: &Arm, members: &[Member], rule: u32) -> u64
+    requires { IsLimited arm.now }
+    ensures { result ≡ slope_of (arm_of arm.now) (is_member (map member_of members.now) rule) }
+{
+    match arm {
+        Arm::Linear { den, coefs, .. } => inner_sum(coefs, *den, members, rule, 1),
+        Arm::Poly => 0,
+    }
+}
+
+// What flows into a member by an arm from a rule.
+fn flow_by<K: Known>(
+    alloc: Global,
+    scope: &Scope<K>,
+    sink: &Sink,
+    arm: &Arm,
+    rule: u32,
+) -> Result<Flow, Memory>
+    requires limited { IsLimited arm.now }
+    requires few { HasFewPlaces sink.now.poly }
+    ensures { IfOk result (λ f. flow_of f ≡ flow_over (optional_poly sink.now.poly)
+        (map member_of scope.now.members.now) (K.table scope.now.known.now).size (member_of sink.now.member.now)
+        (arm_of arm.now) rule) }
+{
+    let offset = arm_bound(alloc, arm, sink.poly, scope.known, rule, scope.members)?;
+    Ok(Flow {
+        rule: sink.member.spot.rule,
+        slope: slope(arm, scope.members, rule),
+        offset,
+    })
+}
+
+// Pushes what flows into a member from a rule, up before low.
+fn push_both<K: Known>(
+    alloc: Global,
+    flows: &mut Vec<Flow>,
+    scope: &Scope<K>,
+    sink: &Sink,
+    rule: u32,
+) -> Result<(), Memory>
+    requires up { IsLimited sink.now.member.now.local.up }
+    requires low { IsLimited sink.now.member.now.local.low }
+    requires few { HasFewPlaces sink.now.poly }
+    ensures { OnOk result (map flow_of flows.new.items ≡ map flow_of flows.old.items
+        ++ flows_over (optional_poly sink.now.poly) (map member_of scope.now.members.now)
+        (K.table scope.now.known.now).size (member_of sink.now.member.now) (rule ∷ [])) }
+{
+    let up = flow_by(alloc, scope, sink, &sink.member.local.up, rule)?;
+    flows.push(up)?;
+    let low = flow_by(alloc, scope, sink, &sink.member.local.low, rule)?;
+    flows.push(low)?;
+    Ok(())
+}
+
+// Pushes what flows into a member from these rules. Of the members, which ascend, only those after the rule before are
+// looked at.
+fn push_flows<K: Known>(
+    alloc: Global,
+    flows: &mut Vec<Flow>,
+    scope: &Scope<K>,
+    sink: &Sink,
+    before: &[u32],
+) -> Result<(), Memory>
+    requires ascending { AreAscending (map member_of scope.now.members.now) }
+    requires up { IsLimited sink.now.member.now.local.up }
+    requires low { IsLimited sink.now.member.now.local.low }
+    requires few { HasFewPlaces sink.now.poly }
+    ensures { OnOk result (map flow_of flows.new.items ≡ map flow_of flows.old.items
+        ++ flows_over (optional_poly sink.now.poly) (map member_of scope.now.members.now)
+        (K.table scope.now.known.now).size (member_of sink.now.member.now) before.now) }
+{
+    for rule in before {
+        let inside = Scope {
+            known: scope.known,
+            members: members_after(scope.members, *rule),
+        };
+        push_both(alloc, flows, &inside, sink, *rule)?;
+    }
+    Ok(())
+}
+
+// Pushes what flows into a member from what can come before it.
+fn push_flows_into<K: Known>(
+    alloc: Global,
+    flows: &mut Vec<Flow>,
+    setting: &Setting,
+    scope: &Scope<K>,
+    member: &Member,
+) -> Result<(), Memory>
+    requires ascending { AreAscending (map member_of scope.now.members.now) }
+    requires given { (p : Program) × IsMemberIn p setting.now (member_of member.now) }
+    ensures { OnOk result ((p : Program) → IsMemberIn p setting.now (member_of member.now)
+        → map flow_of flows.new.items ≡ map flow_of flows.old.items ++ flows_from (setting_of p)
+        (map member_of scope.now.members.now) (K.table scope.now.known.now).size (member_of member.now)
+        (pre p member.now.spot.rule)) }
+{
+    let poly = poly_at(setting.rows, member.spot);
+    let before = setting.graph.pre(member.spot.rule);
+    push_flows(alloc, flows, scope, &Sink { member, poly }, before)
+}
+
+/// All that flows into the members of a loop: by members, then by what can come before, then up before low.
+///
+/// # Errors
+///
+/// `Memory` where an allocation fails.
+pub(crate) fn flows_in<K: Known>(
+    alloc: Global,
+    setting: &Setting,
+    scope: &Scope<K>,
+) -> Result<Vec<Flow>, Memory>
+    requires { (p : Program) × AreMembersIn p setting.now (map member_of scope.now.members.now) }
+    ensures { IfOk result (λ fs. (p : Program) → AreMembersIn p setting.now (map member_of scope.now.members.now)
+        → map flow_of fs.items ≡ flows (setting_of p) (map member_of scope.now.members.now)
+        (K.table scope.now.known.now).size) }
+{
+    let mut flows = Vec::new(alloc);
+    for member in scope.members {
+        push_flows_into(alloc, &mut flows, setting, scope, member)?;
+    }
+    Ok(flows)
+}

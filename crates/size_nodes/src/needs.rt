@@ -1,0 +1,139 @@
+//! The sizes that arms need.
+
+ghost use Rattle.std.specs.Prelude.{◌≡◌, ℕ, ◌<◌, ◌≤◌, ◌^◌, [], ◌∷◌, ◌++◌, not, length, map, All, IfOk, OnOk};
+ghost use Rattle.model.specs.Programs.{Program};
+ghost use Rattle.model.specs.Paths.{pre};
+ghost use Rattle.proof_tree.specs.proof_nodes.AcceptsSizes.{AreAscending};
+ghost use Rattle.proof_tree.specs.proof_nodes.Checks.{needed_from, needed_into};
+ghost use Rattle.proof_tree.specs.proof_setting.Setting.{setting_of};
+ghost use Rattle.proof_tree.specs.Views.{member_of, spot_of};
+ghost use Rattle.size_nodes.specs.Needs.{spots_outside, spots_from};
+ghost use Rattle.size_nodes.specs.Members.{IsMemberIn, AreMembersIn};
+
+use crate::members::members_after;
+use crate::setting::Setting;
+use crate::updates::poly_at;
+use bound_expr::Memory;
+use proof_tree::{Member, Spot, has_spot, places_read};
+use std::alloc::Global;
+
+// Appends a place after a rule, numbered from 0, unless it is a member.
+#[tactic(auto, using(crate::proofs::NeededSpots::inside_left_out, crate::proofs::NeededSpots::outside_pushed))]
+fn push_unless(
+    spots: &mut Vec<Spot>,
+    rule: u32,
+    position: u32,
+    members: &[Member],
+) -> Result<(), Memory>
+    requires few { position < 2 ^ 31 }
+    ensures { OnOk result (map spot_of spots.new.items
+        ≡ map spot_of spots.old.items ++ spots_outside (map member_of members.now) rule (position ∷ [])) }
+{
+    let place = position + 1;
+    if has_spot(members, rule, place) {
+        return Ok(());
+    }
+    spots.push(Spot { rule, place })?;
+    Ok(())
+}
+
+// Appends these places after a rule, but for the members.
+fn push_each(
+    spots: &mut Vec<Spot>,
+    rule: u32,
+    places: &[u32],
+    members: &[Member],
+) -> Result<(), Memory>
+    requires few { All (λ j. j < 2 ^ 31) places.now }
+    ensures { OnOk result (map spot_of spots.new.items
+        ≡ map spot_of spots.old.items ++ spots_outside (map member_of members.now) rule places.now) }
+{
+    for position in places {
+        push_unless(spots, rule, *position, members)?;
+    }
+    Ok(())
+}
+
+// So where the members ascend: only those after the rule are looked at.
+fn push_outside(
+    spots: &mut Vec<Spot>,
+    rule: u32,
+    places: &[u32],
+    members: &[Member],
+) -> Result<(), Memory>
+    requires few { All (λ j. j < 2 ^ 31) places.now }
+    requires ascending { AreAscending (map member_of members.now) }
+    ensures { OnOk result (map spot_of spots.new.items
+        ≡ map spot_of spots.old.items ++ spots_outside (map member_of members.now) rule places.now) }
+{
+    push_each(spots, rule, places, members_after(members, rule))
+}
+
+// So after each of these rules: the places of the up arm before those of the low arm.
+fn push_from(
+    spots: &mut Vec<Spot>,
+    up: &[u32],
+    low: &[u32],
+    before: &[u32],
+    members: &[Member],
+) -> Result<(), Memory>
+    requires up { All (λ j. j < 2 ^ 31) up.now }
+    requires low { All (λ j. j < 2 ^ 31) low.now }
+    requires ascending { AreAscending (map member_of members.now) }
+    ensures { OnOk result (map spot_of spots.new.items
+        ≡ map spot_of spots.old.items ++ spots_from (map member_of members.now) up.now low.now before.now) }
+{
+    for rule in before {
+        push_outside(spots, *rule, up, members)?;
+        push_outside(spots, *rule, low, members)?;
+    }
+    Ok(())
+}
+
+/// Appends the sizes that a member needs but for those of the members: after each rule that can come before, the places
+/// that its up arm reads, ascending, and then those of its low arm.
+///
+/// # Errors
+///
+/// `Memory` where an allocation fails.
+pub(crate) fn push_needed(
+    alloc: Global,
+    spots: &mut Vec<Spot>,
+    setting: &Setting,
+    m: &Member,
+    members: &[Member],
+) -> Result<(), Memory>
+    requires given { (p : Program) × IsMemberIn p setting.now (member_of m.now) }
+    requires ascending { AreAscending (map member_of members.now) }
+    ensures { OnOk result ((p : Program) → IsMemberIn p setting.now (member_of m.now)
+        → map spot_of spots.new.items ≡ map spot_of spots.old.items
+        ++ needed_from (setting_of p) (map member_of members.now) (member_of m.now) (pre p m.now.spot.rule)) }
+{
+    let poly = poly_at(setting.rows, m.spot);
+    let left = setting.rows[m.spot.rule as usize - 1].left;
+    let up = places_read(alloc, &m.local.up, poly, left)?;
+    let low = places_read(alloc, &m.local.low, poly, left)?;
+    push_from(spots, &up, &low, setting.graph.pre(m.spot.rule), members)
+}
+
+/// The sizes that these members need from outside, after what can come before each.
+///
+/// # Errors
+///
+/// `Memory` where an allocation fails.
+pub(crate) fn needed_spots(
+    alloc: Global,
+    setting: &Setting,
+    members: &[Member],
+) -> Result<Vec<Spot>, Memory>
+    requires { (p : Program) × AreMembersIn p setting.now (map member_of members.now) }
+    ensures { IfOk result (λ spots. (p : Program) → AreMembersIn p setting.now (map member_of members.now)
+        → map spot_of spots.items
+        ≡ needed_into (setting_of p) (map member_of members.now) (map member_of members.now)) }
+{
+    let mut spots = Vec::new(alloc);
+    for m in members {
+        push_needed(alloc, &mut spots, setting, m, members)?;
+    }
+    Ok(spots)
+}

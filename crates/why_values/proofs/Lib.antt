@@ -1,0 +1,14 @@
+-- sequences of tableaux, followed by computation
+pub mod Runs
+pub mod WholeEnds
+-- what stands at places
+pub mod TwoPlaces
+pub mod SquareFlows
+pub mod SquareComponents
+pub mod DoubleRuns
+pub mod DoubleComponents
+-- what was worked out by hand
+pub mod Trips
+pub mod SquareTimes
+pub mod Squares
+pub mod Growths

@@ -1,0 +1,124 @@
+-- Which linear programs of small programs pass a limit of pivots.
+use Rattle.std.proofs.Common.{◌≡◌, inl, inr, ℕ, true, false, List, [], ◌∷◌, Some, refl, subst, arith}
+use Rattle.model.proofs.Membership.{no_is_not_yes}
+use Rattle.model.specs.Programs.{rule_at}
+use Rattle.its_model.specs.linear_forms.Causes.{budget}
+use Rattle.its_model.specs.linear_forms.Questions.{program_of_question}
+use Rattle.guard_prep.specs.Prepared.{prepared}
+use Rattle.guard_prep.specs.Tightening.{divisor_of}
+use Rattle.simplex_core.specs.Bland.{tableau_at}
+use Rattle.simplex_core.specs.Tableau.{first_tableau, equation, cost, pivot}
+use Rattle.simplex_core.specs.Trips.{Trips}
+use Rattle.proof_tree.specs.declared.answer.Question.TheVariants as asked
+use Rattle.proof_tree.specs.proof_nodes.AcceptsSizes.{Up}
+use Rattle.proof_tree.specs.proof_nodes.Gaps.{SymbolPlace}
+use Rattle.proof_tree.specs.proof_setting.WorkedGaps.{looping_rule, looping}
+use Rattle.proof_tree.specs.rule_forms.Kinds.{Number}
+use Rattle.rank_search.specs.RankAnswers.{IsOwnTrip, rank_program}
+use Rattle.rank_search.specs.rule_questions.EmptyAnswers.{empty_program}
+use Rattle.rank_search.specs.rule_questions.ProgramQuestions.{ranked_set}
+use Rattle.local_size.specs.Places.{local_forms, value_on, is_polynomial_at}
+use Rattle.local_size.specs.Sides.{kind_program}
+use Rattle.bound_rounds.specs.Keys.{Bounds}
+use Rattle.bound_rounds.proofs.Cases.{either}
+use Rattle.bound_rounds.proofs.OneOrder.{sets_one, shut_one}
+use Rattle.bound_rounds.specs.Sets.{AreShutOf}
+use Rattle.time_bounds.specs.SizeWhys.{PlaceTripsSo}
+use Rattle.time_bounds.specs.TimeWhys.{EmptyTripsSo, FirstTripsSo, RankTripsSo}
+use Rattle.time_bounds.specs.WorkedReports.{staying_said}
+use Rattle.time_bounds.proofs.FreeValue.{of_rule}
+use Rattle.time_bounds.proofs.StayingRule.{staying_so}
+use Rattle.why_values.specs.Programs.{tripped_at, squaring_to, squares}
+use Rattle.why_values.specs.Trips.{TripsAreWorkedOut}
+use Rattle.why_values.proofs.Runs.{is_there, budget_run, no_budget}
+
+-- a function that ranks k(A) -> k(A)
+rank_trips : Trips (rank_program (ranked_set looping (1 ∷ []) 1 [])) 0 (budget 0)
+unfolding program_of_question first_tableau equation cost pivot
+rank_trips = budget_run (rank_program (ranked_set looping (1 ∷ []) 1 [])) 0 refl refl
+
+-- within 10 pivots its sequence has ended
+rank_ends : is_there (tableau_at (rank_program (ranked_set looping (1 ∷ []) 1 [])) 11) ≡ false
+unfolding program_of_question first_tableau equation cost pivot
+rank_ends = refl
+
+-- a number that bounds its new value
+number_trips :
+    Trips (kind_program (local_forms (prepared looping_rule)) (value_on Up (prepared looping_rule) 1) Number) 0 (budget 0)
+unfolding program_of_question first_tableau equation cost pivot
+number_trips =
+    budget_run (kind_program (local_forms (prepared looping_rule)) (value_on Up (prepared looping_rule) 1) Number) 0 refl
+    refl
+
+-- a point where A <= 0
+pub point_trips : (target : ℕ) → Trips (empty_program (prepared (squaring_to target))) 0 (budget 0)
+unfolding program_of_question first_tableau equation cost pivot divisor_of
+point_trips target = budget_run (empty_program (prepared (squaring_to target))) 0 refl refl
+
+pub squaring_trips : (t target : ℕ) → rule_at squares t ≡ Some (squaring_to target)
+    → EmptyTripsSo squares 0 t (tripped_at 0 (asked.Empty t))
+squaring_trips t target e = record { rule = squaring_to target; numbered = e; trips = (refl, point_trips target) }
+
+-- a point without rows
+no_rows_end : ¬ (Trips (empty_program (prepared looping_rule)) 0 (budget 0))
+unfolding program_of_question first_tableau equation cost pivot
+no_rows_end = no_budget (empty_program (prepared looping_rule)) 0 0 refl
+
+-- no rule's emptiness question is a rank question
+never_first : (pivots limit : ℕ) (ts : List ℕ) → FirstTripsSo looping pivots ts (tripped_at limit (asked.Rank 1)) → ⊥
+never_first pivots limit [] h = h
+never_first pivots limit (t ∷ ts) (inl h) = let e = h.trips.0 in (let none : ⊥ = cc in none)
+never_first pivots limit (t ∷ ts) (inr h) = never_first pivots limit ts h.1
+
+-- the limit is 0, and not 1
+other_limit : RankTripsSo looping 0 staying_said 1 (tripped_at 1 (asked.Rank 1)) → ⊥
+other_limit h =
+    either h.trips (λ own. let e : ◌≡◌ {A = ℕ} 1 0 = own.trips.1 in omega (arith, e))
+    (λ points. never_first 0 1 h.set points.first)
+
+-- 10 pivots suffice
+ends_before : RankTripsSo looping 10 staying_said 1 (tripped_at 10 (asked.Rank 1)) → ⊥
+ends_before h = either h.trips (own h.set h.shut set shut) (λ points. never_first 10 10 h.set points.first)
+  where
+    set : h.set ≡ 1 ∷ []
+    set = sets_one looping staying_said 1 h.set (1 ∷ []) h.sought.is_set staying_so.sought.is_set
+
+    shut : h.shut ≡ []
+    shut = shut_one looping staying_said (1 ∷ []) h.shut []
+        (subst (λ (s : List ℕ). AreShutOf looping staying_said s h.shut) set h.sought.are_shut) staying_so.sought.are_shut
+
+    own : (xs : List ℕ) (ys : List SymbolPlace) → xs ≡ 1 ∷ [] → ys ≡ []
+        → IsOwnTrip (ranked_set looping xs 1 ys) 10 (tripped_at 10 (asked.Rank 1)) → ⊥
+    own xs ys e f trip =
+        no_budget (rank_program (ranked_set looping (1 ∷ []) 1 [])) 10 10 rank_ends
+        (subst (λ (zs : List SymbolPlace). IsOwnTrip (ranked_set looping (1 ∷ []) 1 zs) 10 (tripped_at 10 (asked.Rank 1))) f
+        (subst (λ (zs : List ℕ). IsOwnTrip (ranked_set looping zs 1 ys) 10 (tripped_at 10 (asked.Rank 1))) e trip)).trips
+
+-- nothing is asked where the update is a polynomial
+nothing_asked : (b : Bounds) → PlaceTripsSo squares 0 1 1 (tripped_at 0 (asked.Local 1 1)) → ⊥
+nothing_asked b h =
+    no_is_not_yes true
+    (of_rule (λ r. is_polynomial_at (prepared r) 1 ≡ false) (squaring_to 0) h.rule h.numbered
+    (either h.trips (λ own. own.asked) (λ point. point.straight))) refl
+
+pub trips_worked : TripsAreWorkedOut
+trips_worked = record {
+  time = record {
+    set = 1 ∷ [];
+    shut = [];
+    sought = staying_so.sought;
+    trips = inl (record { question = refl; trips = rank_trips });
+  };
+  other_limit = other_limit;
+  enough = ends_before;
+  size = λ b. record {
+    rule = looping_rule;
+    numbered = refl;
+    trips = inl (record { asked = refl; question = refl; first = inl (inl (tt, number_trips)) });
+  };
+  nothing_asked = nothing_asked;
+  empty = squaring_trips 1 0 refl;
+  second_empty = squaring_trips 2 1 refl;
+  at_its_end = λ h. no_rows_end
+      (of_rule (λ r. Trips (empty_program (prepared r)) 0 (budget 0)) looping_rule h.rule h.numbered h.trips.1);
+}

@@ -1,0 +1,5 @@
+-- values that were worked out by hand
+pub mod Programs
+pub mod Trips
+pub mod Squares
+pub mod Growths
