@@ -7,8 +7,12 @@ pub mod SquareFlows
 pub mod SquareComponents
 pub mod DoubleRuns
 pub mod DoubleComponents
+pub mod DoubleMembers
+pub mod OnePlace
+pub mod LoopComponents
 -- what was worked out by hand
 pub mod Trips
 pub mod SquareTimes
+pub mod FirstTrips
 pub mod Squares
 pub mod Growths

@@ -2,4 +2,5 @@
 pub mod Programs
 pub mod Trips
 pub mod Squares
+pub mod FirstTrips
 pub mod Growths

@@ -92,6 +92,15 @@ growing_report = record {
   sizes = (Sized (Input 0) ∷ []) ∷ (Unsized (SizeUntimed 2) ∷ []) ∷ [];
 }
 
+-- the same where neither rule has a time
+abbrev pub untimed_report : Report
+untimed_report = record {
+  times = Untimed (TimeTripped (tripped_at 0 (asked.Rank 1)))
+      ∷ Untimed (TimeTripped (tripped_at 0 (asked.Rank 2))) ∷ [];
+  total = None;
+  sizes = growing_report.sizes;
+}
+
 -- the same where the second rule has a time
 abbrev pub timed_report : Report
 timed_report = record {
