@@ -30,6 +30,8 @@ use Rattle.rvg_components.specs.Listing.{HasFlow, AreComponents}
 use Rattle.bound_rounds.specs.Components.{IsDead, IsOneOf}
 use Rattle.bound_rounds.specs.Keys.{IsPlace, key, over}
 use Rattle.bound_rounds.specs.Searches.{HasPoint}
+use Rattle.proof_tree.specs.proof_setting.bound_table.InForce.{rewritten}
+use Rattle.proof_tree.specs.proof_setting.bound_table.Rewriting.{simplified, passes_until_same, at_node, parts_passed}
 use Rattle.time_bounds.specs.ProgramRules.{IsEmptinessOf, IsEmptyRule}
 use Rattle.time_bounds.specs.ProgramSearches.{searches_of_program}
 use Rattle.time_bounds.specs.ProgramSizes.{AreLive, IsLocalOf, AreLocals}
@@ -191,6 +193,7 @@ loop_members members h = go z (is_one_of z)
 
 -- and it keeps its value: the rule neither multiplies nor adds
 pub grows_nowhere : GrowsUntimed looping 10 staying_said 1 1 1 → ⊥
+unfolding rewritten simplified passes_until_same at_node parts_passed
 grows_nowhere h =
     no_is_not_yes false refl
     (subst
