@@ -56,7 +56,7 @@ loop_arms : HasArms (prepared looping_rule) 1 10 entered_member.local
 loop_arms = entered_arms
 
 -- it alone is live
-abbrev one_live : ℕ → Bool
+abbrev pub one_live : ℕ → Bool
 one_live zero = false
 one_live (suc zero) = true
 one_live (suc (suc t)) = false

@@ -3,4 +3,5 @@ pub mod Programs
 pub mod Trips
 pub mod Squares
 pub mod FirstTrips
+pub mod Products
 pub mod Growths

@@ -47,6 +47,39 @@ squares = record {
   rules = squaring_to 0 ∷ squaring_to 1 ∷ [];
 }
 
+-- from k to itself, with the product of the arguments twice, where the first is at most 0
+abbrev pub product_rule : Rule
+product_rule = record {
+  source = 0;
+  target = 0;
+  left = 2;
+  free = 0;
+  names = (65 ∷ []) ∷ (66 ∷ []) ∷ [];
+  updates = Multiplication (Variable 0) (Variable 1) ∷ Multiplication (Variable 0) (Variable 1) ∷ [];
+  guard = Compare (Variable 0) AtMost (Literal (pos 0)) ∷ [];
+  cost = None;
+}
+
+abbrev pub products : Program
+products = record {
+  symbols = record { name = 107 ∷ []; arity = 2 } ∷ [];
+  start = 0;
+  start_names = (65 ∷ []) ∷ (66 ∷ []) ∷ [];
+  rules = product_rule ∷ [];
+}
+
+-- both places after it, with the product as both bounds
+abbrev pub both_products : List Member
+both_products = record { spot = key 1 1; local = both_polynomial } ∷ record { spot = key 1 2; local = both_polynomial } ∷ []
+
+-- within no pivots the rule has no time, and the first place bends
+abbrev pub products_report : Report
+products_report = record {
+  times = Untimed (TimeTripped (tripped_at 0 (asked.Rank 1))) ∷ [];
+  total = None;
+  sizes = (Unsized (SizeBent (key 1 1)) ∷ Unsized (SizeBent (key 1 1)) ∷ []) ∷ [];
+}
+
 -- A * A, and the place after a rule of this program with it as both bounds
 abbrev pub square : Polynomial
 square = record { coef = pos 1; vars = 0 ∷ 0 ∷ [] } ∷ []

@@ -6,6 +6,7 @@
 
 ghost use Rattle.why_values.specs.FirstTrips.{FirstTripsAreWorkedOut};
 ghost use Rattle.why_values.specs.Growths.{GrowthsAreWorkedOut};
+ghost use Rattle.why_values.specs.Products.{ProductsAreWorkedOut};
 ghost use Rattle.why_values.specs.Squares.{SquaresAreWorkedOut};
 ghost use Rattle.why_values.specs.Trips.{TripsAreWorkedOut};
 
@@ -17,5 +18,6 @@ pub fn missing_bounds_are_as_worked_out()
     ensures trips { TripsAreWorkedOut }
     ensures first_trips { FirstTripsAreWorkedOut }
     ensures squares { SquaresAreWorkedOut }
+    ensures products { ProductsAreWorkedOut }
     ensures growths { GrowthsAreWorkedOut }
 {}
