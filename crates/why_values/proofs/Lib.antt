@@ -16,6 +16,7 @@ pub mod ProductComponents
 pub mod Trips
 pub mod SquareTimes
 pub mod FirstTrips
+pub mod LoosePlaces
 pub mod Products
 pub mod Squares
 pub mod Growths

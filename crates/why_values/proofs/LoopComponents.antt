@@ -1,10 +1,10 @@
 -- The component of the program that stays, within 10 pivots, and that nothing grows in it.
-use Rattle.std.proofs.Common.{◌≡◌, inl, inr, ℕ, zero, suc, ◌<◌, ◌≤◌, ◌↔◌, Bool, true, false, List, [], ◌∷◌, map, Some, refl, sym}
+use Rattle.std.proofs.Common.{◌≡◌, inl, inr, ℕ, zero, suc, ◌<◌, ◌≤◌, ◌↔◌, Bool, true, false, List, [], ◌∷◌, map, refl, sym}
 use Rattle.std.proofs.Common.{◌||◌, ap, subst, arith, All}
 use Rattle.std.specs.Prelude.{pos}
 use Rattle.std.proofs.lemmas.List.Elements.{All-head}
 use Rattle.model.specs.Paths.{Here}
-use Rattle.model.specs.Programs.{Rule, arity_of}
+use Rattle.model.specs.Programs.{arity_of}
 use Rattle.model.proofs.Cases.{none_some, some_same}
 use Rattle.model.proofs.Membership.{no_is_not_yes}
 use Rattle.farkas_cert.specs.declared.scaled.Scaled.{Scaled}

@@ -1,6 +1,6 @@
 -- The component of the program that multiplies its arguments, within no pivots, and that it has no others.
-use Rattle.std.proofs.Common.{◌≡◌, inl, inr, ℕ, zero, suc, ◌<◌, ◌≤◌, ◌↔◌, Bool, true, false, List, [], ◌∷◌, map, Some, refl}
-use Rattle.std.proofs.Common.{sym, ◌∙◌, subst, arith, All}
+use Rattle.std.proofs.Common.{◌≡◌, inl, inr, ℕ, zero, suc, ◌≤◌, ◌↔◌, true, false, List, [], ◌∷◌, map, refl}
+use Rattle.std.proofs.Common.{sym, subst, arith, All}
 use Rattle.std.proofs.lemmas.List.Elements.{All-nil, All-cons, All-head, All-tail}
 use Rattle.model.specs.Paths.{Here}
 use Rattle.model.specs.Programs.{arity_of}

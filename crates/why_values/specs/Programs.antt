@@ -3,7 +3,7 @@
 use Rattle.std.specs.Prelude.{ℕ, List, [], ◌∷◌, pos, None}
 use Rattle.model.specs.Bounds.{Constant, Input}
 use Rattle.model.specs.Polynomials.{Polynomial}
-use Rattle.model.specs.Programs.{AtMost, Compare, Rule, Program}
+use Rattle.model.specs.Programs.{AtLeast, AtMost, Compare, Rule, Program}
 use Rattle.model.specs.Terms.{Literal, Variable, Multiplication}
 use Rattle.its_model.specs.linear_forms.declared.trip_cause.TripCause.TheVariants as causes
 use Rattle.outcome.specs.Reports.{TimeTripped, TimeLarge, Timed, Untimed, SizeMissing, SizeBent, SizeUntimed, SizeLarge}
@@ -13,7 +13,7 @@ use Rattle.proof_tree.specs.declared.answer.Question.TheVariants as asked
 use Rattle.proof_tree.specs.declared.answer.Trip.{Trip}
 use Rattle.proof_tree.specs.proof_nodes.Nodes.{Spot, Member}
 use Rattle.proof_tree.specs.proof_nodes.WorkedReasons.{tower}
-use Rattle.proof_tree.specs.proof_nodes.WorkedSettings.{rule_over}
+use Rattle.proof_tree.specs.proof_nodes.WorkedSettings.{rule_over, program_with}
 use Rattle.local_size.specs.LocalAnswers.{both_polynomial}
 use Rattle.bound_rounds.specs.Keys.{key}
 
@@ -79,6 +79,13 @@ products_report = record {
   total = None;
   sizes = (Unsized (SizeBent (key 1 1)) ∷ Unsized (SizeBent (key 1 1)) ∷ []) ∷ [];
 }
+
+-- k(A) -> l(C) where C >= A
+abbrev pub above_rule : Rule
+above_rule = rule_over 0 1 1 (Variable 1) (Compare (Variable 1) AtLeast (Variable 0) ∷ [])
+
+abbrev pub above : Program
+above = program_with (above_rule ∷ [])
 
 -- A * A, and the place after a rule of this program with it as both bounds
 abbrev pub square : Polynomial
