@@ -174,7 +174,7 @@ first_local z e = record {
   local = inr entered_arms;
 }
 
-second_local : (z : Scaled) → scaled_of z ≡ one → IsLocalOf doubling.program 10 2 1 (HasBound doubled_member.local)
+pub second_local : (z : Scaled) → scaled_of z ≡ one → IsLocalOf doubling.program 10 2 1 (HasBound doubled_member.local)
 second_local z e = record {
   rule = doubling_rule;
   numbered = refl;

@@ -1,6 +1,6 @@
 -- Which members the component of the place that doubles has, within 10 pivots: that place alone. What is answered of
 -- the rules of a component gives the point of the code on which the components rest.
-use Rattle.std.proofs.Common.{◌≡◌, inl, inr, ℕ, zero, suc, true, false, List, [], ◌∷◌, map, refl, sym, ◌∙◌, subst}
+use Rattle.std.proofs.Common.{◌≡◌, inl, inr, ℕ, zero, suc, true, false, List, [], ◌∷◌, map, refl, sym, ◌∙◌, subst, ap, All}
 use Rattle.std.specs.Prelude.{ℤ, pos, nat_abs}
 use Rattle.std.proofs.lemmas.List.Elements.{All-head}
 use Rattle.model.specs.Entries.{is_in}
@@ -17,7 +17,7 @@ use Rattle.proof_tree.specs.AnswerViews.{scaled_of}
 use Rattle.proof_tree.specs.declared.answer.EmptyAnswer.{EmptyAnswer}
 use Rattle.proof_tree.specs.declared.answer.EmptyAnswer.TheVariants as empties
 use Rattle.proof_tree.specs.proof_nodes.ComposedSizes.{rules_of}
-use Rattle.proof_tree.specs.proof_nodes.Nodes.{Spot, Member}
+use Rattle.proof_tree.specs.proof_nodes.Nodes.{Spot, Member, LocalBound}
 use Rattle.proof_tree.specs.proof_nodes.WorkedGaps.{one}
 use Rattle.proof_tree.specs.proof_nodes.WorkedSettings.{enter, doubling}
 use Rattle.proof_tree.specs.proof_setting.Setting.{setting_of}
@@ -29,8 +29,12 @@ use Rattle.time_bounds.specs.ProgramSizes.{IsLocalOf}
 use Rattle.time_bounds.specs.SizeWhys.{IsComponentOf}
 use Rattle.time_bounds.proofs.FreeValue.{of_rule}
 use Rattle.time_bounds.proofs.OneProgram.{program_searches_one}
+use Rattle.proof_tree.specs.proof_nodes.Worked.{doubled_member, doubled}
+use Rattle.rank_search.proofs.rule_questions.OneEmptyAnswer.{empties-one}
+use Rattle.local_size.proofs.OneLocal.{locals-one}
+use Rattle.time_bounds.proofs.OneSizes.{local_one}
 use Rattle.why_values.specs.Programs.{doubling_rule, two_components}
-use Rattle.why_values.proofs.DoubleComponents.{double_components}
+use Rattle.why_values.proofs.DoubleComponents.{double_components, second_local}
 use Rattle.why_values.proofs.DoubleRuns.{enter_point, doubling_point}
 use Rattle.why_values.proofs.WholeEnds.{dual_untripped, duals_same, never_both}
 
@@ -118,3 +122,29 @@ no_first_rule (m ∷ []) e u =
 pub not_used : (members : List Member) → IsComponentOf doubling.program 10 2 1 members
     → is_in 1 (rules_of (setting_of doubling.program) members) ≡ true → ⊥
 not_used members h = no_first_rule members (doubled_spots members h)
+
+-- and the local bound of that place is the only one that is answered
+one_member : HasOne → (members : List Member) → key 2 1 ∷ [] ≡ map (λ m. m.spot) members
+    → All (λ (m : Member). IsLocalOf doubling.program 10 m.spot.rule m.spot.place (HasBound m.local)) members
+    → members ≡ doubled
+one_member z [] e bounds = absurd (let none : ⊥ = cc in none)
+one_member z (m ∷ n ∷ members) e bounds = absurd (let none : ⊥ = cc in none)
+one_member z (m ∷ []) e bounds =
+    let same : key 2 1 ≡ m.spot = cc in
+    let bound : IsLocalOf doubling.program 10 2 1 (HasBound m.local) =
+    subst (λ (k : Spot). IsLocalOf doubling.program 10 k.rule k.place (HasBound m.local)) (sym same)
+    (All-head (λ (n : Member). IsLocalOf doubling.program 10 n.spot.rule n.spot.place (HasBound n.local)) m [] bounds) in
+    ap (λ (n : Member). n ∷ []) (together m same (local_is m.local bound))
+  where
+    local_is : (l : LocalBound) → IsLocalOf doubling.program 10 2 1 (HasBound l) → l ≡ doubled_member.local
+    local_is l h =
+        let same : HasBound l ≡ HasBound doubled_member.local =
+        local_one doubling.program 10 empties-one locals-one 2 1 (HasBound l) (HasBound doubled_member.local) h
+        (second_local z.point z.reads) in
+        cc
+
+    together : (n : Member) → key 2 1 ≡ n.spot → n.local ≡ doubled_member.local → n ≡ doubled_member
+    together n s l = λ i. record { spot = sym s i; local = l i }
+
+pub doubled_members : (members : List Member) → IsComponentOf doubling.program 10 2 1 members → members ≡ doubled
+doubled_members members h = one_member (component_point members h) members (doubled_spots members h) h.bounds

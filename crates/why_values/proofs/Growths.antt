@@ -71,7 +71,7 @@ doubled_low =
       one_each = record { long = old.one_each.long; limit = old.one_each.limit };
     }
 
-doubled_shape : HasCycleShape (setting_of doubling.program) doubled
+pub doubled_shape : HasCycleShape (setting_of doubling.program) doubled
 doubled_shape = record {
   some = omega arith;
   ascending = tt;

@@ -20,3 +20,4 @@ pub mod LoosePlaces
 pub mod Products
 pub mod Squares
 pub mod Growths
+pub mod FirstReasons

@@ -6,3 +6,4 @@ pub mod FirstTrips
 pub mod LoosePlaces
 pub mod Products
 pub mod Growths
+pub mod FirstReasons

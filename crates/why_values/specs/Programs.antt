@@ -150,6 +150,22 @@ timed_report = record {
 }
 
 -- the size after the first rule has 201 levels, and the second rule has no time
+abbrev pub untimed_tower_report : Report
+untimed_tower_report = record {
+  times = untimed_report.times;
+  total = None;
+  sizes = (Sized (tower 200) ∷ []) ∷ (Unsized (SizeUntimed 2) ∷ []) ∷ [];
+}
+
+-- the same where it has a time
+abbrev pub timed_tower_report : Report
+timed_tower_report = record {
+  times = timed_report.times;
+  total = None;
+  sizes = (Sized (tower 200) ∷ []) ∷ (Unsized (SizeLarge 415) ∷ []) ∷ [];
+}
+
+-- the size after the first rule has 201 levels, and the second rule has no time
 abbrev pub deep_report : Report
 deep_report = record {
   times = Timed (Constant 1) ∷ Untimed (TimeLarge 208) ∷ [];
