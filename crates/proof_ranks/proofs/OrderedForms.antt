@@ -1,6 +1,6 @@
 -- Forms whose symbols ascend: where the one at a symbol stands.
 use Rattle.std.proofs.Common.{◌≡◌, ℕ, zero, suc, ◌+◌, ◌<◌, ◌≤◌, ◌==◌, Bool, true, false, cond, List, [], ◌∷◌, length, map, filter}
-use Rattle.std.proofs.Common.{get_or, Option, Some, None, refl, sym, ap, ◌∙◌, subst, arith}
+use Rattle.std.proofs.Common.{get_or, Some, refl, sym, ap, ◌∙◌, subst, arith}
 use Rattle.std.specs.Prelude.{pos}
 use Rattle.std.specs.List.{AllAdjacentBelow, AllByRecursion, AllWithin, range_with_len}
 use Rattle.std.specs.List.Sorted.{IsNonDecreasingBy}
