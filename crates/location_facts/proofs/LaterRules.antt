@@ -2,10 +2,13 @@
 use Rattle.std.proofs.Common.{◌≡◌, ◌⊎◌, inl, inr, ℕ, zero, suc, ◌+◌, ◌-◌, ◌<◌, ◌≤◌, ap, arith, refl, sym, ◌∙◌, subst}
 use Rattle.std.proofs.Common.{List, [], ◌∷◌, ◌++◌, length, length-append, map, get_or, Option, Some, None, Bool, true, false}
 use Rattle.std.proofs.Common.{if◌then◌else◌}
-use Rattle.std.specs.Prelude.{slice_get, nat_eq, pos}
+use Rattle.std.proofs.Common.{option_map}
+use Rattle.std.specs.Prelude.{slice_get, nat_eq, pos, Vec}
+use Rattle.std.specs.declared.alloc.Global.{Global}
 use Rattle.std.proofs.lemmas.Bool.{cases_lt}
 use Rattle.std.proofs.lemmas.List.Elements.{All-get_or}
-use Rattle.std.proofs.lemmas.Option.{slice_get_within}
+use Rattle.std.proofs.lemmas.List.{length-map}
+use Rattle.std.proofs.lemmas.Option.{slice_get_within, slice_get-map}
 use Rattle.poly_terms.specs.linear_forms.Certificates.{Implies, minus_one}
 use Rattle.poly_terms.specs.linear_forms.Combinations.{form_times}
 use Rattle.poly_terms.specs.linear_forms.Forms.{Form}
@@ -22,11 +25,12 @@ use Rattle.proof_tree.specs.guard_prep.Views.{prepared_of}
 use Rattle.rule_questions.specs.ProgramQuestions.{forms_in, forms_at}
 use Rattle.location_facts.specs.declared.fact.LocFact.{LocFact}
 use Rattle.location_facts.specs.declared.fact.FactProof.{FactProof}
+use Rattle.location_facts.specs.declared.fact.LocFacts.{LocFacts}
 use Rattle.location_facts.specs.declared.fact.FactProof.TheVariants.{Empty, Implied}
 use Rattle.location_facts.specs.declared.implied.Under.{Under}
 use Rattle.location_facts.specs.Certificates.{IsWithinLimit}
-use Rattle.location_facts.specs.Faults.{rules_into, ShowsFact}
-use Rattle.location_facts.specs.Implied.{TellsEmpty, TellsGoal, IsUnder, HasProofs}
+use Rattle.location_facts.specs.Faults.{proofs_of, rules_into, ShowsFact}
+use Rattle.location_facts.specs.Implied.{TellsEmpty, TellsGoal, IsUnder, HasProofs, AreProofsUnder}
 use Rattle.location_facts.specs.Kept.{HasThose, IsImplied, IsImpliedByAll}
 use Rattle.location_facts.specs.Later.{IsSameProof, IsLater, AreLater, HasRows, TellsRule, TellsAgain}
 use Rattle.location_facts.specs.Rows.{row_before, row_after, facts_at, combined}
@@ -207,3 +211,20 @@ told-again p preps pivots old kept f ps into k t m o earlier x are e l g within 
 
     few : k < length ps
     few = subst (λ (n : ℕ). k < n) (sym has.one_each) low
+
+-- the proofs that are found of a fact are there
+pub proofs-there : (p : plain.Program) (old : List LocFact) (found : LocFacts) (i : ℕ) (f : LocFact)
+    (v : Vec FactProof Global) → AreProofsUnder p old found.kept.items (proofs_of found) → i < length found.kept.items
+    → slice_get found.kept.items i ≡ Some f → v ≡ get_or found.proofs.items i v → HasProofs p old f v.items
+proofs-there p old found i f v are l there e = are.each i f v.items (record {
+  fact = there;
+  listed = slice_get-map (λ (w : Vec FactProof Global). w.items) found.proofs.items i
+      ∙ ap (λ (o : Option (Vec FactProof Global)). option_map (λ (w : Vec FactProof Global). w.items) o)
+      (read found.proofs.items i v (omega (arith, l, many, same)) e);
+})
+  where
+    many : length (proofs_of found) ≡ length found.kept.items
+    many = are.one_each
+
+    same : length (proofs_of found) ≡ length found.proofs.items
+    same = length-map found.proofs.items (λ (w : Vec FactProof Global). w.items)

@@ -55,12 +55,14 @@ pub(crate) fn later_facts(
     let mut kept = Vec::new(alloc);
     let mut proofs = Vec::new(alloc);
     for i in 0..found.kept.len() {
+        let fact = found.kept[i];
+        let before = &found.proofs[i];
         let earlier = Earlier {
-            fact: found.kept[i],
-            proofs: &found.proofs[i],
+            fact,
+            proofs: before,
         };
         let shown = later_proofs(alloc, p, preps, &unders, earlier, pivots)?;
-        push_shown(&mut kept, &mut proofs, earlier.fact, shown)?;
+        push_shown(&mut kept, &mut proofs, fact, shown)?;
     }
     Ok(LocFacts { kept, proofs })
 }
@@ -134,9 +136,9 @@ fn later_proofs(
     requires later { AnyLater (program_of p.now) pivots unders.now }
     requires one_each { length earlier.proofs.now ≡ length (rules_to (program_of p.now) earlier.fact.symbol) }
     ensures { IfOk result (λ proofs. (old kept : List Fact) → AreLater (program_of p.now) pivots old kept unders.now
-        → IsImpliedByAll (program_of p.now) pivots old earlier.fact
-        → HasProofs (program_of p.now) old earlier.fact earlier.proofs.now
-        → TellsProofs (program_of p.now) pivots kept earlier.fact proofs) }
+        → IsImpliedByAll (program_of p.now) pivots old earlier.entry.fact
+        → HasProofs (program_of p.now) old earlier.entry.fact earlier.entry.proofs.now
+        → TellsProofs (program_of p.now) pivots kept earlier.entry.fact proofs) }
 {
     let into = rules_into(alloc, p, earlier.fact.symbol)?;
     let mut proofs = Vec::new(alloc);

@@ -1,4 +1,4 @@
-use Rattle.std.proofs.Common.{◌≡◌, ℕ, ◌+◌, ap, arith, ◌∙◌, List, length, Option, subst, sym}
+use Rattle.std.proofs.Common.{◌≡◌, ℕ, ◌+◌, ap, arith, ◌∙◌, List, length, get_or, Option, subst, sym}
 use Rattle.its_model.specs.Views.{program_of}
 use Rattle.rule_questions.specs.ProgramQuestions.{forms_at}
 use Rattle.location_facts.specs.declared.fact.FactProof.{FactProof}
@@ -56,13 +56,14 @@ returns-in-None c = λ old kept are all has.
     (row_after (forms_at (program_of c.args.p.now) c.index-rule.result.now).news c.args.earlier.fact) o) c.in-None.is
     (told-again (program_of c.args.p.now) c.args.preps.now c.args.pivots old kept c.args.earlier.fact
     c.args.earlier.proofs.now c.in_ok-into.into.items c.loop-k.k c.index-rule.result.now c.index-preps-rule.result
-    c.index-unders-rule.result c.index-before.result _ c.requires.rows (c.in_ok-into.ensures {u = tt}) (omega arith)
+    c.index-unders-rule.result (get_or c.args.earlier.proofs.now c.loop-k.k c.index-earlier-k.result) _ c.requires.rows (c.in_ok-into.ensures {u = tt}) (omega arith)
     c.index-rule.ensures (into-rule (program_of c.args.p.now) c.args.earlier.fact.symbol c.loop-k.k c.index-rule.result.now
     c.in_ok-into.into.items (c.in_ok-into.ensures {u = tt}) (omega arith) c.index-rule.ensures) c.index-preps-rule.is
     (later-read (program_of c.args.p.now) c.args.pivots old kept c.args.unders.now c.index-rule.result.now
     c.index-unders-rule.result (into-rule (program_of c.args.p.now) c.args.earlier.fact.symbol c.loop-k.k c.index-rule.result.now
-    c.in_ok-into.into.items (c.in_ok-into.ensures {u = tt}) (omega arith) c.index-rule.ensures) are c.index-unders-rule.is) all has c.index-before.is
-    (c.in_ok-later_proof.ensures {u = tt})))
+    c.in_ok-into.into.items (c.in_ok-into.ensures {u = tt}) (omega arith) c.index-rule.ensures) are c.index-unders-rule.is) all has
+    (ap (λ (x : FactProof). get_or c.args.earlier.proofs.now c.loop-k.k x) c.index-earlier-k.is)
+    (c.in_ok-proof.ensures {u = tt})))
 
 pub loop-k-preserved : goal.loop-k-preserved
 loop-k-preserved c = record {
@@ -80,13 +81,14 @@ loop-k-preserved c = record {
       (row_after (forms_at (program_of c.args.p.now) c.index-rule.result.now).news c.args.earlier.fact) o) c.in-Some.is
       (told-again (program_of c.args.p.now) c.args.preps.now c.args.pivots old kept c.args.earlier.fact
     c.args.earlier.proofs.now c.in_ok-into.into.items c.loop-k.k c.index-rule.result.now c.index-preps-rule.result
-    c.index-unders-rule.result c.index-before.result _ c.requires.rows (c.in_ok-into.ensures {u = tt}) (omega arith)
+    c.index-unders-rule.result (get_or c.args.earlier.proofs.now c.loop-k.k c.index-earlier-k.result) _ c.requires.rows (c.in_ok-into.ensures {u = tt}) (omega arith)
     c.index-rule.ensures (into-rule (program_of c.args.p.now) c.args.earlier.fact.symbol c.loop-k.k c.index-rule.result.now
     c.in_ok-into.into.items (c.in_ok-into.ensures {u = tt}) (omega arith) c.index-rule.ensures) c.index-preps-rule.is
     (later-read (program_of c.args.p.now) c.args.pivots old kept c.args.unders.now c.index-rule.result.now
     c.index-unders-rule.result (into-rule (program_of c.args.p.now) c.args.earlier.fact.symbol c.loop-k.k c.index-rule.result.now
-    c.in_ok-into.into.items (c.in_ok-into.ensures {u = tt}) (omega arith) c.index-rule.ensures) are c.index-unders-rule.is) all has c.index-before.is
-    (c.in_ok-later_proof.ensures {u = tt}))));
+    c.in_ok-into.into.items (c.in_ok-into.ensures {u = tt}) (omega arith) c.index-rule.ensures) are c.index-unders-rule.is) all has
+    (ap (λ (x : FactProof). get_or c.args.earlier.proofs.now c.loop-k.k x) c.index-earlier-k.is)
+    (c.in_ok-proof.ensures {u = tt}))));
 }
 
 pub returns : goal.returns
