@@ -1,4 +1,4 @@
-use Rattle.std.proofs.Common.{◌≡◌, arith, List, get_or, subst, sym}
+use Rattle.std.proofs.Common.{arith, List, subst, sym}
 use Rattle.its_model.specs.Views.{program_of}
 use Rattle.location_facts.specs.declared.fact.LocFact.{LocFact}
 use Rattle.location_facts.specs.Implied.{HasProofs, TellsProofs, IsPushed}

@@ -80,15 +80,15 @@ loop-k-preserved c = record {
       (combined (forms_at (program_of c.args.p.now) c.index-rule.result.now) kept)
       (row_after (forms_at (program_of c.args.p.now) c.index-rule.result.now).news c.args.earlier.fact) o) c.in-Some.is
       (told-again (program_of c.args.p.now) c.args.preps.now c.args.pivots old kept c.args.earlier.fact
-    c.args.earlier.proofs.now c.in_ok-into.into.items c.loop-k.k c.index-rule.result.now c.index-preps-rule.result
-    c.index-unders-rule.result (get_or c.args.earlier.proofs.now c.loop-k.k c.index-earlier-k.result) _ c.requires.rows (c.in_ok-into.ensures {u = tt}) (omega arith)
-    c.index-rule.ensures (into-rule (program_of c.args.p.now) c.args.earlier.fact.symbol c.loop-k.k c.index-rule.result.now
-    c.in_ok-into.into.items (c.in_ok-into.ensures {u = tt}) (omega arith) c.index-rule.ensures) c.index-preps-rule.is
-    (later-read (program_of c.args.p.now) c.args.pivots old kept c.args.unders.now c.index-rule.result.now
-    c.index-unders-rule.result (into-rule (program_of c.args.p.now) c.args.earlier.fact.symbol c.loop-k.k c.index-rule.result.now
-    c.in_ok-into.into.items (c.in_ok-into.ensures {u = tt}) (omega arith) c.index-rule.ensures) are c.index-unders-rule.is) all has
-    (ap (λ (x : FactProof). get_or c.args.earlier.proofs.now c.loop-k.k x) c.index-earlier-k.is)
-    (c.in_ok-proof.ensures {u = tt}))));
+      c.args.earlier.proofs.now c.in_ok-into.into.items c.loop-k.k c.index-rule.result.now c.index-preps-rule.result
+      c.index-unders-rule.result (get_or c.args.earlier.proofs.now c.loop-k.k c.index-earlier-k.result) _ c.requires.rows (c.in_ok-into.ensures {u = tt}) (omega arith)
+      c.index-rule.ensures (into-rule (program_of c.args.p.now) c.args.earlier.fact.symbol c.loop-k.k c.index-rule.result.now
+      c.in_ok-into.into.items (c.in_ok-into.ensures {u = tt}) (omega arith) c.index-rule.ensures) c.index-preps-rule.is
+      (later-read (program_of c.args.p.now) c.args.pivots old kept c.args.unders.now c.index-rule.result.now
+      c.index-unders-rule.result (into-rule (program_of c.args.p.now) c.args.earlier.fact.symbol c.loop-k.k c.index-rule.result.now
+      c.in_ok-into.into.items (c.in_ok-into.ensures {u = tt}) (omega arith) c.index-rule.ensures) are c.index-unders-rule.is) all has
+      (ap (λ (x : FactProof). get_or c.args.earlier.proofs.now c.loop-k.k x) c.index-earlier-k.is)
+      (c.in_ok-proof.ensures {u = tt}))));
 }
 
 pub returns : goal.returns

@@ -1,6 +1,4 @@
-use Rattle.std.proofs.Common.{◌≡◌, ◌++◌, ap, arith, refl, ◌∙◌, List, length, map, subst, sym}
-use Rattle.std.specs.List.{All}
-use Rattle.poly_terms.specs.declared.poly.Row.{Row}
+use Rattle.std.proofs.Common.{◌≡◌, arith, ◌∙◌, length, sym}
 use Rattle.its_model.specs.Views.{program_of, rule_of}
 use Rattle.location_facts.proofs.CombinedLists.{prepared-at, prepared-many}
 use Rattle.location_facts.proofs.ShownRules.{read, rule-count}
