@@ -1,5 +1,5 @@
-//! Gaps as lines write them: RULE:SET:SHUT:MOVES:FLOOR:KEPT. SHUT is pairs of a symbol and a place divided by `/`; MOVES
-//! and KEPT are points divided by `/`, and a point is its parts and then its denominator.
+//! Gaps as lines write them: RULE:SET:SHUT:MOVES:FLOOR:KEPT. SHUT is pairs of a symbol and a place divided by `/`;
+//! MOVES and KEPT are points divided by `/`, and a point is its parts and then its denominator.
 
 use crate::words::{number, numbers, part, parts_of, signed};
 use farkas_cert::Scaled;

@@ -1,11 +1,12 @@
 //! Lemmas as lines write them: the words of their nodes, each behind those of its children. What a word is behind its
 //! kind, colons divide:
-//! `start`, `cite:LEMMA`, `empty:RULE:MULTIPLIERS`, `unreached:RULE:USES`, `never`, `weaken:NUMBER`,
+//! `start`, `cite:LEMMA`, `empty:RULE:MULTIPLIERS`, `unreached:RULE:USES`, `never`, `weaken:BOUND`,
 //! `rank:RULE:SET:DEN:FORMS:MOVES:FLOOR:USES`, `spread:RULE:PLACE:UP:LOW:USES`, `cycle:MEMBERS:USES`,
-//! `cost:RULE:BY:USES`, where USES says how many of the nodes before are its uses.
+//! `cost:RULE:BY:USES`, where USES says how many of the nodes before are its uses. A bound is a term, or several that `+`
+//! divides: a number, `v` with the number of an input from 0, or `b` with a base, which is raised to 1.
 
 use crate::nodes::{cost_node, cycle_node, empty_node, rank_node, spread_node};
-use crate::words::{number, part, parts_of};
+use crate::words::{number, part, parts_of, wide};
 use bound_expr::Bound;
 use model::Memory;
 use proof_tree::{Proof, UnreachedNode};
@@ -29,10 +30,10 @@ fn node(alloc: Global, word: &str, stack: &mut Vec<Proof>) -> Result<Proof, Memo
         "cite" => Ok(Proof::Cite(number(rest))),
         "empty" => Ok(Proof::Empty(Box::new(alloc, empty_node(alloc, &parts)?)?)),
         "never" => Ok(Proof::Never(Box::new(alloc, child(stack))?)),
-        "weaken" => Ok(Proof::Weaken(
-            Box::new(alloc, child(stack))?,
-            Bound::Const(u128::from(number(rest))),
-        )),
+        "weaken" => {
+            let weaker = bound(alloc, rest)?;
+            Ok(Proof::Weaken(Box::new(alloc, child(stack))?, weaker))
+        }
         _ => keyed_node(alloc, kind, &parts, stack),
     }
 }
@@ -94,4 +95,27 @@ fn last(alloc: Global, stack: &mut Vec<Proof>, count: u32) -> Result<Vec<Proof>,
         }
     }
     Ok(uses)
+}
+
+// A bound: a term, or a sum of several.
+fn bound(alloc: Global, text: &str) -> Result<Bound, Memory> {
+    let mut terms = Vec::new(alloc);
+    for word in text.split('+') {
+        terms.push(term(alloc, word)?)?;
+    }
+    if terms.len() > 1 {
+        return Ok(Bound::Sum(terms));
+    }
+    Ok(terms.pop().unwrap_or(Bound::Const(0)))
+}
+
+// A term of a bound.
+fn term(alloc: Global, word: &str) -> Result<Bound, Memory> {
+    if let Some((_, input)) = word.split_once('v') {
+        return Ok(Bound::Var(number(input)));
+    }
+    if let Some((_, base)) = word.split_once('b') {
+        return Ok(Bound::Power(wide(base), Box::new(alloc, Bound::Const(1))?));
+    }
+    Ok(Bound::Const(word.parse::<u128>().unwrap_or(0)))
 }

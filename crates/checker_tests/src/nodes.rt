@@ -1,6 +1,6 @@
 //! Nodes by the parts of their words.
-//! MULTIPLIERS, SET and FLOOR are numbers divided by commas; MOVES are such lists divided by `/`; FORMS are divided by `/`
-//! too, each a symbol, the constant and the coefficients. An arm is `poly`, or a denominator, the constant and the
+//! MULTIPLIERS, SET and FLOOR are numbers divided by commas; MOVES are such lists divided by `/`; FORMS are divided by
+//! `/` too, each a symbol, the constant and the coefficients. An arm is `poly`, or a denominator, the constant and the
 //! coefficients, and behind a `/` the multipliers. MEMBERS are divided by `+`, each RULE=PLACE=UP=LOW. BY is `never`,
 //! `empty=` with multipliers, or an arm.
 

@@ -267,7 +267,9 @@ fn the_first_put_may_stop_after_any_bytes(rt: HostRuntime) -> Result<(), Fail> {
     let alloc = rt.alloc();
     let mut other = 0;
     for bytes in 0..BOUNDED.len() as u64 {
-        other += u64::from(is_otherwise_stopped(alloc, bytes)? && other < 1000);
+        if is_otherwise_stopped(alloc, bytes)? {
+            other += u64::from(other < 1000);
+        }
     }
     assert_eq!(rt; other, 0);
     Ok(())

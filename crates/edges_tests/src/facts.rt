@@ -6,8 +6,7 @@ use std::alloc::{AllocError, Global};
 use std::test::Fail;
 
 // A loop that steps by an argument which is 1.
-const STEPPING: &str =
-    "l0(A,B) -> Com_1(l1(A,1)) l1(A,B) -> Com_1(l1(A-B,B)) :|: A >= 1";
+const STEPPING: &str = "l0(A,B) -> Com_1(l1(A,1)) l1(A,B) -> Com_1(l1(A-B,B)) :|: A >= 1";
 
 // Words before the file, rules, and the status and the text of the answer. In the second program a fact is all that is
 // found; in the third both values are 1 only as each takes the other's; in the fourth a symbol that only its own rule

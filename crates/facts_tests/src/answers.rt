@@ -1,12 +1,14 @@
 //! The answer to a line: a call, and behind a blank facts with their proofs, a semicolon, and rules.
 
+ghost use Rattle.std.specs.Prelude.{IfOk};
 ghost use Rattle.its_model.specs.Valid.{IsValid};
 ghost use Rattle.its_model.specs.Views.{program_of};
 
 use crate::listed::listed_facts;
-use crate::programs::{all_rows, program, text_of};
+use crate::programs::{all_rows, one_line, program};
 use its_model::Program;
-use location_facts::{LocFacts, facts, facts_fault, strengthen};
+use its_writer::print;
+use location_facts::{LocFact, LocFacts, facts, facts_fault, strengthen};
 use model::Memory;
 use std::alloc::Global;
 
@@ -14,8 +16,9 @@ use std::alloc::Global;
 ///
 /// `faults` is answered by what is wrong first with the facts: `nothing`, or the number of a fact and of a rule.
 /// `strengthened` is answered by the canonical text of the program that is strengthened by them, with `/` for a line
-/// feed, where nothing is wrong with them. `kept` has a number of pivots in place of facts, and is answered by how many
-/// facts are kept within it, and by what is wrong first with them.
+/// feed, where nothing is wrong with them. The other calls have a number of pivots in place of facts, and speak of the
+/// facts that are kept within it: `kept` is answered by these facts, as a line writes them, or `none`, and by what is
+/// wrong first with them; and `found` by the text of the program that is strengthened by them.
 pub(crate) fn answer(alloc: Global, line: &str) -> Result<String, Memory> {
     let Some((call, rest)) = line.split_once(' ') else {
         return String::from_str(alloc, line);
@@ -28,10 +31,16 @@ pub(crate) fn answer(alloc: Global, line: &str) -> Result<String, Memory> {
         Some(p) => match call {
             "faults" => fault_text(alloc, &p, &listed_facts(alloc, facts)?),
             "strengthened" => strengthened_text(alloc, &p, &listed_facts(alloc, facts)?),
-            "kept" => kept_text(alloc, &p, facts.trim().parse::<u32>().unwrap_or(0)),
+            "kept" => kept_text(alloc, &p, pivots_of(facts)),
+            "found" => found_text(alloc, &p, pivots_of(facts)),
             _ => String::from_str(alloc, "no call"),
         },
     }
+}
+
+// A number of pivots.
+fn pivots_of(text: &str) -> u32 {
+    text.trim().parse::<u32>().unwrap_or(0)
 }
 
 // What is wrong first with facts, as text.
@@ -49,16 +58,53 @@ fn strengthened_text(alloc: Global, p: &Program, facts: &LocFacts) -> Result<Str
     requires { IsValid (program_of p.now) }
 {
     match facts_fault(alloc, p, &all_rows(alloc, p)?, facts)? {
-        None => text_of(alloc, &strengthen(alloc, p, facts)?),
+        None => one_line(alloc, &print(alloc, &strengthen(alloc, p, facts)?)?),
         Some(_) => String::from_str(alloc, "something is wrong"),
     }
 }
 
-// How many facts are kept within a number of pivots, and what is wrong first with them.
+// The facts that are kept within a number of pivots, and what is wrong first with them.
 fn kept_text(alloc: Global, p: &Program, pivots: u32) -> Result<String, Memory>
     requires { IsValid (program_of p.now) }
 {
     let found = facts(alloc, p, &all_rows(alloc, p)?, pivots)?;
+    let listed = listed_text(alloc, &found.kept)?;
     let fault = fault_text(alloc, p, &found)?;
-    format!(in alloc; "{}, {fault} wrong", found.kept.len())
+    format!(in alloc; "{listed}, {fault} wrong")
+}
+
+// Facts as a line writes them.
+fn listed_text(alloc: Global, kept: &[LocFact]) -> Result<String, Memory> {
+    let mut text = String::new(alloc);
+    for fact in kept {
+        if !text.is_empty() {
+            text.push_str(" | ")?;
+        }
+        let numbers = format!(in alloc;
+            "{} {} {} {}",
+            fact.symbol, fact.plus, fact.minus, fact.least
+        )?;
+        text.push_str(&numbers)?;
+    }
+    if kept.is_empty() {
+        text.push_str("none")?;
+    }
+    Ok(text)
+}
+
+// The program that is strengthened by the facts that are kept within a number of pivots.
+fn strengthened_by_kept(alloc: Global, p: &Program, pivots: u32) -> Result<Program, Memory>
+    requires { IsValid (program_of p.now) }
+    ensures { IfOk result (λ q. IsValid (program_of q)) }
+{
+    let found = facts(alloc, p, &all_rows(alloc, p)?, pivots)?;
+    strengthen(alloc, p, &found)
+}
+
+// Its text.
+fn found_text(alloc: Global, p: &Program, pivots: u32) -> Result<String, Memory>
+    requires { IsValid (program_of p.now) }
+{
+    let strong = strengthened_by_kept(alloc, p, pivots)?;
+    one_line(alloc, &print(alloc, &strong)?)
 }

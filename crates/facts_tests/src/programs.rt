@@ -8,7 +8,6 @@ ghost use Rattle.proof_tree.specs.Composing.{AreRowsOf};
 use guard_prep::{RuleRows, rows};
 use its_model::Program;
 use its_reader::{ReadError, read};
-use its_writer::print;
 use model::Memory;
 use std::alloc::{AllocError, Global};
 
@@ -38,11 +37,10 @@ pub(crate) fn all_rows(alloc: Global, p: &Program) -> Result<Vec<RuleRows>, Memo
     Ok(preps)
 }
 
-/// The canonical text of a program in one line, in which `/` stands for a line feed.
-pub(crate) fn text_of(alloc: Global, p: &Program) -> Result<String, Memory> {
-    let text = print(alloc, p)?;
+/// A text in one line, in which `/` stands for a line feed.
+pub(crate) fn one_line(alloc: Global, text: &[u8]) -> Result<String, Memory> {
     let mut line = Vec::new(alloc);
-    for byte in &text {
+    for byte in text {
         line.push(if *byte == b'\n' { b'/' } else { *byte })?;
     }
     String::from_str(alloc, str::from_utf8(&line).unwrap_or("no text"))

@@ -1,8 +1,10 @@
 -- Lists of facts, round by round: those that meet a condition, one fact after the other.
-use Rattle.std.proofs.Common.{◌≡◌, inl, inr, ℕ, suc, ◌+◌, ◌≤◌, refl, sym, ap, ◌∙◌, arith, subst, List, []}
+use Rattle.std.proofs.Common.{◌≡◌, inl, inr, ℕ, zero, suc, ◌+◌, ◌≤◌, refl, sym, ap, ◌∙◌, arith, subst, List, []}
 use Rattle.std.proofs.Common.{◌∷◌, ◌++◌}
-use Rattle.std.proofs.Common.{length}
+use Rattle.std.proofs.Common.{length, Some}
+use Rattle.std.specs.Prelude.{slice_get}
 use Rattle.poly_terms.specs.model.Programs.{Program}
+use Rattle.poly_terms.proofs.model.Cases.{some_same}
 use Rattle.location_facts.specs.declared.fact.LocFact.{LocFact}
 use Rattle.location_facts.specs.Candidates.{order_number}
 use Rattle.location_facts.specs.Kept.{HasThose}
@@ -38,6 +40,19 @@ module _ (Keeps : LocFact → Type 0) where
       let m = ap (λ (xs : List LocFact). length xs) e in
       e ∙ ap (λ (xs : List LocFact). g ∷ xs) (those-all facts rest h (omega (arith, l, m)))
   those-all (g ∷ facts) those (inr (drops, h)) l = absurd (let m = those-most facts those h in omega (arith, l, m))
+
+  -- each of them meets it
+  pub those-keep : (facts those : List LocFact) → HasThose Keeps facts those → (i : ℕ) (f : LocFact)
+      → slice_get those i ≡ Some f → Keeps f
+  those-keep [] those h i f e = absurd (let same : ⊥ = nowhere i (sym (ap (λ (xs : List LocFact). slice_get xs i) h) ∙ e) in same)
+    where
+      nowhere : (i : ℕ) → slice_get [] i ≡ Some f → ⊥
+      nowhere i e = cc
+  those-keep (g ∷ facts) those (inl (kg, (rest, same, h))) zero f e =
+      subst Keeps (some_same g f (sym (ap (λ (xs : List LocFact). slice_get xs zero) same) ∙ e)) kg
+  those-keep (g ∷ facts) those (inl (kg, (rest, same, h))) (suc i) f e =
+      those-keep facts rest h i f (sym (ap (λ (xs : List LocFact). slice_get xs (suc i)) same) ∙ e)
+  those-keep (g ∷ facts) those (inr (drops, h)) i f e = those-keep facts those h i f e
 
   -- those of facts in order are in order
   pub those-between : (p : Program) (k n : ℕ) (facts those : List LocFact) → HasThose Keeps facts those

@@ -36,6 +36,8 @@ pub mod UnderRules
 pub mod NextFacts
 pub mod ProofSteps
 pub mod FirstFaults
+-- rules under a later list
+pub mod LaterRules
 -- values that were worked out by hand
 pub mod WorkedFacts
 pub mod WorkedFaults

@@ -178,12 +178,18 @@ rule-there p s (suc i) (l, h) e =
     let (r, there) = slice_get-there p.rules i (omega (arith, h)) in
     (r, there, some_same r.target s (sym (target_of-rule p (suc i) r there) ∙ same_told (target_of p (suc i)) s e))
 
--- where one rule into its symbol doesn't imply it, not every one does
-pub missed : (p : Program) (pivots : ℕ) (kept : List LocFact) (f : LocFact) (k t : ℕ) → k < length (rules_into p f.symbol)
-    → t ≡ get_or (rules_into p f.symbol) k t → ¬ IsImplied pivots (forms_at p t) kept f
-    → ¬ IsImpliedByAll p pivots kept f
-missed p pivots kept f k t l e h all =
+-- where every rule implies it, each of those into its symbol does
+pub implied-at : (p : Program) (pivots : ℕ) (kept : List LocFact) (f : LocFact) (k t : ℕ)
+    → k < length (rules_into p f.symbol) → t ≡ get_or (rules_into p f.symbol) k t → IsImpliedByAll p pivots kept f
+    → IsImplied pivots (forms_at p t) kept f
+implied-at p pivots kept f k t l e all =
     let (r, there, same) = rule-there p f.symbol t (into-rule p f.symbol k t (rules_into p f.symbol) refl l e)
     (subst (λ (u : ℕ). same_symbol (target_of p u) (Some f.symbol) ≡ true) (sym e)
     (filter_passes (λ u. same_symbol (target_of p u) (Some f.symbol)) (range_with_len 1 (length p.rules)) k t l)) in
-    h (all.each t r there same)
+    all.each t r there same
+
+-- so where one doesn't, not every rule does
+pub missed : (p : Program) (pivots : ℕ) (kept : List LocFact) (f : LocFact) (k t : ℕ) → k < length (rules_into p f.symbol)
+    → t ≡ get_or (rules_into p f.symbol) k t → ¬ IsImplied pivots (forms_at p t) kept f
+    → ¬ IsImpliedByAll p pivots kept f
+missed p pivots kept f k t l e h all = h (implied-at p pivots kept f k t l e all)

@@ -15,3 +15,4 @@ pub mod WorkedKept
 pub mod CombinedRows
 pub mod Replies
 pub mod Implied
+pub mod Later

@@ -198,8 +198,8 @@ fn times(alloc: Global, den: u64, goal: &Row) -> Result<Row, Memory>
     Ok(Row { coefs, constant })
 }
 
-// A number of a form times another.
-fn product(number: i128, den: u64) -> i128
+/// A number of a form times another.
+pub(crate) fn product(number: i128, den: u64) -> i128
     requires number { nat_abs number ≤ 2 ^ 65 }
     requires den { den ≤ certificate_limit }
     ensures { result ≡ pos den *ℤ number }

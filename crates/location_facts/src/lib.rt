@@ -12,6 +12,7 @@ mod copies;
 mod fact;
 mod faults;
 mod implied;
+mod later;
 mod laws;
 mod rounds;
 mod rows;

@@ -13,17 +13,19 @@ use crate::candidates::all_candidates;
 use crate::checks::rules_into;
 use crate::fact::{FactProof, LocFact, LocFacts};
 use crate::implied::{Under, proof_under, rule_under};
+use crate::later::later_facts;
 use guard_prep::RuleRows;
 use its_model::Program;
 use poly_terms::Memory;
 use std::alloc::Global;
 
 /// The facts that are kept within a number of pivots, with proofs of which nothing is wrong. All facts that are tried
-/// come first; from each list those go that some rule into their symbol doesn't imply under it, until all are kept.
+/// come first; from each list those go that some rule into their symbol doesn't imply under it, until all are kept. What
+/// a rule says stands while the facts at its source do.
 ///
-/// Each round asks anew whether the combined rows of each rule have no point, and where they may have one, which facts
-/// at its target follow from them: one linear program each. So it takes long on programs with many rules and places:
-/// 206 rules and 8 places are some 294,000 linear programs.
+/// The first round asks of each rule whether its combined rows have no point, and where they may have one, which facts at
+/// its target follow from them: one linear program each. A later round asks this of the rules at whose source a fact
+/// went. On programs with many rules and places these are many linear programs still.
 ///
 /// # Errors
 ///
@@ -40,14 +42,13 @@ pub fn facts(
     ensures proved { IfOk result (λ f. AreProved (program_of p.now) f.kept.items (proofs_of f)) }
 {
     let mut kept = all_candidates(alloc, p)?;
-    loop {
-        let found = next_facts(alloc, p, preps, pivots, &kept)?;
-        let LocFacts { kept: next, proofs } = found;
-        if next.len() == kept.len() {
-            return Ok(LocFacts { kept: next, proofs });
-        }
-        kept = next;
+    let mut found = next_facts(alloc, p, preps, pivots, &kept)?;
+    while found.kept.len() < kept.len() {
+        let next = later_facts(alloc, p, preps, &kept, &found, pivots)?;
+        kept = found.kept;
+        found = next;
     }
+    Ok(found)
 }
 
 // The facts of a list that every rule into their symbol implies under it, with proofs over the rows under that list.
@@ -77,8 +78,8 @@ fn next_facts(
     })
 }
 
-// Appends a fact with its proofs, where it has them.
-fn push_shown(
+/// Appends a fact with its proofs, where it has them.
+pub(crate) fn push_shown(
     found: &mut Vec<LocFact>,
     proofs: &mut Vec<Vec<FactProof>>,
     fact: LocFact,

@@ -23,7 +23,8 @@ abbrev pub IsPlaced : Kept → Use → Type 0
 IsPlaced kept (by.Kept n) = n < length kept.stated.items
 IsPlaced kept (by.Own facts) = ⊤
 
--- what is kept of accepted lemmas of a program: at position 0 the facts of its virtual entry, and the facts of each lemma
+-- what is kept of accepted lemmas of a program: at position 0 the facts of its virtual entry, and the facts of each
+-- lemma
 pub record IsKeptOf (p : Program) (s : Setting) (lemmas : List Proof) (kept : Kept) : Type 0 where
   pub some : 0 < length kept.stated.items
   pub start : stated_at kept 0 ≡ start_facts p

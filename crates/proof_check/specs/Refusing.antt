@@ -15,8 +15,8 @@ use Rattle.proof_check.specs.declared.refusal.TreeFault.TheVariants as tree
 abbrev pub ArePassed : Setting → List (List Fact) → List Proof → Type 0
 ArePassed s past nodes = AllByRecursion (AcceptsNode s past) nodes
 
--- so many nodes having been judged before: the first of these nodes that isn't accepted is told, with its number and its
--- first reason; want of memory tells nothing
+-- so many nodes having been judged before: the first of these nodes that isn't accepted is told, with its number and
+-- its first reason; want of memory tells nothing
 abbrev pub RefusesAmong : Setting → List (List Fact) → List Proof → ℕ → TreeFault → Type 0
 RefusesAmong s past nodes before (tree.Refused number reason) =
     (n : ℕ) × (number ≡ before + n)

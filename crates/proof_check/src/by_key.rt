@@ -61,7 +61,8 @@ pub(crate) fn spread(
         (λ facts. States
         (spread_checks (setting ground.now) (table_of (joined_by kept.now uses.now)) (spread_member node.now))
         (Size node.now.spot.rule node.now.spot.place ((setting ground.now).rewrite
-        (spread_size (setting ground.now) (table_of (joined_by kept.now uses.now)) (spread_member node.now))) ∷ []) facts)
+        (spread_size (setting ground.now) (table_of (joined_by kept.now uses.now)) (spread_member node.now))) ∷ [])
+        facts)
         (λ fault. Refuses
         (spread_checks (setting ground.now) (table_of (joined_by kept.now uses.now)) (spread_member node.now)) fault) }
 {
@@ -84,7 +85,8 @@ pub(crate) fn looped(
     requires { IsGround ground.now }
     ensures { MatchResult result
         (λ facts. States
-        (cycle_checks (setting ground.now) (table_of (joined_by kept.now uses.now)) (map member_of node.now.members.items))
+        (cycle_checks (setting ground.now) (table_of (joined_by kept.now uses.now))
+        (map member_of node.now.members.items))
         (facts_of_loop ((setting ground.now).rewrite (cycle_size (setting ground.now)
         (table_of (joined_by kept.now uses.now)) (map member_of node.now.members.items)))
         (map member_of node.now.members.items)) facts)

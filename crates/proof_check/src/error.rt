@@ -9,8 +9,8 @@ use std::alloc::{AllocError, AllocFailed};
 /// Why a proof file isn't accepted.
 #[derive(Clone, Copy, Debug, PartialEq, Eq)]
 pub enum CheckError {
-    /// The first node that isn't accepted, by its number in its lemma, and the first reason. Lemmas and nodes count from
-    /// 1, each node after its children.
+    /// The first node that isn't accepted, by its number in its lemma, and the first reason. Lemmas and nodes count
+    /// from 1, each node after its children.
     No {
         lemma: u32,
         node: u32,

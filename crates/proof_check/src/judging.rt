@@ -94,7 +94,8 @@ fn judge_all(
     requires few { before + length (nodes_in (map proof_of proofs.now)) < 2 ^ 32 }
     ensures { MatchResult result
         (λ joined. AreWhole (setting ground.now) kept.now (map proof_of proofs.now) before joined)
-        (λ fault. RefusesAmong (setting ground.now) (past_of kept.now) (nodes_in (map proof_of proofs.now)) before fault) }
+        (λ fault. RefusesAmong (setting ground.now) (past_of kept.now) (nodes_in (map proof_of proofs.now)) before
+        fault) }
 {
     let mut uses = Vec::new(alloc);
     let mut count = before;

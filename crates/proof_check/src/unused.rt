@@ -70,7 +70,8 @@ pub(crate) fn never_facts(
     facts: &[Fact],
 ) -> Result<Vec<Fact>, NodeFault>
     ensures { MatchResult result
-        (λ stated. States (never_checks (facts_of facts.now)) (never_facts_of (program_of p.now) (facts_of facts.now)) stated)
+        (λ stated. States (never_checks (facts_of facts.now))
+        (never_facts_of (program_of p.now) (facts_of facts.now)) stated)
         (λ fault. Refuses (never_checks (facts_of facts.now)) fault) }
 {
     let Some((rule, bound)) = only_time(facts) else {

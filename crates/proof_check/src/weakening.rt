@@ -50,7 +50,8 @@ pub(crate) fn weaker_facts(
     ensures { MatchResult result
         (λ stated. States (weaken_checks (setting_of (program_of p.now)) (facts_of facts.now) (bound_of bound.now))
         (weakened (facts_of facts.now) (bound_of bound.now)) stated)
-        (λ fault. Refuses (weaken_checks (setting_of (program_of p.now)) (facts_of facts.now) (bound_of bound.now)) fault) }
+        (λ fault. Refuses
+        (weaken_checks (setting_of (program_of p.now)) (facts_of facts.now) (bound_of bound.now)) fault) }
 {
     if !is_writable(bound, arity_at(p, p.start)) {
         return Err(NodeFault::Refused(Reason::Shape));

@@ -1,6 +1,6 @@
 -- Facts that are looked up by their keys: of each key the position of the first fact that has it.
-use Rattle.std.specs.Prelude.{◌≡◌, ℕ, suc, ◌==◌, ◌&&◌, Bool, false, cond, List, [], ◌∷◌, map, Option, Some, None, option_map}
-use Rattle.std.specs.Prelude.{slice_get}
+use Rattle.std.specs.Prelude.{◌≡◌, ℕ, suc, ◌==◌, ◌&&◌, Bool, false, cond, List, [], ◌∷◌, map, Option, Some, None}
+use Rattle.std.specs.Prelude.{option_map, slice_get}
 use Rattle.std.specs.BTreeMap.{BTreeMap, get}
 use Rattle.std.specs.Ordering.{nat_cmp, ordering_then}
 use Rattle.std.specs.declared.cmp.Ordering.{Ordering}

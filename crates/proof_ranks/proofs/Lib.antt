@@ -6,6 +6,7 @@ mod GoalForms
 mod RankShapes
 -- forms of ranking functions
 mod RankForms
+mod OrderedForms
 -- rows of what is lost
 mod LossRows
 -- places that are read

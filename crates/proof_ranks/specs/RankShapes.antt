@@ -27,7 +27,8 @@ pub record HasMoves (s : Setting) (set : List ℕ) (moves : List (List ℕ)) : T
   pub long : length moves ≡ length set
   pub each : AllByRecursion (λ t. AreMultipliers s t (moves_of set moves t)) set
 
--- the denominator is at least 1 and within the limit, and there are multipliers for each rule of the set and for the floor
+-- the denominator is at least 1 and within the limit, and there are multipliers for each rule of the set and for the
+-- floor
 pub record HasRankNumbers (s : Setting) (node : RankNode) : Type 0 where
   pub den : 1 ≤ node.den
   pub den_limit : IsInLimit node.den

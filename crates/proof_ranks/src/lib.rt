@@ -3,6 +3,7 @@
 //! them, with the fact that it states; else it names the first check that fails. No linear program is solved.
 #![tactic(auto)]
 
+mod forms;
 mod goals;
 mod losing;
 mod rank_shape;

@@ -12,11 +12,12 @@ ghost use Rattle.proof_tree.specs.proof_nodes.AcceptsRank.{HasFloor, HasRankShap
 ghost use Rattle.proof_tree.specs.proof_nodes.AcceptsRank.{least_loss};
 ghost use Rattle.proof_tree.specs.proof_nodes.Limits.{AreInLimit, IsInLimit};
 
+use crate::forms::form_at;
 use crate::goals::{floor_row, loss_row};
 use farkas_cert::implies;
 use model::Memory;
 use proof_facts::{Ground, prep};
-use proof_tree::{RankNode, rank_form, source_of, target_of};
+use proof_tree::{RankNode, source_of, target_of};
 use std::alloc::Global;
 
 // What has to be lost by a rule.
@@ -41,12 +42,13 @@ fn is_losing(
     requires rule { IsRule (program ground.now) rule }
     requires limit { AreInLimit moves.now }
     ensures { IfOk result (λ is_losing. IsTrue is_losing ↔ Implies ((setting ground.now).rows rule) moves.now
-        (loss (at_source (program ground.now) (rank_of node.now) rule) (at_target (program ground.now) (rank_of node.now) rule)
+        (loss (at_source (program ground.now) (rank_of node.now) rule)
+        (at_target (program ground.now) (rank_of node.now) rule)
         ((setting ground.now).news rule) (least_loss (rank_of node.now) rule))) }
 {
     let rows = prep(ground, rule);
-    let before = rank_form(&node.forms, source_of(ground.program, rule));
-    let after = rank_form(&node.forms, target_of(ground.program, rule));
+    let before = form_at(&node.forms, source_of(ground.program, rule));
+    let after = form_at(&node.forms, target_of(ground.program, rule));
     let least = least_of(node, rule);
     let goal = loss_row(
         alloc,
@@ -117,7 +119,7 @@ pub(crate) fn has_floor(alloc: Global, ground: &Ground, node: &RankNode) -> Resu
     ensures { IfOk result (λ has_floor. IsTrue has_floor ↔ HasFloor (setting ground.now) (rank_of node.now)) }
 {
     let rows = prep(ground, node.rule);
-    let before = rank_form(&node.forms, source_of(ground.program, node.rule));
+    let before = form_at(&node.forms, source_of(ground.program, node.rule));
     let goal = floor_row(alloc, rows.unknowns as usize, before, node.den)?;
     Ok(implies(&rows.rows, &node.floor, &goal))
 }

@@ -7,10 +7,11 @@ ghost use Rattle.proof_tree.specs.Views.{rank_of, spot_of};
 ghost use Rattle.proof_tree.specs.proof_nodes.AcceptsRank.{HasRankShape};
 ghost use Rattle.proof_tree.specs.proof_nodes.Checks.{needed_after_each};
 
+use crate::forms::form_at;
 use crate::goals::coefs_of;
 use model::Memory;
 use proof_facts::{Ground, coefficient};
-use proof_tree::{RankNode, Spot, rank_form, target_of};
+use proof_tree::{RankNode, Spot, target_of};
 use std::alloc::Global;
 
 // The place after a rule at a position.
@@ -56,7 +57,7 @@ pub(crate) fn needed_spots(
 {
     let mut spots = Vec::new(alloc);
     for entry in entering {
-        let form = rank_form(&node.forms, target_of(ground.program, *entry));
+        let form = form_at(&node.forms, target_of(ground.program, *entry));
         push_read(&mut spots, coefs_of(form), *entry)?;
     }
     Ok(spots)

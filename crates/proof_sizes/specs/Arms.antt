@@ -47,5 +47,6 @@ IsLeftAlone left (Some q) = ReadsLeft left q
 -- own polynomial, in left variables
 abbrev pub IsArmOver : RuleRows → ℕ → nodes.Side → Arm → Type 0
 IsArmOver m place s (Linear den form multipliers) =
-    Implies (map form_of m.rows.items) multipliers (arm_goal s den form (form_at (map form_of m.news.items) (place - 1)))
+    Implies (map form_of m.rows.items) multipliers
+    (arm_goal s den form (form_at (map form_of m.news.items) (place - 1)))
 IsArmOver m place s Poly = IsLeftAlone m.left (bent_at (map poly_of m.polys.items) (place - 1))

@@ -37,7 +37,8 @@ pub(crate) fn arm_cost<K: Known>(
     known: &K,
 ) -> Result<Bound, NodeFault>
     requires rule { IsCostRule costing.now }
-    requires numbers { HasArmNumbers (length costing.now.prepared.rows.items) costing.now.prepared.left (arm_of arm.now) }
+    requires numbers { HasArmNumbers (length costing.now.prepared.rows.items) costing.now.prepared.left
+        (arm_of arm.now) }
     ensures { AnswersCost costing.now (K.table known.now) (ArmCost (arm_of arm.now)) result }
 {
     let accepted = accepts_arm(alloc, &costing.prepared, 1, Side::Up, arm)?;
@@ -53,7 +54,8 @@ pub(crate) fn arm_cost<K: Known>(
     sized_cost(alloc, costing, arm, known)
 }
 
-// The cost that is stated by an arm that is accepted, of a rule with a time: each place that the arm reads needs a size.
+// The cost that is stated by an arm that is accepted, of a rule with a time: each place that the arm reads needs a
+// size.
 fn sized_cost<K: Known>(
     alloc: Global,
     costing: &CostRule,
@@ -61,7 +63,8 @@ fn sized_cost<K: Known>(
     known: &K,
 ) -> Result<Bound, NodeFault>
     requires rule { IsCostRule costing.now }
-    requires numbers { HasArmNumbers (length costing.now.prepared.rows.items) costing.now.prepared.left (arm_of arm.now) }
+    requires numbers { HasArmNumbers (length costing.now.prepared.rows.items) costing.now.prepared.left
+        (arm_of arm.now) }
     requires up { AcceptsCostArm (cost_setting costing.now) costing.now.rule (arm_of arm.now) }
     requires time { HasTime (K.table known.now) costing.now.rule }
     ensures { AnswersCost costing.now (K.table known.now) (ArmCost (arm_of arm.now)) result }

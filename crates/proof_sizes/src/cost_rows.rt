@@ -15,8 +15,8 @@ use proof_facts::{Ground, are_within_limit, is_rule};
 use proof_tree::CostBy;
 use std::alloc::Global;
 
-/// A rule with a cost, and what was prepared of its cost rule: the rows of its guard and of the atom that the cost is at
-/// least 0, and the cost as the one new value.
+/// A rule with a cost, and what was prepared of its cost rule: the rows of its guard and of the atom that the cost is
+/// at least 0, and the cost as the one new value.
 #[derive(Drop)]
 pub struct CostRule<'a> {
     pub ground: &'a Ground<'a>,

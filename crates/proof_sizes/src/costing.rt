@@ -70,7 +70,8 @@ fn cost_by<K: Known>(
     known: &K,
 ) -> Result<Bound, NodeFault>
     requires rule { IsCostRule costing.now }
-    requires numbers { HasNumbersBy (length costing.now.prepared.rows.items) costing.now.prepared.left (cost_by_of by.now) }
+    requires numbers { HasNumbersBy (length costing.now.prepared.rows.items) costing.now.prepared.left
+        (cost_by_of by.now) }
     ensures { AnswersCost costing.now (K.table known.now) (cost_by_of by.now) result }
 {
     match by {

@@ -7,8 +7,8 @@ ghost use Rattle.proof_facts.specs.NodeAnswers.{Refuses, States};
 ghost use Rattle.gap_checks.specs.GapTests.{IsFirstFailing};
 ghost use Rattle.proof_tree.specs.Views.{member_of, spot_of};
 ghost use Rattle.proof_tree.specs.proof_nodes.AcceptsSizes.{AcceptsLow, AcceptsUp, AreAscending, ComesBefore};
-ghost use Rattle.proof_tree.specs.proof_nodes.AcceptsSizes.{HasCycleShape, HasMemberShape, cycle_facts as facts_of_loop};
-ghost use Rattle.proof_tree.specs.proof_nodes.AcceptsSizes.{cycle_size};
+ghost use Rattle.proof_tree.specs.proof_nodes.AcceptsSizes.{HasCycleShape, HasMemberShape};
+ghost use Rattle.proof_tree.specs.proof_nodes.AcceptsSizes.{cycle_facts as facts_of_loop, cycle_size};
 ghost use Rattle.proof_tree.specs.proof_nodes.Checks.{cycle_checks};
 
 use crate::members::{accepts_low, accepts_up, has_member_shape};

@@ -30,6 +30,7 @@ use Rattle.bound_rounds.specs.Components.{IsDead}
 use Rattle.bound_rounds.specs.Keys.{IsPlace}
 use Rattle.bound_rounds.specs.Searches.{HasPoint}
 use Rattle.time_bounds.specs.ProgramRules.{IsEmptinessOf, IsEmptyRule}
+use Rattle.time_bounds.specs.ProgramSearches.{searches_of_program}
 use Rattle.time_bounds.specs.ProgramSizes.{AreLive, IsLocalOf, AreLocals}
 use Rattle.time_bounds.specs.SizeWhys.{IsComponentOf}
 use Rattle.time_bounds.proofs.OneProgram.{program_searches_one}
@@ -68,7 +69,7 @@ apart : AreComponents (setting_of doubling.program) both_live double_locals two_
 apart = record { positions = both_listed; listing = two_listed Flow lead; spots = refl }
 
 -- the point 1 is near and read off the dual, where a rule has one unknown and no rows
-near_one : (r : Rule) → (prepared r).unknowns ≡ 1 → (prepared r).rows ≡ [] → IsNearPoint (prepared r) one
+pub near_one : (r : Rule) → (prepared r).unknowns ≡ 1 → (prepared r).rows ≡ [] → IsNearPoint (prepared r) one
 near_one r unknowns rows = record {
   long = sym unknowns;
   parts_limit = All-cons (λ (a : ℤ). nat_abs a ≤ point_limit) (pos 1) [] (omega arith)
@@ -84,7 +85,7 @@ near_one r unknowns rows = record {
 }
 
 -- so it is the answer, for every point of the code that reads so
-point_answered : (r : Rule) (t : ℕ) (z : Scaled) → scaled_of z ≡ one → IsNearPoint (prepared r) one
+pub point_answered : (r : Rule) (t : ℕ) (z : Scaled) → scaled_of z ≡ one → IsNearPoint (prepared r) one
     → IsScaledDual (empty_program (prepared r)) 10 (pos 1 ∷ pos 1 ∷ []) 1 → IsDualPoint (prepared r) 10 one
     → IsEmptyAnswer (prepared r) t 10 (empties.Point z)
 point_answered r t z e near dual point = (
@@ -173,7 +174,7 @@ first_local z e = record {
   local = inr entered_arms;
 }
 
-second_local : (z : Scaled) → scaled_of z ≡ one → IsLocalOf doubling.program 10 2 1 (HasBound doubled_member.local)
+pub second_local : (z : Scaled) → scaled_of z ≡ one → IsLocalOf doubling.program 10 2 1 (HasBound doubled_member.local)
 second_local z e = record {
   rule = doubling_rule;
   numbered = refl;
@@ -197,11 +198,15 @@ locals z e (suc (suc (suc t))) i f h = absurd (no_is_not_yes false refl f)
 abbrev IsBoundOf : Member → Type 0
 IsBoundOf m = IsLocalOf doubling.program 10 m.spot.rule m.spot.place (HasBound m.local)
 
+pub double_components : (z : Scaled) → scaled_of z ≡ one
+    → (searches_of_program doubling.program 10).AreComponents two_components
+double_components z e = (both_live, live z e, (double_locals, locals z e, apart))
+
 -- the place that doubles is a component by itself
 pub doubled_alone : (z : Scaled) → scaled_of z ≡ one → IsComponentOf doubling.program 10 2 1 doubled
 doubled_alone z e = record {
   components = two_components;
-  are_components = (both_live, live z e, (double_locals, locals z e, apart));
+  are_components = double_components z e;
   among = inr (inl refl);
   inside = refl;
   bounds = All-cons IsBoundOf doubled_member [] (second_local z e) (All-nil IsBoundOf);

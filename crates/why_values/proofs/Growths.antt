@@ -44,6 +44,8 @@ use Rattle.time_bounds.specs.SizeWhys.{GrowsUntimed}
 use Rattle.time_bounds.specs.TimeWhys.{IsSought, TimeIsLarge}
 use Rattle.why_values.specs.Growths.{growing_said, deep_said, GrowthsAreWorkedOut}
 use Rattle.why_values.proofs.DoubleComponents.{doubled_alone}
+use Rattle.why_values.proofs.DoubleMembers.{not_used}
+use Rattle.why_values.proofs.LoopComponents.{grows_nowhere}
 use Rattle.why_values.proofs.WholeEnds.{solution_run, solution_untripped, solutions_same}
 
 -- the arms of the place that doubles have their shape over the rows of the program
@@ -69,7 +71,7 @@ doubled_low =
       one_each = record { long = old.one_each.long; limit = old.one_each.limit };
     }
 
-doubled_shape : HasCycleShape (setting_of doubling.program) doubled
+pub doubled_shape : HasCycleShape (setting_of doubling.program) doubled
 doubled_shape = record {
   some = omega arith;
   ascending = tt;
@@ -267,8 +269,9 @@ not_so_large h = other (h.nodes ∙ nodes_of h.node (h.found.same_set ∙ set) i
 pub growths_worked : GrowthsAreWorkedOut
 growths_worked = record {
   untimed = grows;
-  other_rule = λ h. some_none (Constant 1) h.missing;
+  other_rule = λ h. not_used h.members h.component h.uses;
   timed = λ h. some_none (Constant 3) h.missing;
+  grows_nowhere = grows_nowhere;
   large = deep;
   not_so_large = not_so_large;
 }

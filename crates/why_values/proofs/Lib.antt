@@ -7,8 +7,17 @@ pub mod SquareFlows
 pub mod SquareComponents
 pub mod DoubleRuns
 pub mod DoubleComponents
+pub mod DoubleMembers
+pub mod OnePlace
+pub mod LoopComponents
+pub mod TwoTogether
+pub mod ProductComponents
 -- what was worked out by hand
 pub mod Trips
 pub mod SquareTimes
+pub mod FirstTrips
+pub mod LoosePlaces
+pub mod Products
 pub mod Squares
 pub mod Growths
+pub mod FirstReasons

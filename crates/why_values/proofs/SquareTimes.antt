@@ -21,7 +21,7 @@ use Rattle.bound_rounds.specs.Keys.{IsPlace, is_untimed}
 use Rattle.bound_rounds.specs.Sets.{IsSetOfRule, IsShut, AreShutOf}
 use Rattle.bound_rounds.proofs.ListMembers.{contains-none}
 use Rattle.time_bounds.proofs.FreeValue.{of_rule}
-use Rattle.time_bounds.specs.TimeWhys.{RankTripsSo}
+use Rattle.time_bounds.specs.TimeWhys.{IsSought, RankTripsSo}
 use Rattle.why_values.specs.Programs.{tripped_at, squaring_to, squares}
 use Rattle.why_values.specs.Squares.{squares_said}
 use Rattle.why_values.proofs.Runs.{budget_run}
@@ -117,7 +117,7 @@ none_shut set unshut = record {
 }
 
 -- both linear programs need a pivot
-first_trips : Trips (rank_program (ranked_set squares (1 ∷ []) 1 [])) 0 (budget 0)
+pub first_trips : Trips (rank_program (ranked_set squares (1 ∷ []) 1 [])) 0 (budget 0)
 unfolding program_of_question first_tableau equation cost pivot divisor_of
 first_trips = budget_run (rank_program (ranked_set squares (1 ∷ []) 1 [])) 0 refl refl
 
@@ -125,11 +125,14 @@ second_trips : Trips (rank_program (ranked_set squares (1 ∷ 2 ∷ []) 2 [])) 0
 unfolding program_of_question first_tableau equation cost pivot divisor_of
 second_trips = budget_run (rank_program (ranked_set squares (1 ∷ 2 ∷ []) 2 [])) 0 refl refl
 
+pub first_sought : IsSought squares squares_said 1 (1 ∷ []) []
+first_sought = record { is_set = first_set; are_shut = none_shut (1 ∷ []) first_open }
+
 pub first_time : RankTripsSo squares 0 squares_said 1 (tripped_at 0 (asked.Rank 1))
 first_time = record {
   set = 1 ∷ [];
   shut = [];
-  sought = record { is_set = first_set; are_shut = none_shut (1 ∷ []) first_open };
+  sought = first_sought;
   trips = inl (record { question = refl; trips = first_trips });
 }
 

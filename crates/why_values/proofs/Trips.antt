@@ -3,6 +3,8 @@ use Rattle.std.proofs.Common.{◌≡◌, inl, inr, ℕ, true, false, List, [], �
 use Rattle.model.proofs.Membership.{no_is_not_yes}
 use Rattle.model.specs.Programs.{rule_at}
 use Rattle.its_model.specs.linear_forms.Causes.{budget}
+use Rattle.its_model.specs.linear_forms.Forms.{Form}
+use Rattle.its_model.specs.linear_forms.RuleQuestions.{RuleForms}
 use Rattle.its_model.specs.linear_forms.Questions.{program_of_question}
 use Rattle.guard_prep.specs.Prepared.{prepared}
 use Rattle.guard_prep.specs.Tightening.{divisor_of}
@@ -10,15 +12,15 @@ use Rattle.simplex_core.specs.Bland.{tableau_at}
 use Rattle.simplex_core.specs.Tableau.{first_tableau, equation, cost, pivot}
 use Rattle.simplex_core.specs.Trips.{Trips}
 use Rattle.proof_tree.specs.declared.answer.Question.TheVariants as asked
-use Rattle.proof_tree.specs.proof_nodes.AcceptsSizes.{Up}
+use Rattle.proof_tree.specs.proof_nodes.AcceptsSizes.{Up, Low}
 use Rattle.proof_tree.specs.proof_nodes.Gaps.{SymbolPlace}
 use Rattle.proof_tree.specs.proof_setting.WorkedGaps.{looping_rule, looping}
-use Rattle.proof_tree.specs.rule_forms.Kinds.{Number}
+use Rattle.proof_tree.specs.rule_forms.Kinds.{Kind, Number}
 use Rattle.rank_search.specs.RankAnswers.{IsOwnTrip, rank_program}
 use Rattle.rank_search.specs.rule_questions.EmptyAnswers.{empty_program}
 use Rattle.rank_search.specs.rule_questions.ProgramQuestions.{ranked_set}
-use Rattle.local_size.specs.Places.{local_forms, value_on, is_polynomial_at}
-use Rattle.local_size.specs.Sides.{kind_program}
+use Rattle.local_size.specs.Places.{local_forms, value_on, is_polynomial_at, kinds_of}
+use Rattle.local_size.specs.Sides.{kind_program, LimitPassed, SearchComesTo}
 use Rattle.bound_rounds.specs.Keys.{Bounds}
 use Rattle.bound_rounds.proofs.Cases.{either}
 use Rattle.bound_rounds.proofs.OneOrder.{sets_one, shut_one}
@@ -65,20 +67,58 @@ unfolding program_of_question first_tableau equation cost pivot
 no_rows_end = no_budget (empty_program (prepared looping_rule)) 0 0 refl
 
 -- no rule's emptiness question is a rank question
-never_first : (pivots limit : ℕ) (ts : List ℕ) → FirstTripsSo looping pivots ts (tripped_at limit (asked.Rank 1)) → ⊥
-never_first pivots limit [] h = h
-never_first pivots limit (t ∷ ts) (inl h) = let e = h.trips.0 in (let none : ⊥ = cc in none)
-never_first pivots limit (t ∷ ts) (inr h) = never_first pivots limit ts h.1
+never_first : (pivots limit r : ℕ) (ts : List ℕ) → FirstTripsSo looping pivots ts (tripped_at limit (asked.Rank r)) → ⊥
+never_first pivots limit r [] h = h
+never_first pivots limit r (t ∷ ts) (inl h) = let e = h.trips.0 in (let none : ⊥ = cc in none)
+never_first pivots limit r (t ∷ ts) (inr h) = never_first pivots limit r ts h.1
+
+-- the question of a function that ranks rule 2 isn't that of rule 1
+other_rank : RankTripsSo looping 0 staying_said 1 (tripped_at 0 (asked.Rank 2)) → ⊥
+other_rank h =
+    either h.trips (λ own. let e = own.question in (let none : ⊥ = cc in none))
+    (λ points. never_first 0 0 2 h.set points.first)
+
+-- nor that of another rule or place that of this one
+other_rule : PlaceTripsSo looping 0 1 1 (tripped_at 0 (asked.Local 2 1)) → ⊥
+other_rule h =
+    either h.trips (λ own. let e = own.question in (let none : ⊥ = cc in none))
+    (λ point. let e = point.trips.trips.0 in (let none : ⊥ = cc in none))
+
+other_place : PlaceTripsSo looping 0 1 1 (tripped_at 0 (asked.Local 1 2)) → ⊥
+other_place h =
+    either h.trips (λ own. let e = own.question in (let none : ⊥ = cc in none))
+    (λ point. let e = point.trips.trips.0 in (let none : ⊥ = cc in none))
+
+-- a limit of pivots that the questions of a side pass is the one that they are asked with
+limit_is : (r : RuleForms) (w : Form) (pivots n : ℕ) (kinds : List Kind)
+    → SearchComesTo r w pivots kinds (LimitPassed (budget n)) → n ≡ pivots
+limit_is r w pivots n [] h = absurd h
+limit_is r w pivots n (kind ∷ []) h = h.1
+limit_is r w pivots n (kind ∷ next ∷ kinds) (inl h) = h.1.1
+limit_is r w pivots n (kind ∷ next ∷ kinds) (inr h) = limit_is r w pivots n (next ∷ kinds) h.1
+
+one_is_not_none : ◌≡◌ {A = ℕ} 1 0 → ⊥
+one_is_not_none e = omega (arith, e)
+
+other_size_limit : PlaceTripsSo looping 0 1 1 (tripped_at 1 (asked.Local 1 1)) → ⊥
+other_size_limit h =
+    either h.trips
+    (λ own. one_is_not_none
+    (either own.first
+    (λ up. limit_is (local_forms (prepared h.rule)) (value_on Up (prepared h.rule) 1) 0 1 (kinds_of (prepared h.rule) 1) up)
+    (λ low.
+    limit_is (local_forms (prepared h.rule)) (value_on Low (prepared h.rule) 1) 0 1 (kinds_of (prepared h.rule) 1) low.1)))
+    (λ point. let e = point.trips.trips.0 in (let none : ⊥ = cc in none))
 
 -- the limit is 0, and not 1
 other_limit : RankTripsSo looping 0 staying_said 1 (tripped_at 1 (asked.Rank 1)) → ⊥
 other_limit h =
     either h.trips (λ own. let e : ◌≡◌ {A = ℕ} 1 0 = own.trips.1 in omega (arith, e))
-    (λ points. never_first 0 1 h.set points.first)
+    (λ points. never_first 0 1 1 h.set points.first)
 
 -- 10 pivots suffice
 ends_before : RankTripsSo looping 10 staying_said 1 (tripped_at 10 (asked.Rank 1)) → ⊥
-ends_before h = either h.trips (own h.set h.shut set shut) (λ points. never_first 10 10 h.set points.first)
+ends_before h = either h.trips (own h.set h.shut set shut) (λ points. never_first 10 10 1 h.set points.first)
   where
     set : h.set ≡ 1 ∷ []
     set = sets_one looping staying_said 1 h.set (1 ∷ []) h.sought.is_set staying_so.sought.is_set
@@ -110,14 +150,20 @@ trips_worked = record {
     trips = inl (record { question = refl; trips = rank_trips });
   };
   other_limit = other_limit;
+  other_rank = other_rank;
   enough = ends_before;
   size = λ b. record {
     rule = looping_rule;
     numbered = refl;
     trips = inl (record { asked = refl; question = refl; first = inl (inl (tt, number_trips)) });
   };
+  other_rule = λ b h. other_rule h;
+  other_place = λ b h. other_place h;
+  other_size_limit = λ b h. other_size_limit h;
   nothing_asked = nothing_asked;
   empty = squaring_trips 1 0 refl;
+  other_empty = λ h. let e = h.trips.0 in (let none : ⊥ = cc in none);
+  other_empty_limit = λ h. one_is_not_none h.trips.1.1;
   second_empty = squaring_trips 2 1 refl;
   at_its_end = λ h. no_rows_end
       (of_rule (λ r. Trips (empty_program (prepared r)) 0 (budget 0)) looping_rule h.rule h.numbered h.trips.1);

@@ -13,10 +13,10 @@ pub record LeadOnward (E : ℕ → ℕ → Type 0) : Type 0 where
   pub stays : (b : ℕ) → E 1 b → b ≡ 1
 
 -- a list of one node has that one alone
-only_one : (a b : ℕ) → Contains (a ∷ []) b → a ≡ b
+pub only_one : (a b : ℕ) → Contains (a ∷ []) b → a ≡ b
 only_one a b h = either (contains-cases b a [] h) (λ e. e) (λ none. absurd (contains-none b none))
 
-is_one : (a b : ℕ) → a ≡ b → Contains (a ∷ []) b
+pub is_one : (a b : ℕ) → a ≡ b → Contains (a ∷ []) b
 is_one a b e = (zero, omega arith, e)
 
 abbrev pub both_listed : List (List ℕ)

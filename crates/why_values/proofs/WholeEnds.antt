@@ -330,3 +330,14 @@ pub solutions_same : (p : LinearProgram) (allowed : ℕ) (xs ys : List ℤ) (d e
 solutions_same p allowed xs ys d e s t =
     scaled-once s.point t.point xs ys d e (optimal-same p allowed s.k t.k s.point t.point s.basis t.basis s.ends t.ends).0
     s.scaled t.scaled
+
+-- and one dual
+pub duals_same : (p : LinearProgram) (allowed : ℕ) (xs ys : List ℤ) (d e : ℕ) → IsScaledDual p allowed xs d
+    → IsScaledDual p allowed ys e → (xs ≡ ys) × (d ≡ e)
+duals_same p allowed xs ys d e s t =
+    scaled-once s.dual t.dual xs ys d e (infeasible-same p allowed s.k t.k s.dual t.dual s.ends t.ends).0 s.scaled t.scaled
+
+-- and not both
+pub never_both : (p : LinearProgram) (allowed : ℕ) (xs ys : List ℤ) (d e : ℕ) → IsScaledSolution p allowed xs d
+    → IsScaledDual p allowed ys e → ⊥
+never_both p allowed xs ys d e s t = ends-apart p allowed s.k t.k s.point s.basis t.dual s.ends t.ends

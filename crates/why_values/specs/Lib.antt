@@ -2,4 +2,8 @@
 pub mod Programs
 pub mod Trips
 pub mod Squares
+pub mod FirstTrips
+pub mod LoosePlaces
+pub mod Products
 pub mod Growths
+pub mod FirstReasons

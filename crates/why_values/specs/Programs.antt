@@ -3,7 +3,7 @@
 use Rattle.std.specs.Prelude.{ℕ, List, [], ◌∷◌, pos, None}
 use Rattle.model.specs.Bounds.{Constant, Input}
 use Rattle.model.specs.Polynomials.{Polynomial}
-use Rattle.model.specs.Programs.{AtMost, Compare, Rule, Program}
+use Rattle.model.specs.Programs.{AtLeast, AtMost, Compare, Rule, Program}
 use Rattle.model.specs.Terms.{Literal, Variable, Multiplication}
 use Rattle.its_model.specs.linear_forms.declared.trip_cause.TripCause.TheVariants as causes
 use Rattle.outcome.specs.Reports.{TimeTripped, TimeLarge, Timed, Untimed, SizeMissing, SizeBent, SizeUntimed, SizeLarge}
@@ -13,7 +13,7 @@ use Rattle.proof_tree.specs.declared.answer.Question.TheVariants as asked
 use Rattle.proof_tree.specs.declared.answer.Trip.{Trip}
 use Rattle.proof_tree.specs.proof_nodes.Nodes.{Spot, Member}
 use Rattle.proof_tree.specs.proof_nodes.WorkedReasons.{tower}
-use Rattle.proof_tree.specs.proof_nodes.WorkedSettings.{rule_over}
+use Rattle.proof_tree.specs.proof_nodes.WorkedSettings.{rule_over, program_with}
 use Rattle.local_size.specs.LocalAnswers.{both_polynomial}
 use Rattle.bound_rounds.specs.Keys.{key}
 
@@ -46,6 +46,46 @@ squares = record {
   start_names = (65 ∷ []) ∷ [];
   rules = squaring_to 0 ∷ squaring_to 1 ∷ [];
 }
+
+-- from k to itself, with the product of the arguments twice, where the first is at most 0
+abbrev pub product_rule : Rule
+product_rule = record {
+  source = 0;
+  target = 0;
+  left = 2;
+  free = 0;
+  names = (65 ∷ []) ∷ (66 ∷ []) ∷ [];
+  updates = Multiplication (Variable 0) (Variable 1) ∷ Multiplication (Variable 0) (Variable 1) ∷ [];
+  guard = Compare (Variable 0) AtMost (Literal (pos 0)) ∷ [];
+  cost = None;
+}
+
+abbrev pub products : Program
+products = record {
+  symbols = record { name = 107 ∷ []; arity = 2 } ∷ [];
+  start = 0;
+  start_names = (65 ∷ []) ∷ (66 ∷ []) ∷ [];
+  rules = product_rule ∷ [];
+}
+
+-- both places after it, with the product as both bounds
+abbrev pub both_products : List Member
+both_products = record { spot = key 1 1; local = both_polynomial } ∷ record { spot = key 1 2; local = both_polynomial } ∷ []
+
+-- within no pivots the rule has no time, and the first place bends
+abbrev pub products_report : Report
+products_report = record {
+  times = Untimed (TimeTripped (tripped_at 0 (asked.Rank 1))) ∷ [];
+  total = None;
+  sizes = (Unsized (SizeBent (key 1 1)) ∷ Unsized (SizeBent (key 1 1)) ∷ []) ∷ [];
+}
+
+-- k(A) -> l(C) where C >= A
+abbrev pub above_rule : Rule
+above_rule = rule_over 0 1 1 (Variable 1) (Compare (Variable 1) AtLeast (Variable 0) ∷ [])
+
+abbrev pub above : Program
+above = program_with (above_rule ∷ [])
 
 -- A * A, and the place after a rule of this program with it as both bounds
 abbrev pub square : Polynomial
@@ -92,12 +132,37 @@ growing_report = record {
   sizes = (Sized (Input 0) ∷ []) ∷ (Unsized (SizeUntimed 2) ∷ []) ∷ [];
 }
 
+-- the same where neither rule has a time
+abbrev pub untimed_report : Report
+untimed_report = record {
+  times = Untimed (TimeTripped (tripped_at 0 (asked.Rank 1)))
+      ∷ Untimed (TimeTripped (tripped_at 0 (asked.Rank 2))) ∷ [];
+  total = None;
+  sizes = growing_report.sizes;
+}
+
 -- the same where the second rule has a time
 abbrev pub timed_report : Report
 timed_report = record {
   times = Timed (Constant 1) ∷ Timed (Constant 3) ∷ [];
   total = None;
   sizes = growing_report.sizes;
+}
+
+-- the size after the first rule has 201 levels, and the second rule has no time
+abbrev pub untimed_tower_report : Report
+untimed_tower_report = record {
+  times = untimed_report.times;
+  total = None;
+  sizes = (Sized (tower 200) ∷ []) ∷ (Unsized (SizeUntimed 2) ∷ []) ∷ [];
+}
+
+-- the same where it has a time
+abbrev pub timed_tower_report : Report
+timed_tower_report = record {
+  times = timed_report.times;
+  total = None;
+  sizes = (Sized (tower 200) ∷ []) ∷ (Unsized (SizeLarge 415) ∷ []) ∷ [];
 }
 
 -- the size after the first rule has 201 levels, and the second rule has no time

@@ -1,4 +1,4 @@
-use Rattle.std.proofs.Common.{arith, List, subst}
+use Rattle.std.proofs.Common.{arith, ◌∙◌, List, subst}
 use Rattle.its_model.specs.Views.{program_of}
 use Rattle.location_facts.specs.declared.fact.LocFact.{LocFact}
 use Rattle.location_facts.specs.Faults.{proofs_of}
@@ -9,49 +9,47 @@ use Rattle.location_facts.proofs.NextFacts.{first-ordered, ends-here, proved-her
 use Rattle.location_facts.proofs.RoundSteps.{those-ascend}
 use Rattle.location_facts.proofs.rounds.facts.Goals as goal
 
-pub loop-kept-init : goal.loop-kept-init
-loop-kept-init c = record {
+pub next_facts-requires-clause-ordered : goal.next_facts-requires-clause-ordered
+next_facts-requires-clause-ordered c =
+    first-ordered (program_of c.args.p.now) c.deref.result.now (c.deref.ensures.value ∙ c.in_ok-kept.ensures {u = tt})
+
+pub loop-alloc-init : goal.loop-alloc-init
+loop-alloc-init c = record {
   ordered = first-ordered (program_of c.args.p.now) c.in_ok-kept.kept.items (c.in_ok-kept.ensures {u = tt});
   ends = λ end h. subst (EndsWith (program_of c.args.p.now) c.args.pivots end) (c.in_ok-kept.ensures {u = tt}) h;
+  next = subst (λ (fs : List LocFact). IsNext (program_of c.args.p.now) c.args.pivots fs c.in_ok-found.found.kept.items)
+      c.deref.ensures.value c.in_ok-found.ensures.next;
+  proofs = subst (λ (fs : List LocFact). AreProofsUnder (program_of c.args.p.now) fs c.in_ok-found.found.kept.items
+      (proofs_of c.in_ok-found.found)) c.deref.ensures.value c.in_ok-found.ensures.proofs;
 }
 
-pub loop-kept-preserved : goal.loop-kept-preserved
-loop-kept-preserved c =
-    let next : IsNext (program_of c.args.p.now) c.args.pivots c.loop-kept.kept.items c.in_ok-found.found.kept.items =
-    subst (λ (fs : List LocFact). IsNext (program_of c.args.p.now) c.args.pivots fs c.in_ok-found.found.kept.items)
-    c.deref.ensures.value c.in_ok-found.ensures.next in
-    record {
-      ordered = those-ascend (IsImpliedByAll (program_of c.args.p.now) c.args.pivots c.loop-kept.kept.items)
-          (program_of c.args.p.now) 0 c.loop-kept.kept.items c.in_ok-found.found.kept.items next
-          c.loop-kept.invariant.ordered;
-      ends = λ end h. c.loop-kept.invariant.ends end (GoesOn next h);
-    }
+pub later_facts-requires-clause-ordered : goal.later_facts-requires-clause-ordered
+later_facts-requires-clause-ordered c =
+    those-ascend (IsImpliedByAll (program_of c.args.p.now) c.args.pivots c.loop-alloc.kept.items)
+    (program_of c.args.p.now) 0 c.loop-alloc.kept.items c.loop-alloc.found.kept.items c.loop-alloc.invariant.next
+    c.loop-alloc.invariant.ordered
 
-pub loop-kept-smaller : goal.loop-kept-smaller
-loop-kept-smaller c =
-    let next : IsNext (program_of c.args.p.now) c.args.pivots c.loop-kept.kept.items c.in_ok-found.found.kept.items =
-    subst (λ (fs : List LocFact). IsNext (program_of c.args.p.now) c.args.pivots fs c.in_ok-found.found.kept.items)
-    c.deref.ensures.value c.in_ok-found.ensures.next in
-    let most = those-most (IsImpliedByAll (program_of c.args.p.now) c.args.pivots c.loop-kept.kept.items)
-    c.loop-kept.kept.items c.in_ok-found.found.kept.items next in
-    omega (arith, most)
+pub loop-alloc-preserved : goal.loop-alloc-preserved
+loop-alloc-preserved c = record {
+  ordered = those-ascend (IsImpliedByAll (program_of c.args.p.now) c.args.pivots c.loop-alloc.kept.items)
+      (program_of c.args.p.now) 0 c.loop-alloc.kept.items c.loop-alloc.found.kept.items c.loop-alloc.invariant.next
+      c.loop-alloc.invariant.ordered;
+  ends = λ end h. c.loop-alloc.invariant.ends end (GoesOn c.loop-alloc.invariant.next h);
+  next = c.in_ok-next.ensures.next;
+  proofs = c.in_ok-next.ensures.proofs;
+}
 
-pub returns-then-len-clause-kept : goal.returns-then-len-clause-kept
-returns-then-len-clause-kept c =
-    let next : IsNext (program_of c.args.p.now) c.args.pivots c.loop-kept.kept.items c.in_ok-found.found.kept.items =
-    subst (λ (fs : List LocFact). IsNext (program_of c.args.p.now) c.args.pivots fs c.in_ok-found.found.kept.items)
-    c.deref.ensures.value c.in_ok-found.ensures.next in
-    ends-here (program_of c.args.p.now) c.args.pivots c.loop-kept.kept.items c.in_ok-found.found.kept.items next
-    (omega arith) c.loop-kept.invariant.ends
+pub returns-clause-kept : goal.returns-clause-kept
+returns-clause-kept c =
+    let most = those-most (IsImpliedByAll (program_of c.args.p.now) c.args.pivots c.loop-alloc.kept.items)
+    c.loop-alloc.kept.items c.loop-alloc.found.kept.items c.loop-alloc.invariant.next in
+    ends-here (program_of c.args.p.now) c.args.pivots c.loop-alloc.kept.items c.loop-alloc.found.kept.items
+    c.loop-alloc.invariant.next (omega (arith, most)) c.loop-alloc.invariant.ends
 
-pub returns-then-len-clause-proved : goal.returns-then-len-clause-proved
-returns-then-len-clause-proved c =
-    let next : IsNext (program_of c.args.p.now) c.args.pivots c.loop-kept.kept.items c.in_ok-found.found.kept.items =
-    subst (λ (fs : List LocFact). IsNext (program_of c.args.p.now) c.args.pivots fs c.in_ok-found.found.kept.items)
-    c.deref.ensures.value c.in_ok-found.ensures.next in
-    proved-here (program_of c.args.p.now) c.args.pivots c.loop-kept.kept.items c.in_ok-found.found.kept.items
-    (proofs_of c.in_ok-found.found) next
-    (omega arith) c.loop-kept.invariant.ordered
-    (subst (λ (fs : List LocFact). AreProofsUnder (program_of c.args.p.now) fs c.in_ok-found.found.kept.items
-    (proofs_of c.in_ok-found.found))
-    c.deref.ensures.value c.in_ok-found.ensures.proofs)
+pub returns-clause-proved : goal.returns-clause-proved
+returns-clause-proved c =
+    let most = those-most (IsImpliedByAll (program_of c.args.p.now) c.args.pivots c.loop-alloc.kept.items)
+    c.loop-alloc.kept.items c.loop-alloc.found.kept.items c.loop-alloc.invariant.next in
+    proved-here (program_of c.args.p.now) c.args.pivots c.loop-alloc.kept.items c.loop-alloc.found.kept.items
+    (proofs_of c.loop-alloc.found) c.loop-alloc.invariant.next (omega (arith, most)) c.loop-alloc.invariant.ordered
+    c.loop-alloc.invariant.proofs

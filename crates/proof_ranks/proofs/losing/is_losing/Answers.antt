@@ -6,20 +6,34 @@ use Rattle.poly_terms.specs.declared.poly.Row.{Row}
 use Rattle.proof_tree.specs.Sizes.{form_found}
 use Rattle.proof_tree.specs.Views.{form_of as form_at_symbol}
 use Rattle.proof_tree.specs.proof_nodes.Composed.{rank_form}
-use Rattle.proof_facts.specs.Grounds.{program}
+use Rattle.proof_tree.specs.declared.rank.Form.{Form}
+use Rattle.proof_tree.specs.proof_nodes.Numbers.{IsAscending}
+use Rattle.proof_facts.specs.Grounds.{program, setting}
 use Rattle.proof_ranks.specs.Goals.{AreWithin}
+use Rattle.proof_ranks.specs.RankShapes.{symbol_in}
+use Rattle.proof_ranks.proofs.OrderedForms.{shape-ascends}
 use Rattle.proof_ranks.proofs.LossRows.{found-limited, found-within, losing-by}
 use Rattle.proof_ranks.proofs.losing.is_losing.Goals as goal
 
+pub form_at-before-requires : goal.form_at-before-requires
+form_at-before-requires c =
+    subst (λ (fs : List Form). IsAscending (map symbol_in fs)) (sym c.deref.ensures.value)
+    (shape-ascends (setting c.args.ground.now) c.args.node.now c.requires.shape)
+
+pub form_at-after-requires : goal.form_at-after-requires
+form_at-after-requires c =
+    subst (λ (fs : List Form). IsAscending (map symbol_in fs)) (sym c.deref-2.ensures.value)
+    (shape-ascends (setting c.args.ground.now) c.args.node.now c.requires.shape)
+
 pub loss_row-requires-clause-before : goal.loss_row-requires-clause-before
 loss_row-requires-clause-before c =
-    found-limited (program c.args.ground.now) c.args.node.now c.requires.shape c.rank_form-before.result c.source_of.result
-    (c.rank_form-before.ensures.first ∙ ap (λ fs. rank_form (map form_at_symbol fs) c.source_of.result) c.deref.ensures.value)
+    found-limited (program c.args.ground.now) c.args.node.now c.requires.shape c.form_at-before.result c.source_of.result
+    (c.form_at-before.ensures ∙ ap (λ fs. rank_form (map form_at_symbol fs) c.source_of.result) c.deref.ensures.value)
 
 pub loss_row-requires-clause-after : goal.loss_row-requires-clause-after
 loss_row-requires-clause-after c =
-    found-limited (program c.args.ground.now) c.args.node.now c.requires.shape c.rank_form-after.result c.target_of.result
-    (c.rank_form-after.ensures.first ∙ ap (λ fs. rank_form (map form_at_symbol fs) c.target_of.result) c.deref-2.ensures.value)
+    found-limited (program c.args.ground.now) c.args.node.now c.requires.shape c.form_at-after.result c.target_of.result
+    (c.form_at-after.ensures ∙ ap (λ fs. rank_form (map form_at_symbol fs) c.target_of.result) c.deref-2.ensures.value)
 
 pub loss_row-requires-clause-few : goal.loss_row-requires-clause-few
 loss_row-requires-clause-few c =
@@ -31,11 +45,11 @@ loss_row-requires-clause-news c =
 
 pub loss_row-requires-clause-within : goal.loss_row-requires-clause-within
 loss_row-requires-clause-within c =
-    subst (λ (rs : List Row). AreWithin c.prep-rows.result.now.unknowns (form_found c.rank_form-before.result) (map form_of rs))
+    subst (λ (rs : List Row). AreWithin c.prep-rows.result.now.unknowns (form_found c.form_at-before.result) (map form_of rs))
     (sym c.deref-3.ensures.value)
     (found-within (program c.args.ground.now) c.args.node.now c.requires.shape c.args.rule c.prep-rows.result.now
-    c.prep-rows.ensures.suits c.rank_form-before.result
-    (c.rank_form-before.ensures.first
+    c.prep-rows.ensures.suits c.form_at-before.result
+    (c.form_at-before.ensures
     ∙ (λ i. rank_form (map form_at_symbol (c.deref.ensures.value i)) (c.source_of.ensures i))))
 
 pub implies-requires-clause-rows_small : goal.implies-requires-clause-rows_small
@@ -46,11 +60,11 @@ pub returns : goal.returns
 returns c =
     losing-by (program c.args.ground.now) c.args.node.now c.requires.shape c.args.rule c.least_of-least.result
     c.implies.result c.in_ok-goal.goal (map form_of c.deref-4.result.now) (map form_of c.deref-3.result.now) c.args.moves.now
-    c.rank_form-before.result c.rank_form-after.result c.implies.ensures c.in_ok-goal.ensures
+    c.form_at-before.result c.form_at-after.result c.implies.ensures c.in_ok-goal.ensures
     (ap (map form_of) c.deref-4.ensures.value ∙ c.prep-rows.ensures.rows)
     (ap (map form_of) c.deref-3.ensures.value ∙ c.prep-rows.ensures.news)
-    (c.rank_form-before.ensures.first
+    (c.form_at-before.ensures
     ∙ (λ i. rank_form (map form_at_symbol (c.deref.ensures.value i)) (c.source_of.ensures i)))
-    (c.rank_form-after.ensures.first
+    (c.form_at-after.ensures
     ∙ (λ i. rank_form (map form_at_symbol (c.deref-2.ensures.value i)) (c.target_of.ensures i)))
     c.least_of-least.ensures.least

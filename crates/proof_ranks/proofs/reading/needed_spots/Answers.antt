@@ -5,18 +5,27 @@ use Rattle.poly_terms.specs.linear_forms.Forms.{Form}
 use Rattle.proof_tree.specs.Views.{form_of as form_at_symbol, rank_of}
 use Rattle.proof_tree.specs.proof_nodes.Checks.{needed_after_each}
 use Rattle.proof_tree.specs.proof_nodes.Composed.{rank_form}
+use Rattle.proof_tree.specs.declared.rank.Form as code
+use Rattle.proof_tree.specs.proof_nodes.Numbers.{IsAscending}
 use Rattle.proof_facts.specs.Grounds.{program, setting}
 use Rattle.proof_ranks.specs.RankChecks.{read_after}
+use Rattle.proof_ranks.specs.RankShapes.{symbol_in}
+use Rattle.proof_ranks.proofs.OrderedForms.{shape-ascends}
 use Rattle.proof_ranks.proofs.LossRows.{found-short}
 use Rattle.proof_ranks.proofs.ReadPlaces.{needed-more}
 use Rattle.proof_ranks.proofs.reading.needed_spots.Goals as goal
 
+pub form_at-form-requires : goal.form_at-form-requires
+form_at-form-requires c =
+    subst (λ (fs : List code.Form). IsAscending (map symbol_in fs)) (sym c.deref.ensures.value)
+    (shape-ascends (setting c.args.ground.now) c.args.node.now c.requires.shape)
+
 pub push_read-requires : goal.push_read-requires
 push_read-requires c =
     subst (λ (cs : List ℤ). length cs < 2 ^ 31) (sym c.coefs_of.ensures)
-    (found-short (program c.args.ground.now) c.args.node.now c.requires.shape c.requires.ground.valid c.rank_form-form.result
+    (found-short (program c.args.ground.now) c.args.node.now c.requires.shape c.requires.ground.valid c.form_at-form.result
     c.target_of.result
-    (c.rank_form-form.ensures.first ∙ ap (λ fs. rank_form (map form_at_symbol fs) c.target_of.result) c.deref.ensures.value))
+    (c.form_at-form.ensures ∙ ap (λ fs. rank_form (map form_at_symbol fs) c.target_of.result) c.deref.ensures.value))
 
 pub loop-entry-preserved : goal.loop-entry-preserved
 loop-entry-preserved c =
@@ -24,7 +33,7 @@ loop-entry-preserved c =
     let n = rank_of c.args.node.now in
     c.in_ok-push_read.ensures {u = tt}
     ∙ (λ i. c.loop-entry.invariant i ++ read_after ((c.coefs_of.ensures ∙ ap (λ (f : Form). f.coefs)
-    (c.rank_form-form.ensures.first ∙ (λ j. rank_form (map form_at_symbol (c.deref.ensures.value j)) (c.target_of.ensures j)))) i)
+    (c.form_at-form.ensures ∙ (λ j. rank_form (map form_at_symbol (c.deref.ensures.value j)) (c.target_of.ensures j)))) i)
     (get_or c.args.entering.now c.loop-entry.entry-index 0))
     ∙ sym (needed-more s n c.args.entering.now c.loop-entry.entry-index c.loop-entry-test.true)
 
