@@ -70,6 +70,7 @@ gaps = record {
   symbol = refl;
   symbol_first = refl;
   name_alone = refl;
+  no_dot = refl;
   no_number = refl;
   leading_zero = refl;
   place_zero = refl;

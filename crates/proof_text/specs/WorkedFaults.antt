@@ -126,6 +126,7 @@ pub record GapsAreRefused : Type 0 where
   pub symbol : IsRefused (codes "koat-proof 1\ngap 2 set [2] shut [l9.1]") BadReference 33
   pub symbol_first : IsRefused (codes "koat-proof 1\ngap 2 set [2] shut [l9.01]") BadReference 33
   pub name_alone : IsRefused (codes "koat-proof 1\ngap 2 set [2] shut [l0.x]") BadReference 33
+  pub no_dot : IsRefused (codes "koat-proof 1\ngap 2 set [2] shut [l0]") Syntax 35
   pub no_number : IsRefused (codes "koat-proof 1\ngap 2 set [2] shut [l0.]") Syntax 36
   pub leading_zero : IsRefused (codes "koat-proof 1\ngap 2 set [2] shut [l0.01]") Syntax 36
   pub place_zero : IsRefused (codes "koat-proof 1\ngap 2 set [2] shut [l0.0]") BadReference 36

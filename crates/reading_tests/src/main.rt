@@ -8,6 +8,7 @@ mod changed;
 mod guards;
 mod outcomes;
 mod printed;
+mod proofs;
 mod replays;
 mod runs;
 mod writing;
