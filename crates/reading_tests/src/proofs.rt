@@ -8,8 +8,7 @@ use crate::writing::{Frame, text_of};
 use its_model::Program;
 use its_reader::read;
 use model::Memory;
-use proof_text::ProofTextError;
-use proof_text::read as read_proof;
+use proof_text::{ProofTextError, read as read_proof};
 use std::alloc::{AllocError, Global};
 
 /// What reading a proof file of a program comes to: how many lemmas and gaps it has, or the refusal. Where the
