@@ -1,8 +1,8 @@
 """A plain slow reading of proof files, by the format alone: nothing of the crates is used.
 
-`Reading(program, text).verdict()` is `lemmas N, gaps N`, or the first refusal with its byte. Every refusal that stands
-against the text up to where it breaks off is noted, and then the one at the least byte is taken, and there the one that
-comes first among the kinds.
+`Reading(program, text).verdict()` is `lemmas N, gaps N, same`, as a file that is taken is printed as the same bytes, or
+the first refusal with its byte. Every refusal that stands against the text up to where it breaks off is noted, and then
+the one at the least byte is taken, and there the one that comes first among the kinds.
 """
 
 import re
@@ -134,7 +134,7 @@ class Bound:
         at, factors = self.at, term["factors"]
         if kind == "name":
             before = factors[-1] if factors else None
-            if before and before["kind"] == "run" and before["name"] == text:
+            if text in self.names and before and before["kind"] == "run" and before["name"] == text:
                 self.breaks_off()
             self.variable(text, at)
             factors.append({"kind": "run", "name": text, "at": at})
@@ -267,7 +267,7 @@ class Reading:
         if self.refusals:
             at, kind = min(self.refusals)
             return f"{KINDS[kind]} at {at}"
-        return f"lemmas {self.lemmas}, gaps {self.gaps}"
+        return f"lemmas {self.lemmas}, gaps {self.gaps}, same"
 
     def next(self):
         """The token that comes next."""
