@@ -1,5 +1,6 @@
 -- How a proof file is cut into pieces.
-use Rattle.std.specs.Prelude.{ℕ, ◌-◌, ◌+◌, ◌^◌, min, ◌==◌, ◌&&◌, ◌||◌, nat_le, nat_lt, Bool, true, false, not, if◌then◌else◌}
+use Rattle.std.specs.Prelude.{ℕ, ◌-◌, ◌+◌, ◌^◌, min, ◌==◌, ◌&&◌, ◌||◌, nat_le, nat_lt, Bool, true, false, not}
+use Rattle.std.specs.Prelude.{if◌then◌else◌}
 use Rattle.std.specs.Prelude.{List, [], ◌∷◌, length, take, drop, map, codes, Option, Some, None}
 use Rattle.std.specs.List.{list_all}
 use Rattle.std.specs.Char.{is_ascii_digit}
@@ -151,7 +152,7 @@ abbrev pub place_lexeme : List NameBytes → List ℕ → Lexeme (Option Piece)
 place_lexeme symbols run = lexeme (place_in symbols run (behind_last_dot None run)) (length run)
 
 -- the variable of a name at a position among n start arguments: a name that is none of them is another variable
--- wherever it stands, as far behind the last of them as there are pieces of the bound before it; variables from 2^32-1 on
+-- wherever it stands, as far behind the last of them as pieces of the bound stand before it; variables from 2^32-1 on
 -- count as that one
 abbrev pub variable_at : ℕ → ℕ → ℕ → ℕ
 variable_at n before i = min (if nat_lt i n then i else i + before) (2 ^ 32 - 1)
