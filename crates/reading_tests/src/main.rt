@@ -6,6 +6,7 @@ mod answers;
 mod beginnings;
 mod changed;
 mod guards;
+mod listed;
 mod outcomes;
 mod printed;
 mod proofs;
