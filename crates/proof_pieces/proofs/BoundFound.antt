@@ -1,7 +1,7 @@
 -- The pieces of a bound inside a proof file are found again in their bytes.
 use Rattle.std.proofs.Common.{◌≡◌, ℕ, ◌+◌, ◌-◌, ◌<◌, ◌≤◌, ◌^◌, min, Bool, true, false, cond, List, [], ◌∷◌}
 use Rattle.std.proofs.Common.{◌++◌, map, length, slice_index_or, Some, refl, ap, sym, subst, ◌∙◌, arith}
-use Rattle.std.specs.Prelude.{codes, ◌==◌, ◌&&◌, ◌||◌}
+use Rattle.std.specs.Prelude.{codes, ◌==◌, ◌&&◌, ◌||◌, nat_lt}
 use Rattle.std.specs.List.{list_all}
 use Rattle.std.specs.Fmt.{decimal}
 use Rattle.std.specs.Char.{is_ascii_digit}
@@ -13,6 +13,8 @@ use Rattle.std.proofs.lemmas.Bool.Decides.{nat_tests}
 use Rattle.its_model.specs.model.Programs.{Name}
 use Rattle.bound_text.specs.Pieces.{Piece, Variable, Number, Maximum, Open, Close, Times, Caret, Plus, Blank, Comma, Wrong}
 use Rattle.bound_text.specs.Pieces.{spelled, bytes_of}
+use Rattle.bound_text.specs.declared.piece.Piece.{Piece as BoundPiece}
+use Rattle.bound_text.specs.declared.piece.Piece.TheVariants as bound
 use Rattle.bound_text.specs.Printing.{piece_of}
 use Rattle.bound_text.specs.Lexing.{lexeme_at, mark_at, number_at, word_at}
 use Rattle.bound_text.proofs.KeptBounds.{KeptPiece}
@@ -208,9 +210,11 @@ first_no_end names depth Comma first others are kept opened e = let same : 44 �
 first_no_end names depth Wrong first others are kept opened e = absurd kept
 
 -- the piece of the code, and how many brackets are open behind it
-pub piece_same : (n : ℕ) (q : Piece) → n < 2 ^ 32 → KeptPiece n q → piece_of (bound_piece q) ≡ q
+pub piece_same : (n : ℕ) (q : Piece) → n < 2 ^ 32 → KeptPiece n q → piece_of (bound_piece n 0 q) ≡ q
 piece_same n (Variable i) small kept =
-    let e : min i (2 ^ 32 - 1) ≡ i = omega (arith, small, kept) in ap (λ (k : ℕ). Variable k) e
+    let listed : nat_lt i n ≡ true = grind (arith, nat_tests) in
+    let e : min i (2 ^ 32 - 1) ≡ i = omega (arith, small, kept) in
+    ap (λ (v : Bool). Variable (min (cond v i (i + 0)) (2 ^ 32 - 1))) listed ∙ ap (λ (k : ℕ). Variable k) e
 piece_same n (Number k) small kept = refl
 piece_same n Maximum small kept = refl
 piece_same n Open small kept = refl
@@ -222,22 +226,40 @@ piece_same n Blank small kept = refl
 piece_same n Comma small kept = refl
 piece_same n Wrong small kept = refl
 
-pub depth_same : (depth : ℕ) (q : Piece) → depth ≤ 200 → depth_behind depth (bound_piece q) ≡ behind_bracket depth q
-depth_same depth Maximum l = omega (arith, l)
-depth_same depth Open l = omega (arith, l)
-depth_same depth Close l = refl
-depth_same depth (Variable i) l = refl
-depth_same depth (Number n) l = refl
-depth_same depth Times l = refl
-depth_same depth Caret l = refl
-depth_same depth Plus l = refl
-depth_same depth Blank l = refl
-depth_same depth Comma l = refl
-depth_same depth Wrong l = refl
+-- which does not hang on how many stand before it
+before_free : (n before : ℕ) (q : Piece) → KeptPiece n q → bound_piece n before q ≡ bound_piece n 0 q
+before_free n before (Variable i) kept =
+    let listed : nat_lt i n ≡ true = grind (arith, nat_tests) in
+    ap (λ (v : Bool). bound.Variable (min (cond v i (i + before)) (2 ^ 32 - 1))) listed
+    ∙ sym (ap (λ (v : Bool). bound.Variable (min (cond v i (i + 0)) (2 ^ 32 - 1))) listed)
+before_free n before (Number k) kept = refl
+before_free n before Maximum kept = refl
+before_free n before Open kept = refl
+before_free n before Close kept = refl
+before_free n before Times kept = refl
+before_free n before Caret kept = refl
+before_free n before Plus kept = refl
+before_free n before Blank kept = refl
+before_free n before Comma kept = refl
+before_free n before Wrong kept = refl
+
+pub depth_same : (n depth : ℕ) (q : Piece) → depth ≤ 200
+    → depth_behind depth (bound_piece n 0 q) ≡ behind_bracket depth q
+depth_same n depth Maximum l = omega (arith, l)
+depth_same n depth Open l = omega (arith, l)
+depth_same n depth Close l = refl
+depth_same n depth (Variable i) l = refl
+depth_same n depth (Number k) l = refl
+depth_same n depth Times l = refl
+depth_same n depth Caret l = refl
+depth_same n depth Plus l = refl
+depth_same n depth Blank l = refl
+depth_same n depth Comma l = refl
+depth_same n depth Wrong l = refl
 
 -- the pieces of a bound as they are kept
 abbrev pub inner_of : List Name → Piece → Inner
-inner_of names q = record { piece = bound_piece q; len = length (spelled names q) }
+inner_of names q = record { piece = bound_piece (length names) 0 q; len = length (spelled names q) }
 
 abbrev pub inners : List Name → List Piece → List Inner
 inners names qs = map (inner_of names) qs
@@ -267,16 +289,19 @@ ends_so names depth (q ∷ qs) b others are goes ends closed =
     ap (ends_before depth) e ∙ first_no_end names depth q f.first f.others are goes.0 goes.2 f.split
 
 -- a piece of a bound is cut off in a proof file
-pub inner_cut : (symbols names : List Name) (depth : ℕ) (q : Piece) (rest : List ℕ) (f : Found names q rest)
-    → ends_bound depth f.first ≡ false
-    → lexeme_in symbols names (mode.InBound depth) f.first (f.others ++ rest)
+pub inner_cut : (symbols names : List Name) (depth before : ℕ) (q : Piece) (rest : List ℕ) (f : Found names q rest)
+    → KeptPiece (length names) q → ends_bound depth f.first ≡ false
+    → lexeme_in symbols names (mode.InBound depth before) f.first (f.others ++ rest)
     ≡ record {
-      piece = Some (InBound (bound_piece q) (length (f.first ∷ f.others)) (ends_before (depth_behind depth (bound_piece q)) rest));
+      piece = Some (InBound (bound_piece (length names) 0 q) (length (f.first ∷ f.others))
+          (ends_before (depth_behind depth (bound_piece (length names) 0 q)) rest));
       len = length (f.first ∷ f.others);
     }
-inner_cut symbols names depth q rest f goes =
+inner_cut symbols names depth before q rest f kept goes =
+    let n = length names in
     ap (λ (v : Bool). cond v (plain_lexeme symbols f.first (f.others ++ rest))
-    (bound_lexeme depth (f.first ∷ (f.others ++ rest)) (lexeme_at names f.first (f.others ++ rest)))) goes
-    ∙ ap (bound_lexeme depth (f.first ∷ (f.others ++ rest))) f.lexeme
-    ∙ ap (λ (bs : List ℕ). inner_lexeme depth bs (bound_piece q) (length (f.first ∷ f.others)))
+    (bound_lexeme n depth before (f.first ∷ (f.others ++ rest)) (lexeme_at names f.first (f.others ++ rest)))) goes
+    ∙ ap (bound_lexeme n depth before (f.first ∷ (f.others ++ rest))) f.lexeme
+    ∙ ap (λ (bs : List ℕ). inner_lexeme depth bs (bound_piece n before q) (length (f.first ∷ f.others)))
     (drop-append_seam (f.first ∷ f.others) rest)
+    ∙ ap (λ (b : BoundPiece). inner_lexeme depth rest b (length (f.first ∷ f.others))) (before_free n before q kept)

@@ -1,10 +1,14 @@
 -- the grammar can be read
 pub mod ReadableGrammar
+-- where names stand among others
+mod Positions
 -- reading a bound
 pub mod BoundLaws
 pub mod StepLaws
 -- bounds within the limits are answered
 pub mod BoundTexts
+-- values that were worked out by hand
+mod WorkedBounds
 -- their pieces, and how these are found again
 pub mod BoundCuts
 pub mod BoundFound

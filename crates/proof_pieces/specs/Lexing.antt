@@ -1,5 +1,6 @@
 -- How a proof file is cut into pieces.
-use Rattle.std.specs.Prelude.{ℕ, ◌-◌, ◌+◌, ◌^◌, min, ◌==◌, ◌&&◌, ◌||◌, nat_le, Bool, true, false, not, if◌then◌else◌}
+use Rattle.std.specs.Prelude.{ℕ, ◌-◌, ◌+◌, ◌^◌, min, ◌==◌, ◌&&◌, ◌||◌, nat_le, nat_lt, Bool, true, false, not}
+use Rattle.std.specs.Prelude.{if◌then◌else◌}
 use Rattle.std.specs.Prelude.{List, [], ◌∷◌, length, take, drop, map, codes, Option, Some, None}
 use Rattle.std.specs.List.{list_all}
 use Rattle.std.specs.Char.{is_ascii_digit}
@@ -150,19 +151,25 @@ place_in symbols run (Some after) =
 abbrev pub place_lexeme : List NameBytes → List ℕ → Lexeme (Option Piece)
 place_lexeme symbols run = lexeme (place_in symbols run (behind_last_dot None run)) (length run)
 
--- a piece of a bound; variables from 2^32-1 on count as that one
-abbrev pub bound_piece : pieces.Piece → BoundPiece
-bound_piece (pieces.Variable i) = bound.Variable (min i (2 ^ 32 - 1))
-bound_piece (pieces.Number n) = bound.Number n
-bound_piece pieces.Maximum = bound.Maximum
-bound_piece pieces.Open = bound.Open
-bound_piece pieces.Close = bound.Close
-bound_piece pieces.Times = bound.Times
-bound_piece pieces.Caret = bound.Caret
-bound_piece pieces.Plus = bound.Plus
-bound_piece pieces.Blank = bound.Blank
-bound_piece pieces.Comma = bound.Comma
-bound_piece pieces.Wrong = bound.Wrong
+-- the variable of a name at a position among n start arguments: a name that is none of them is another variable
+-- wherever it stands, as far behind the last of them as pieces of the bound stand before it; variables from 2^32-1 on
+-- count as that one
+abbrev pub variable_at : ℕ → ℕ → ℕ → ℕ
+variable_at n before i = min (if nat_lt i n then i else i + before) (2 ^ 32 - 1)
+
+-- a piece of a bound over n start arguments, behind so many others
+abbrev pub bound_piece : ℕ → ℕ → pieces.Piece → BoundPiece
+bound_piece n before (pieces.Variable i) = bound.Variable (variable_at n before i)
+bound_piece n before (pieces.Number value) = bound.Number value
+bound_piece n before pieces.Maximum = bound.Maximum
+bound_piece n before pieces.Open = bound.Open
+bound_piece n before pieces.Close = bound.Close
+bound_piece n before pieces.Times = bound.Times
+bound_piece n before pieces.Caret = bound.Caret
+bound_piece n before pieces.Plus = bound.Plus
+bound_piece n before pieces.Blank = bound.Blank
+bound_piece n before pieces.Comma = bound.Comma
+bound_piece n before pieces.Wrong = bound.Wrong
 
 -- a byte ends a bound with so many open brackets: a closing bracket that closes none of these, or what stands behind a
 -- node
@@ -181,13 +188,18 @@ depth_behind depth bound.Maximum = min (depth + 1) (2 ^ 64 - 1)
 depth_behind depth bound.Close = depth - 1
 depth_behind depth piece = depth
 
+-- how many pieces of a bound stand before the next one, behind one that is the last or isn't; 2^64 count as one less
+abbrev pub pieces_behind : ℕ → Bool → ℕ
+pieces_behind before true = 0
+pieces_behind before false = min (before + 1) (2 ^ 64 - 1)
+
 -- a piece of a bound with so many open brackets, before these bytes
 abbrev pub inner_lexeme : ℕ → List ℕ → BoundPiece → ℕ → Lexeme (Option Piece)
 inner_lexeme depth behind piece len = lexeme (InBound piece len (ends_before (depth_behind depth piece) behind)) len
 
--- the piece of a bound that bytes begin with
-abbrev pub bound_lexeme : ℕ → List ℕ → Lexeme pieces.Piece → Lexeme (Option Piece)
-bound_lexeme depth bytes l = inner_lexeme depth (drop l.len bytes) (bound_piece l.piece) l.len
+-- the piece of a bound over n start arguments that bytes begin with, behind so many others
+abbrev pub bound_lexeme : ℕ → ℕ → ℕ → List ℕ → Lexeme pieces.Piece → Lexeme (Option Piece)
+bound_lexeme n depth before bytes l = inner_lexeme depth (drop l.len bytes) (bound_piece n before l.piece) l.len
 
 -- the names of the symbols of a program
 abbrev pub symbol_names : Program → List NameBytes
@@ -199,9 +211,9 @@ lexeme_in symbols arguments mode.Beginning b bytes =
     if is_first (b ∷ bytes) then lexeme First 10 else plain_lexeme symbols b bytes
 lexeme_in symbols arguments mode.InShut b bytes =
     if begins_name b then place_lexeme symbols (b ∷ prefix continues_name bytes) else plain_lexeme symbols b bytes
-lexeme_in symbols arguments (mode.InBound depth) b bytes =
+lexeme_in symbols arguments (mode.InBound depth before) b bytes =
     if ends_bound depth b then plain_lexeme symbols b bytes
-    else bound_lexeme depth (b ∷ bytes) (bounds.lexeme_at arguments b bytes)
+    else bound_lexeme (length arguments) depth before (b ∷ bytes) (bounds.lexeme_at arguments b bytes)
 lexeme_in symbols arguments mode.Plain b bytes = plain_lexeme symbols b bytes
 lexeme_in symbols arguments mode.Closed b bytes = plain_lexeme symbols b bytes
 lexeme_in symbols arguments mode.ClosedBlank b bytes = plain_lexeme symbols b bytes
@@ -219,8 +231,9 @@ mode_with mode.InShut (ASign sign.CloseSquare) = mode.Plain
 mode_with mode.InShut piece = mode.InShut
 mode_with mode.Closed (ASign sign.Blank) = mode.ClosedBlank
 mode_with mode.ClosedBlank (Name word.To symbol) = mode.To
-mode_with mode.To (ASign sign.Blank) = mode.InBound 0
-mode_with (mode.InBound depth) (InBound piece len last) = mode.InBound (depth_behind depth piece)
+mode_with mode.To (ASign sign.Blank) = mode.InBound 0 0
+mode_with (mode.InBound depth before) (InBound piece len last) =
+    mode.InBound (depth_behind depth piece) (pieces_behind before last)
 mode_with m piece = plain_behind piece
 
 abbrev pub mode_behind : Mode → Option Piece → Mode

@@ -4,6 +4,8 @@ pub mod Lexing
 pub mod Found
 pub mod Within
 pub mod Bounds
+-- values that were worked out by hand
+pub mod WorkedBounds
 -- the machinery of the functions inside
 pub mod BoundSteps
 -- the crates below, which callers name through this one

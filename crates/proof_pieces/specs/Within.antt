@@ -58,7 +58,7 @@ in_mode symbols arguments mode.Beginning b bytes = go (is_first (b ∷ bytes)) r
 in_mode symbols arguments mode.InShut b bytes =
     either_fits (length (b ∷ bytes)) (begins_name b) _ _
     (omega arith, (let h = prefix_fits continues_name bytes in omega (arith, h))) (plain_fits symbols b bytes)
-in_mode symbols arguments (mode.InBound depth) b bytes =
+in_mode symbols arguments (mode.InBound depth before) b bytes =
     either_fits (length (b ∷ bytes)) (ends_bound depth b) _ _ (plain_fits symbols b bytes)
     ((bounds.lexes_within arguments).each b bytes)
 in_mode symbols arguments mode.Plain b bytes = plain_fits symbols b bytes

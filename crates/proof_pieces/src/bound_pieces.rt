@@ -1,11 +1,12 @@
 //! The pieces of a bound in a proof file.
 
-ghost use Rattle.std.specs.Prelude.{◌≡◌, ◌∷◌, IsTrue};
+ghost use Rattle.std.specs.Prelude.{◌≡◌, ◌∷◌, ◌+◌, ◌-◌, ◌^◌, ℕ, min, length, IsTrue};
 ghost use Rattle.std.specs.List.{list_all};
 ghost use Rattle.std.specs.Char.{is_ascii_digit};
 ghost use Rattle.text_grammar.specs.text_core.Listed.{names_in};
+ghost use Rattle.text_grammar.specs.text_core.Names.{position_of};
 ghost use Rattle.bound_text.specs.Lexing.{word_at, number_at, mark_at, lexeme_at};
-ghost use Rattle.proof_pieces.specs.Lexing.{bound_piece};
+ghost use Rattle.proof_pieces.specs.Lexing.{bound_piece, variable_at};
 
 use crate::names::{front_digits, front_name, number_of};
 use bound_expr::CAP;
@@ -19,9 +20,28 @@ pub struct BoundLexeme {
     pub len: usize,
 }
 
-// What a name is that `behind` follows.
-fn word(names: &Listed<'_>, name: &[u8], behind: &[u8]) -> BoundLexeme
-    ensures piece { result.piece ≡ bound_piece (word_at (names_in names.now) name.now behind.now).piece }
+// A number and another one, or the greatest that a `u32` holds.
+fn sum_of(position: usize, before: u64) -> u32
+    ensures { result ≡ min (position + before) (2 ^ 32 - 1) }
+{
+    let sum = (position as u64).saturating_add(before);
+    sum.min(u64::from(u32::MAX)) as u32
+}
+
+// Which variable a name is behind so many pieces: one that isn't listed is another one wherever it stands.
+fn variable(names: &Listed<'_>, before: u64, name: &[u8]) -> u32
+    ensures { result ≡ variable_at (length (names_in names.now)) before (position_of name.now (names_in names.now)) }
+{
+    match names.position(name) {
+        Some(position) => number_of(position),
+        None => sum_of(names.position_or_count(name), before),
+    }
+}
+
+// What a name is that `behind` follows, behind so many pieces.
+fn word(names: &Listed<'_>, before: u64, name: &[u8], behind: &[u8]) -> BoundLexeme
+    ensures piece { result.piece
+        ≡ bound_piece (length (names_in names.now)) before (word_at (names_in names.now) name.now behind.now).piece }
     ensures len { result.len ≡ (word_at (names_in names.now) name.now behind.now).len }
 {
     let len = name.len();
@@ -38,9 +58,8 @@ fn word(names: &Listed<'_>, name: &[u8], behind: &[u8]) -> BoundLexeme
             }
         }
     } else {
-        let variable = number_of(names.position_or_count(name));
         BoundLexeme {
-            piece: BoundPiece::Variable(variable),
+            piece: BoundPiece::Variable(variable(names, before, name)),
             len,
         }
     }
@@ -49,7 +68,7 @@ fn word(names: &Listed<'_>, name: &[u8], behind: &[u8]) -> BoundLexeme
 // What digits are.
 fn number(digits: &[u8]) -> BoundLexeme
     requires { IsTrue (list_all is_ascii_digit digits.now) }
-    ensures piece { result.piece ≡ bound_piece (number_at digits.now).piece }
+    ensures piece { (n before : ℕ) → result.piece ≡ bound_piece n before (number_at digits.now).piece }
     ensures len { result.len ≡ (number_at digits.now).len }
 {
     let piece = if has_leading_zero(digits) {
@@ -65,7 +84,7 @@ fn number(digits: &[u8]) -> BoundLexeme
 
 // What any other byte is.
 fn mark(byte: u8) -> BoundPiece
-    ensures { result ≡ bound_piece (mark_at byte) }
+    ensures { (n before : ℕ) → result ≡ bound_piece n before (mark_at byte) }
 {
     match byte {
         b'(' => BoundPiece::Open,
@@ -80,15 +99,22 @@ fn mark(byte: u8) -> BoundPiece
 }
 
 /// The piece of a bound that bytes begin with, of which the first one stands apart too, over arguments with these
-/// names.
-pub fn bound_lexeme(names: &Listed<'_>, bytes: &[u8], first: u8, others: &[u8]) -> BoundLexeme
+/// names, and behind so many pieces.
+pub fn bound_lexeme(
+    names: &Listed<'_>,
+    before: u64,
+    bytes: &[u8],
+    first: u8,
+    others: &[u8],
+) -> BoundLexeme
     requires { bytes.now ≡ first ∷ others.now }
-    ensures piece { result.piece ≡ bound_piece (lexeme_at (names_in names.now) first others.now).piece }
+    ensures piece { result.piece ≡ bound_piece (length (names_in names.now)) before
+        (lexeme_at (names_in names.now) first others.now).piece }
     ensures len { result.len ≡ (lexeme_at (names_in names.now) first others.now).len }
 {
     if begins_name(first) {
         let (name, behind) = front_name(bytes, first, others);
-        word(names, name, behind)
+        word(names, before, name, behind)
     } else if first.is_ascii_digit() {
         number(front_digits(bytes, first, others))
     } else {

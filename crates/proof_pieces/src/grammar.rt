@@ -58,7 +58,7 @@ mod made {
     pub const BEHIND_NUMBER: u32 = 39; pub const BOUND: u32 = 40; pub const NAME: u32 = 41;
 }
 
-// The marks: places of what is done in `ACTIONS`.
+// The marks: positions of what is done in `ACTIONS`.
 #[rattlefmt::skip]
 mod mark {
     pub const FIRST_VERSION: u32 = 0; pub const SECOND_VERSION: u32 = 1; pub const LEMMA_READ: u32 = 2;

@@ -116,13 +116,21 @@ impl<'a> ProofLexer<'a> {
         }
     }
 
-    // What stands in a bound with so many open brackets.
-    fn in_bound(&self, depth: u64, bytes: &[u8], first: u8, others: &[u8]) -> Lexeme<Piece>
+    // What stands in a bound with so many open brackets, behind so many of its pieces.
+    fn in_bound(
+        &self,
+        depth: u64,
+        before: u64,
+        bytes: &[u8],
+        first: u8,
+        others: &[u8],
+    ) -> Lexeme<Piece>
         requires { bytes.now ≡ first ∷ others.now }
-        ensures { lexeme_of result ≡ lexing.bound_lexeme depth bytes.now
+        ensures { lexeme_of result
+            ≡ lexing.bound_lexeme (length (names_in self.now.arguments)) depth before bytes.now
             (bound_at (names_in self.now.arguments) first others.now) }
     {
-        let lexeme = bound_lexeme(&self.arguments, bytes, first, others);
+        let lexeme = bound_lexeme(&self.arguments, before, bytes, first, others);
         let (_, behind) = bytes.split_at(lexeme.len);
         let last = ends_before(depth_behind(depth, lexeme.piece), behind);
         Lexeme {
@@ -155,9 +163,9 @@ impl<'a> Lexer for ProofLexer<'a> {
                     return self.place(run);
                 }
             }
-            Mode::InBound(depth) => {
+            Mode::InBound(depth, before) => {
                 if !ends_bound(depth, first) {
-                    return self.in_bound(depth, bytes, first, others);
+                    return self.in_bound(depth, before, bytes, first, others);
                 }
             }
             Mode::Plain | Mode::Closed | Mode::ClosedBlank | Mode::To => {}

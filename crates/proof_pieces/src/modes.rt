@@ -3,7 +3,7 @@
 ghost use Rattle.std.specs.Prelude.{◌≡◌};
 ghost use Rattle.proof_pieces.specs.Lexing.{depth_behind as depth_behind_piece, ends_before as ends_before_bytes};
 ghost use Rattle.proof_pieces.specs.Lexing.{ends_bound as ends_bound_at, mode_with as mode_with_piece};
-ghost use Rattle.proof_pieces.specs.Lexing.{plain_behind as plain_behind_piece};
+ghost use Rattle.proof_pieces.specs.Lexing.{pieces_behind as pieces_behind_piece, plain_behind as plain_behind_piece};
 
 use crate::piece::{Mode, Piece, Sign, Word};
 use bound_text::Piece as BoundPiece;
@@ -47,6 +47,13 @@ pub fn depth_behind(depth: u64, piece: BoundPiece) -> u64
     }
 }
 
+// How many pieces of a bound stand before the next one.
+fn pieces_behind(before: u64, last: bool) -> u64
+    ensures { result ≡ pieces_behind_piece before last }
+{
+    if last { 0 } else { before.saturating_add(1) }
+}
+
 /// The mode behind a piece.
 pub fn mode_with(mode: Mode, piece: Piece) -> Mode
     ensures { result ≡ mode_with_piece mode piece }
@@ -56,10 +63,10 @@ pub fn mode_with(mode: Mode, piece: Piece) -> Mode
         (Mode::InShut, _) => Mode::InShut,
         (Mode::Closed, Piece::Sign(Sign::Blank)) => Mode::ClosedBlank,
         (Mode::ClosedBlank, Piece::Name(Word::To, _)) => Mode::To,
-        (Mode::To, Piece::Sign(Sign::Blank)) => Mode::InBound(0),
-        (Mode::InBound(depth), Piece::InBound(piece, _, _)) => Mode::InBound(depth_behind(
-            depth, piece,
-        )),
+        (Mode::To, Piece::Sign(Sign::Blank)) => Mode::InBound(0, 0),
+        (Mode::InBound(depth, before), Piece::InBound(piece, _, last)) => {
+            Mode::InBound(depth_behind(depth, piece), pieces_behind(before, last))
+        }
         (_, piece) => plain_behind(piece),
     }
 }

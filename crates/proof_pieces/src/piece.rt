@@ -110,6 +110,6 @@ pub enum Mode {
     ClosedBlank,
     /// `) to`
     To,
-    /// A bound, with so many open brackets.
-    InBound(u64),
+    /// A bound, with so many open brackets, of which so many pieces were read.
+    InBound(u64, u64),
 }

@@ -51,7 +51,7 @@ pub data Ending : Type 0 where
 abbrev pub mode_at : Ending → Mode
 mode_at AtPlain = mode.Plain
 mode_at AtClosed = mode.Closed
-mode_at AtBound = mode.InBound 0
+mode_at AtBound = mode.InBound 0 0
 
 -- a byte is cut off
 abbrev pub byte_cut : (p : Program) (m : Mode) (q : Piece) (b : ℕ) (rest : List ℕ)
@@ -100,7 +100,7 @@ module _ {p : Program} {ss : List Symbol} {s : State} {rest : List ℕ} {Q : Sta
   feed_at AtPlain more = reads (ASign sign.LineFeed) refl (byte_cut p mode.Plain (ASign sign.LineFeed) 10 rest refl) more
   feed_at AtClosed more = reads (ASign sign.LineFeed) refl (byte_cut p mode.Closed (ASign sign.LineFeed) 10 rest refl) more
   feed_at AtBound more =
-      reads (ASign sign.LineFeed) refl (byte_cut p (mode.InBound 0) (ASign sign.LineFeed) 10 rest refl) more
+      reads (ASign sign.LineFeed) refl (byte_cut p (mode.InBound 0 0) (ASign sign.LineFeed) 10 rest refl) more
 
   pub semicolon_at : (x : Ending) → Along p ss s mode.Plain rest Q
       → Along p (item.Piece 40 ∷ ss) s (mode_at x) (59 ∷ rest) Q
@@ -109,7 +109,7 @@ module _ {p : Program} {ss : List Symbol} {s : State} {rest : List ℕ} {Q : Sta
   semicolon_at AtClosed more =
       reads (ASign sign.Semicolon) refl (byte_cut p mode.Closed (ASign sign.Semicolon) 59 rest refl) more
   semicolon_at AtBound more =
-      reads (ASign sign.Semicolon) refl (byte_cut p (mode.InBound 0) (ASign sign.Semicolon) 59 rest refl) more
+      reads (ASign sign.Semicolon) refl (byte_cut p (mode.InBound 0 0) (ASign sign.Semicolon) 59 rest refl) more
 
   pub brace_at : (x : Ending) → Along p ss s mode.Plain rest Q
       → Along p (item.Piece 37 ∷ ss) s (mode_at x) (125 ∷ rest) Q
@@ -118,21 +118,21 @@ module _ {p : Program} {ss : List Symbol} {s : State} {rest : List ℕ} {Q : Sta
   brace_at AtClosed more =
       reads (ASign sign.CloseBrace) refl (byte_cut p mode.Closed (ASign sign.CloseBrace) 125 rest refl) more
   brace_at AtBound more =
-      reads (ASign sign.CloseBrace) refl (byte_cut p (mode.InBound 0) (ASign sign.CloseBrace) 125 rest refl) more
+      reads (ASign sign.CloseBrace) refl (byte_cut p (mode.InBound 0 0) (ASign sign.CloseBrace) 125 rest refl) more
 
   pub bracket_at : (x : Ending) → Along p ss s mode.Closed rest Q
       → Along p (item.Piece 39 ∷ ss) s (mode_at x) (41 ∷ rest) Q
   bracket_at AtPlain more = reads (ASign sign.Close) refl (byte_cut p mode.Plain (ASign sign.Close) 41 rest refl) more
   bracket_at AtClosed more = reads (ASign sign.Close) refl (byte_cut p mode.Closed (ASign sign.Close) 41 rest refl) more
   bracket_at AtBound more =
-      reads (ASign sign.Close) refl (byte_cut p (mode.InBound 0) (ASign sign.Close) 41 rest refl) more
+      reads (ASign sign.Close) refl (byte_cut p (mode.InBound 0 0) (ASign sign.Close) 41 rest refl) more
 
   -- a blank behind a bracket, and behind `to`
   pub blank_closed : Along p ss s mode.ClosedBlank rest Q
       → Along p (item.Piece 32 ∷ ss) s mode.Closed (32 ∷ rest) Q
   blank_closed more = reads (ASign sign.Blank) refl (byte_cut p mode.Closed (ASign sign.Blank) 32 rest refl) more
 
-  pub blank_to : Along p ss s (mode.InBound 0) rest Q → Along p (item.Piece 32 ∷ ss) s mode.To (32 ∷ rest) Q
+  pub blank_to : Along p ss s (mode.InBound 0 0) rest Q → Along p (item.Piece 32 ∷ ss) s mode.To (32 ∷ rest) Q
   blank_to more = reads (ASign sign.Blank) refl (byte_cut p mode.To (ASign sign.Blank) 32 rest refl) more
 
 -- a name is cut off where it can't go on

@@ -9,7 +9,7 @@ use Rattle.proof_pieces.specs.declared.piece.Piece.{Piece}
 use Rattle.proof_pieces.specs.declared.piece.Piece.TheVariants.{First, Name, Number, Sign as ASign, Place, InBound, Wrong}
 use Rattle.proof_pieces.specs.Grammar.{class_of, class_of_word, class_of_sign, class_of_number}
 use Rattle.text_grammar.specs.Texts.{IsLawful}
-use Rattle.proof_text.specs.WorkedReading.{bare, CutsAreTold, BreaksAreTold, ReadingIsTold}
+use Rattle.proof_text.specs.WorkedReading.{bare, CutsAreWorkedOut, BreaksAreWorkedOut, ReadingIsWorkedOut}
 use Rattle.proof_pieces.proofs.ReadableGrammar.{readable}
 
 -- each piece has one of the classes
@@ -86,7 +86,7 @@ lawful = record {
 }
 
 -- what bytes are cut into
-cuts : CutsAreTold
+cuts : CutsAreWorkedOut
 cuts = record {
   first = refl;
   longer = refl;
@@ -95,16 +95,22 @@ cuts = record {
   spot = refl;
   leading_zero = refl;
   other = refl;
+  tab = refl;
+  carriage_return = refl;
+  over_127 = refl;
+  largest_byte = refl;
   places = refl;
   closed = refl;
   behind_bound = refl;
   ended = refl;
   open_end = refl;
+  unlisted = refl;
+  anew = refl;
   to_alone = refl;
 }
 
 -- where they break off
-breaks : BreaksAreTold
+breaks : BreaksAreWorkedOut
 breaks = record {
   nothing_at_all = refl;
   no_lemma = refl;
@@ -115,6 +121,8 @@ breaks = record {
   shorter = refl;
   longer = refl;
   no_blank = refl;
+  tab = refl;
+  carriage_return = refl;
   no_line_feed = refl;
   lemma = refl;
   other_word = refl;
@@ -128,5 +136,5 @@ breaks = record {
 }
 
 -- all of it
-pub reading_told : ReadingIsTold
-reading_told = record { readable = readable; lawful = lawful; cuts = cuts; breaks = breaks }
+pub reading_worked_out : ReadingIsWorkedOut
+reading_worked_out = record { readable = readable; lawful = lawful; cuts = cuts; breaks = breaks }

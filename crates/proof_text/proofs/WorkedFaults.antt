@@ -1,7 +1,11 @@
 -- What reading small proof files comes to.
-use Rattle.std.proofs.Common.{refl}
+use Rattle.std.proofs.Common.{ℕ, refl, ap}
+use Rattle.std.specs.Prelude.{nat_le}
+use Rattle.text_grammar.specs.text_core.Choices.{when}
 use Rattle.text_grammar.specs.text_core.Faults.{faults_at}
-use Rattle.proof_text.specs.WorkedFaults.{NodesAreRead, LemmasAreRefused, BoundsAreRefused, GapsAreRefused, FilesAreTold}
+use Rattle.proof_pieces.specs.declared.kind.ProofKind.TheVariants.{Limit}
+use Rattle.proof_text.specs.Spelled.{lemma_limit, gap_limit}
+use Rattle.proof_text.specs.WorkedFaults.{NodesAreRead, LemmasAreRefused, BoundsAreRefused, GapsAreRefused, FilesAreWorkedOut}
 
 -- each kind of node, and gaps
 nodes : NodesAreRead
@@ -16,12 +20,15 @@ nodes = record {
   spread = refl;
   poly = refl;
   cycle = refl;
+  form_of_two = refl;
+  two_members = refl;
   weaken = refl;
   in_bracket = refl;
   arm = refl;
   no_point = refl;
   never_run = refl;
   gap = refl;
+  gap_points = refl;
 }
 
 -- what is refused of lemmas
@@ -31,12 +38,14 @@ lemmas = record {
   lemma_zero = refl;
   cost = refl;
   no_cost = refl;
+  unpaid = refl;
   rule_zero = refl;
   third_rule = refl;
   large_rule = refl;
   in_set = refl;
   place_zero = refl;
   second_place = refl;
+  large_place = refl;
   symbol = refl;
   largest = refl;
   too_large = refl;
@@ -45,6 +54,10 @@ lemmas = record {
   deepest = refl;
   too_deep = refl;
   cost_first = refl;
+  last_lemma = λ lemmas few. ap (λ (n : ℕ). when (nat_le lemma_limit n) Limit) few;
+  lemma_behind = λ lemmas many. ap (λ (n : ℕ). when (nat_le lemma_limit n) Limit) many;
+  last_gap = λ gaps few. ap (λ (n : ℕ). when (nat_le gap_limit n) Limit) few;
+  gap_behind = λ gaps many. ap (λ (n : ℕ). when (nat_le gap_limit n) Limit) many;
 }
 
 -- of bounds
@@ -60,6 +73,7 @@ bounds = record {
   large = refl;
   text_ends = refl;
   unlisted_at_end = refl;
+  behind_ten = refl;
 }
 
 -- and of gaps
@@ -70,6 +84,7 @@ gaps = record {
   symbol = refl;
   symbol_first = refl;
   name_alone = refl;
+  no_dot = refl;
   no_number = refl;
   leading_zero = refl;
   place_zero = refl;
@@ -80,5 +95,5 @@ gaps = record {
 }
 
 -- all of it
-pub files_told : FilesAreTold
-files_told = record { nodes = nodes; lemmas = lemmas; bounds = bounds; gaps = gaps }
+pub files_worked_out : FilesAreWorkedOut
+files_worked_out = record { nodes = nodes; lemmas = lemmas; bounds = bounds; gaps = gaps }

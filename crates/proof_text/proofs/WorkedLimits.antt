@@ -10,7 +10,7 @@ use Rattle.proof_tree.specs.proof_nodes.Limits.{IsInLimit, AreInLimit, IsFormInL
 use Rattle.proof_text.specs.Spelled.{level_limit, IsSpotOf, IsMemberWithin, IsSymbolFormWithin, IsProofWithin}
 use Rattle.proof_text.specs.Spelled.{IsGapWithin}
 use Rattle.proof_text.specs.Worked.{rule_from, counting, form, at_symbol, member, nested, rank_enter, rank_loop, size_enter}
-use Rattle.proof_text.specs.Worked.{size_loop, LimitsAreTold}
+use Rattle.proof_text.specs.Worked.{size_loop, LimitsAreWorkedOut}
 
 -- the rule that counts down
 abbrev counting_rule : Rule
@@ -161,8 +161,8 @@ past : (n limit : ℕ) → limit + 1 ≤ n → ¬ (n ≤ limit)
 past n limit h k = omega (arith, h, k)
 
 -- what is within the limits, and what isn't
-pub limits_told : LimitsAreTold
-limits_told = record {
+pub limits_worked_out : LimitsAreWorkedOut
+limits_worked_out = record {
   loop = record {
     lemmas = (enter_within, (loop_within, (size_enter_within, (size_loop_within, tt))));
     few_lemmas = omega arith;

@@ -2,12 +2,12 @@
 use Rattle.std.proofs.Common.{refl}
 use Rattle.std.specs.Fmt.{digits}
 use Rattle.proof_text.specs.Texts.{text_of}
-use Rattle.proof_text.specs.Worked.{TextsAreTold}
+use Rattle.proof_text.specs.Worked.{TextsAreWorkedOut}
 
 -- the texts are worked out
-pub texts_told : TextsAreTold
+pub texts_worked_out : TextsAreWorkedOut
 unfolding text_of digits
-texts_told = record {
+texts_worked_out = record {
   nothing_at_all = refl;
   loop = refl;
   empty = refl;
@@ -15,6 +15,8 @@ texts_told = record {
   uses = refl;
   never = refl;
   poly = refl;
+  form_of_two = refl;
+  two_members = refl;
   sum = refl;
   exponent = refl;
   factor = refl;
@@ -22,4 +24,5 @@ texts_told = record {
   no_point = refl;
   never_run = refl;
   gaps = refl;
+  gap_points = refl;
 }

@@ -85,7 +85,7 @@ against_name p s coming w symbol = against_line s w
 
 -- what stands behind the name of a symbol that there is, as one of its places
 abbrev pub against_behind : Program → State → ℕ → Behind → Option ProofKind
-against_behind p s symbol behind.NoNumber = Some kind.BadReference
+against_behind p s symbol behind.NoNumber = Some kind.Syntax
 against_behind p s symbol behind.Nothing = Some kind.Syntax
 against_behind p s symbol behind.LeadingZero = Some kind.Syntax
 against_behind p s symbol (behind.Number n) =
@@ -97,9 +97,10 @@ abbrev pub against_place : Program → State → ℕ → Behind → Option Proof
 against_place p s symbol b =
     or_else (when (nat_le (length p.symbols) symbol) kind.BadReference) (against_behind p s symbol b)
 
--- what is refused of a place stands at the name where there is no such symbol or no number, else at the number
+-- what is refused of a place stands at the name where there is no such symbol, behind the name where no number follows
+-- it, and else at the number
 abbrev pub name_bytes : Program → ℕ → Behind → ℕ
-name_bytes p symbol behind.NoNumber = 0
+name_bytes p symbol behind.NoNumber = if nat_le (length p.symbols) symbol then 0 else length (name_at p symbol)
 name_bytes p symbol b = if nat_le (length p.symbols) symbol then 0 else length (name_at p symbol) + 1
 
 -- the bytes of pieces of a bound

@@ -39,7 +39,7 @@ draft_of d = record {
   floor = scaled_of d.floor;
 }
 
--- the nodes round the innermost one, the outermost first, inside others
+-- the nodes round the innermost one, of which the code's list has the outermost first, inside others
 abbrev pub outer_from : Outer → List Opened → Outer
 outer_from outer [] = outer
 outer_from outer (x ∷ xs) = outer_from (Inside (draft_of x.draft) (map proof_of x.used.items) outer) xs

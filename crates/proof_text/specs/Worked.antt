@@ -130,12 +130,42 @@ gap_with shut = record {
   kept = point (pos 1) 1 ∷ [];
 }
 
+-- a gap with a move of two parts and another one, and a kept point that differs from both
+abbrev pub gap_apart : Gap
+gap_apart =
+    record (gap_with []) {
+      moves = record { parts = pos 1 ∷ pos 2 ∷ []; den = 3 } ∷ point (pos 4) 5 ∷ [];
+      floor = point (pos 6) 7;
+      kept = point (pos 8) 9 ∷ [];
+    }
+
+-- an up arm with a form of two coefficients, and two places
+abbrev pub spread_two : Proof
+spread_two =
+    Spread
+    (record {
+      spot = record { rule = 1; place = 1 };
+      local = record {
+        up = Linear 2 (record { coefs = pos 3 ∷ pos 4 ∷ []; constant = pos 5 }) (6 ∷ 7 ∷ []);
+        low = Poly;
+      };
+    })
+    NoProof
+
+abbrev pub cycle_two : Proof
+cycle_two =
+    Cycle
+    (record { spot = record { rule = 1; place = 1 }; local = record { up = Poly; low = Poly } }
+    ∷ record { spot = record { rule = 2; place = 1 }; local = record { up = Poly; low = Poly } }
+    ∷ [])
+    NoProof
+
 -- two parts
 abbrev pub two_parts : Bound → Bound → Parts
 two_parts a b = Part a (Part b NoParts)
 
 -- the texts of files
-pub record TextsAreTold : Type 0 where
+pub record TextsAreWorkedOut : Type 0 where
   -- nothing at all, and a loop with all its times and sizes
   pub nothing_at_all : HasLines (file_of_lemmas []) (codes "koat-proof 1" ∷ codes "end" ∷ [])
   pub loop : HasLines (file_of_lemmas (rank_enter ∷ rank_loop ∷ size_enter ∷ size_loop ∷ []))
@@ -158,6 +188,10 @@ pub record TextsAreTold : Type 0 where
         local = record { up = Poly; low = Poly };
       }) NoProof)
       (codes "spread 1.1 up poly low poly uses {}")
+  -- what stands in a list keeps its order: the coefficients of a form, its constant behind them, multipliers, and the
+  -- members of a cycle
+  pub form_of_two : HasLine spread_two (codes "spread 1.1 up lin 2 [3 4 5] [6 7] low poly uses {}")
+  pub two_members : HasLine cycle_two (codes "cycle [1.1 up poly low poly; 2.1 up poly low poly] uses {}")
   -- a bound stands behind what it weakens, and an exponent in brackets unless it is a number or a variable
   pub sum : HasLine (Weaken rank_loop (SumOf (two_parts (Input 0) (Constant 7))))
       (codes "weaken (rank 2 set [1 2] den 1 forms [l0 [1 0]; l1 [1 0]] moves [[]; [0]] floor [1] "
@@ -189,6 +223,12 @@ pub record TextsAreTold : Type 0 where
       ∷ codes "gap 2 set [2] shut [l0.1 l1.1] moves [[1 1]] floor [0 0] kept [[1 1]]"
       ∷ codes "end"
       ∷ [])
+  -- the moves, the floor and the kept points of a gap in this order, and of each point its parts, then its denominator
+  pub gap_points : HasLines (record { lemmas = []; gaps = gap_apart ∷ [] })
+      (codes "koat-proof 1"
+      ∷ codes "gap 2 set [2] shut [] moves [[1 2 3]; [4 5]] floor [6 7] kept [[8 9]]"
+      ∷ codes "end"
+      ∷ [])
 
 -- nodes on top of one another, so many below the first
 abbrev pub nested : ℕ → Proof
@@ -204,7 +244,7 @@ abbrev pub power : ℕ → Bound
 power base = PowerOf base (Input 0)
 
 -- what is within the limits, and what isn't
-pub record LimitsAreTold : Type 0 where
+pub record LimitsAreWorkedOut : Type 0 where
   pub loop : IsFileWithin counting (file_of_lemmas (rank_enter ∷ rank_loop ∷ size_enter ∷ size_loop ∷ []))
   -- an earlier lemma is cited, and not the lemma itself, or lemma 0
   pub earlier : IsLemma 1 (Cite 1)
@@ -250,6 +290,6 @@ pub record LimitsAreTold : Type 0 where
   pub no_input : ¬ (IsLemma 0 (Weaken Start (Input 1)))
 
 -- both
-pub record WorkedTexts : Type 0 where
-  pub texts : TextsAreTold
-  pub limits : LimitsAreTold
+pub record TextsAndLimitsAreWorkedOut : Type 0 where
+  pub texts : TextsAreWorkedOut
+  pub limits : LimitsAreWorkedOut

@@ -6,19 +6,20 @@ use Rattle.proof_tree.specs.proof_nodes.Nodes.{Linear, Poly, EmptyCost, NeverCos
 use Rattle.proof_tree.specs.proof_nodes.Nodes.{Proof, Cite, Start, Empty, Unreached, Never, Spread, Cycle, Weaken}
 use Rattle.proof_tree.specs.proof_nodes.Nodes.{Charge}
 use Rattle.proof_tree.specs.proof_nodes.Nodes.{NoProof, AndProof}
-use Rattle.proof_tree.specs.proof_nodes.Gaps.{ProofFile}
+use Rattle.proof_tree.specs.proof_nodes.Gaps.{Gap, ProofFile}
 use Rattle.text_grammar.specs.text_core.Reading.{Answer, Stands, Refused, answer}
 use Rattle.text_grammar.specs.Texts.{reader}
 use Rattle.text_grammar.specs.Worked.{TextsAreRead}
 use Rattle.proof_pieces.specs.declared.piece.Word.TheVariants as word
 use Rattle.proof_pieces.specs.declared.kind.ProofKind.{ProofKind}
 use Rattle.proof_pieces.specs.declared.kind.ProofKind.TheVariants.{Syntax, NumberTooLarge, TooDeep, BadReference}
+use Rattle.proof_pieces.specs.declared.kind.ProofKind.TheVariants.{Limit}
 use Rattle.proof_pieces.specs.Lexing.{tokens}
 use Rattle.proof_text.specs.Remembered.{begun}
-use Rattle.proof_text.specs.Against.{against_node}
+use Rattle.proof_text.specs.Against.{against_line, against_node}
 use Rattle.proof_text.specs.Reading.{proofs_of}
 use Rattle.proof_text.specs.Worked.{counting, form, member, only, rank_enter, size_enter, file_of_lemmas}
-use Rattle.proof_text.specs.Worked.{lines_text, gap_with, two_parts}
+use Rattle.proof_text.specs.Worked.{lines_text, gap_with, gap_apart, spread_two, cycle_two, two_parts}
 
 -- reading bytes comes to this
 abbrev pub ComesTo : List ℕ → Answer ProofFile ProofKind → Type 0
@@ -63,6 +64,9 @@ pub record NodesAreRead : Type 0 where
       }) NoProof)
   pub cycle : IsLineOf (codes "cycle [2.1 up lin 1 [1 0] [0] low lin 1 [0 0] [1]] uses {start}")
       (Cycle (member 2 (form (pos 1) (pos 0)) (0 ∷ []) (form (pos 0) (pos 0)) (1 ∷ []) ∷ []) (only Start))
+  -- what stands in a list keeps its order
+  pub form_of_two : IsLineOf (codes "spread 1.1 up lin 2 [3 4 5] [6 7] low poly uses {}") spread_two
+  pub two_members : IsLineOf (codes "cycle [1.1 up poly low poly; 2.1 up poly low poly] uses {}") cycle_two
   pub weaken : IsLineOf (codes "weaken (start) to 2^(2*A)")
       (Weaken Start (PowerOf 2 (ProductOf (two_parts (Constant 2) (Input 0)))))
   pub in_bracket : IsLineOf (codes "never (weaken (start) to 2^(A + 1))")
@@ -79,6 +83,9 @@ pub record NodesAreRead : Type 0 where
         lemmas = [];
         gaps = gap_with (record { symbol = 0; place = 1 } ∷ record { symbol = 1; place = 1 } ∷ []) ∷ [];
       }))
+  pub gap_points : ComesTo
+      (codes "koat-proof 1\ngap 2 set [2] shut [] moves [[1 2 3]; [4 5]] floor [6 7] kept [[8 9]]\nend\n")
+      (Stands (record { lemmas = []; gaps = gap_apart ∷ [] }))
 
 -- what is refused of lemmas
 pub record LemmasAreRefused : Type 0 where
@@ -88,6 +95,7 @@ pub record LemmasAreRefused : Type 0 where
   -- costs, and none
   pub cost : IsRefusedLemma (codes "cost 1") Syntax 19
   pub no_cost : IsRefused (codes "koat-proof 2\nend\n") Syntax 13
+  pub unpaid : IsRefused (codes "koat-proof 2\nlemma start\nend\n") Syntax 25
   -- rules and places; a number that is too large beats one that isn't there
   pub rule_zero : IsRefusedLemma (codes "unreached 0 uses") BadReference 29
   pub third_rule : IsRefusedLemma (codes "unreached 3 uses") BadReference 29
@@ -95,6 +103,7 @@ pub record LemmasAreRefused : Type 0 where
   pub in_set : IsRefusedLemma (codes "rank 1 set [3]") BadReference 31
   pub place_zero : IsRefusedLemma (codes "spread 1.0 up") BadReference 28
   pub second_place : IsRefusedLemma (codes "spread 1.2 up") BadReference 28
+  pub large_place : IsRefusedLemma (codes "spread 1.36028797018963969 up") NumberTooLarge 28
   pub symbol : IsRefusedLemma (codes "rank 1 set [1] den 1 forms [l9 [0]]") BadReference 47
   -- 2^55 and one more, and with a sign
   pub largest : IsRefusedLemma (codes "empty 1 [36028797018963968") Syntax 45
@@ -106,6 +115,15 @@ pub record LemmasAreRefused : Type 0 where
   pub deepest : against_node (record begun { levels = 64 }) word.Start ≡ None
   pub too_deep : against_node (record begun { levels = 65 }) word.Start ≡ Some TooDeep
   pub cost_first : against_node (record begun { levels = 65 }) word.Cost ≡ Some Syntax
+  -- the 100,000th lemma and the 1,000th gap are read, and no other behind them
+  pub last_lemma : (lemmas : List Proof) → length lemmas ≡ 99999
+      → against_line (record begun { lemmas = lemmas }) word.Lemma ≡ None
+  pub lemma_behind : (lemmas : List Proof) → length lemmas ≡ 100000
+      → against_line (record begun { lemmas = lemmas }) word.Lemma ≡ Some Limit
+  pub last_gap : (gaps : List Gap) → length gaps ≡ 999
+      → against_line (record begun { gaps = gaps }) word.Gap ≡ None
+  pub gap_behind : (gaps : List Gap) → length gaps ≡ 1000
+      → against_line (record begun { gaps = gaps }) word.Gap ≡ Some Limit
 
 -- what is refused of bounds, of which byte 0 is byte 37
 pub record BoundsAreRefused : Type 0 where
@@ -118,6 +136,8 @@ pub record BoundsAreRefused : Type 0 where
   pub large : IsRefusedLemma (codes "weaken (start) to 170141183460469231731687303715884105728\n") NumberTooLarge 37
   pub text_ends : IsRefusedLemma (codes "weaken (start) to A") Syntax 38
   pub unlisted_at_end : IsRefusedLemma (codes "weaken (start) to A + B") BadReference 41
+  -- pieces have more bytes than one
+  pub behind_ten : IsRefusedLemma (codes "weaken (start) to 10*B + 10\n") BadReference 40
 
 -- what is refused of gaps, whose numbers are at most 2^45; the first entry of a list of shut places begins at byte 33
 pub record GapsAreRefused : Type 0 where
@@ -126,6 +146,7 @@ pub record GapsAreRefused : Type 0 where
   pub symbol : IsRefused (codes "koat-proof 1\ngap 2 set [2] shut [l9.1]") BadReference 33
   pub symbol_first : IsRefused (codes "koat-proof 1\ngap 2 set [2] shut [l9.01]") BadReference 33
   pub name_alone : IsRefused (codes "koat-proof 1\ngap 2 set [2] shut [l0.x]") BadReference 33
+  pub no_dot : IsRefused (codes "koat-proof 1\ngap 2 set [2] shut [l0]") Syntax 35
   pub no_number : IsRefused (codes "koat-proof 1\ngap 2 set [2] shut [l0.]") Syntax 36
   pub leading_zero : IsRefused (codes "koat-proof 1\ngap 2 set [2] shut [l0.01]") Syntax 36
   pub place_zero : IsRefused (codes "koat-proof 1\ngap 2 set [2] shut [l0.0]") BadReference 36
@@ -135,7 +156,7 @@ pub record GapsAreRefused : Type 0 where
   pub no_denominator : IsRefused (codes "koat-proof 1\ngap 2 set [2] shut [] moves [[1 -1]") Syntax 47
 
 -- all of it
-pub record FilesAreTold : Type 0 where
+pub record FilesAreWorkedOut : Type 0 where
   pub nodes : NodesAreRead
   pub lemmas : LemmasAreRefused
   pub bounds : BoundsAreRefused

@@ -1,5 +1,5 @@
 -- Where proof files break off, worked out by hand on both sides; references and limits aside.
-use Rattle.std.specs.Prelude.{◌≡◌, ℕ, true, false, List, [], ◌∷◌, length, codes, ⊤}
+use Rattle.std.specs.Prelude.{◌≡◌, ℕ, true, false, List, [], ◌∷◌, ◌++◌, length, codes, ⊤}
 use Rattle.text_grammar.specs.text_core.Tokens.{pieces}
 use Rattle.text_grammar.specs.text_core.Reading.{Answer, Stands, Refused, answer}
 use Rattle.text_grammar.specs.Sounding.{is_readable}
@@ -42,7 +42,7 @@ abbrev pub BreaksOffAt : List ℕ → ℕ → Type 0
 BreaksOffAt bytes at = ComesTo bytes (Refused (record { kind = 1; at = at }))
 
 -- how bytes are cut
-pub record CutsAreTold : Type 0 where
+pub record CutsAreWorkedOut : Type 0 where
   -- the first word, and longer ones; elsewhere it is a name and a `-`
   pub first : IsCutInto (codes "koat-proof 1") (First ∷ ASign sign.Blank ∷ Number 1 ∷ [])
   pub longer : IsCutInto (codes "koat-proofs") (Name word.Other 2 ∷ ASign sign.Minus ∷ Name word.Other 2 ∷ [])
@@ -54,6 +54,11 @@ pub record CutsAreTold : Type 0 where
   pub spot : IsCutInto (codes "10.2") (Number 10 ∷ ASign sign.Dot ∷ Number 2 ∷ [])
   pub leading_zero : IsCutInto (codes "01") (Wrong ∷ [])
   pub other : IsCutInto (codes "+") (Wrong ∷ [])
+  -- no other byte stands for a blank or a line feed: not a tab, not a carriage return, and none over 127
+  pub tab : IsCutInto (9 ∷ []) (Wrong ∷ [])
+  pub carriage_return : IsCutInto (13 ∷ []) (Wrong ∷ [])
+  pub over_127 : IsCutInto (128 ∷ []) (Wrong ∷ [])
+  pub largest_byte : IsCutInto (255 ∷ []) (Wrong ∷ [])
   -- places of symbols among those that are shut, and nowhere else
   pub places : IsCutInto (codes "shut [l1.1 l0. l0.01 l0.1x] l1.1")
       (Name word.Shut 2 ∷ ASign sign.Blank ∷ ASign sign.OpenSquare
@@ -78,10 +83,20 @@ pub record CutsAreTold : Type 0 where
   pub open_end : IsCutInto (codes ") to (A")
       (ASign sign.Close ∷ ASign sign.Blank ∷ Name word.To 2 ∷ ASign sign.Blank
       ∷ InBound bound.Open 1 false ∷ InBound (bound.Variable 0) 1 true ∷ [])
+  -- a name that is no start argument is another variable wherever it stands, and none of the start arguments
+  pub unlisted : IsCutInto (codes ") to B*A*B")
+      (ASign sign.Close ∷ ASign sign.Blank ∷ Name word.To 2 ∷ ASign sign.Blank
+      ∷ InBound (bound.Variable 1) 1 false ∷ InBound bound.Times 1 false ∷ InBound (bound.Variable 0) 1 false
+      ∷ InBound bound.Times 1 false ∷ InBound (bound.Variable 5) 1 true ∷ [])
+  pub anew : IsCutInto (codes ") to B; start) to B")
+      (ASign sign.Close ∷ ASign sign.Blank ∷ Name word.To 2 ∷ ASign sign.Blank
+      ∷ InBound (bound.Variable 1) 1 true ∷ ASign sign.Semicolon ∷ ASign sign.Blank ∷ Name word.Start 2
+      ∷ ASign sign.Close ∷ ASign sign.Blank ∷ Name word.To 2 ∷ ASign sign.Blank
+      ∷ InBound (bound.Variable 1) 1 true ∷ [])
   pub to_alone : IsCutInto (codes "to A") (Name word.To 2 ∷ ASign sign.Blank ∷ Name word.Other 2 ∷ [])
 
 -- where texts break off; the first byte behind `koat-proof 1` and its line feed is byte 13, and `lemma ` ends at 19
-pub record BreaksAreTold : Type 0 where
+pub record BreaksAreWorkedOut : Type 0 where
   pub nothing_at_all : BreaksOffAt [] 0
   pub no_lemma : IsRead (codes "koat-proof 1\nend\n")
   pub costs : IsRead (codes "koat-proof 2\nend\n")
@@ -91,6 +106,8 @@ pub record BreaksAreTold : Type 0 where
   pub shorter : BreaksOffAt (codes "koat-pro 1\n") 0
   pub longer : BreaksOffAt (codes "koat-proofs 1\n") 0
   pub no_blank : BreaksOffAt (codes "koat-proof-1\n") 10
+  pub tab : BreaksOffAt (codes "koat-proof" ++ 9 ∷ codes "1\n") 10
+  pub carriage_return : BreaksOffAt (codes "koat-proof 1" ++ 13 ∷ codes "\nend\n") 12
   pub no_line_feed : BreaksOffAt (codes "koat-proof 1\nend") 16
   pub lemma : IsRead (codes "koat-proof 1\nlemma start\nend\n")
   pub other_word : BreaksOffAt (codes "koat-proof 1\nlemma begin\n") 19
@@ -103,8 +120,8 @@ pub record BreaksAreTold : Type 0 where
   pub no_constant : BreaksOffAt (codes "koat-proof 1\nlemma spread 1.1 up lin 1 []") 40
 
 -- the grammar can be read, texts of it are lawful, and this is how they are cut and where they break off
-pub record ReadingIsTold : Type 0 where
+pub record ReadingIsWorkedOut : Type 0 where
   pub readable : is_readable proof_grammar ≡ true
   pub lawful : IsLawful bare
-  pub cuts : CutsAreTold
-  pub breaks : BreaksAreTold
+  pub cuts : CutsAreWorkedOut
+  pub breaks : BreaksAreWorkedOut

@@ -148,8 +148,7 @@ fn against_behind(p: &Program, kept: &Kept, symbol: u32, behind: Behind) -> Opti
     ensures { result ≡ against.against_behind (program_of p.now) (own_of kept.now) symbol behind }
 {
     match behind {
-        Behind::NoNumber => Some(ProofKind::BadReference),
-        Behind::Nothing | Behind::LeadingZero => Some(ProofKind::Syntax),
+        Behind::NoNumber | Behind::Nothing | Behind::LeadingZero => Some(ProofKind::Syntax),
         Behind::Number(number) => {
             let places = u128::from(arity(p, symbol));
             or_else(
@@ -176,14 +175,12 @@ pub fn name_bytes(p: &Program, symbol: u32, behind: Behind) -> u128
     ensures small { result ≤ 2 ^ 64 }
 {
     let symbol = symbol as usize;
+    if symbol >= p.symbols.len() {
+        return 0;
+    }
+    let name = p.symbols[symbol].name.bytes.len() as u128;
     match behind {
-        Behind::NoNumber => 0,
-        _ => {
-            if symbol < p.symbols.len() {
-                p.symbols[symbol].name.bytes.len() as u128 + 1
-            } else {
-                0
-            }
-        }
+        Behind::NoNumber => name,
+        _ => name + 1,
     }
 }

@@ -1,25 +1,25 @@
 //! Proof files and their texts, worked out by hand.
 
-ghost use Rattle.proof_text.specs.Worked.{WorkedTexts};
-ghost use Rattle.proof_text.specs.WorkedFaults.{FilesAreTold, ProofTextsAreRead};
-ghost use Rattle.proof_text.specs.WorkedReading.{ReadingIsTold};
+ghost use Rattle.proof_text.specs.Worked.{TextsAndLimitsAreWorkedOut};
+ghost use Rattle.proof_text.specs.WorkedFaults.{FilesAreWorkedOut, ProofTextsAreRead};
+ghost use Rattle.proof_text.specs.WorkedReading.{ReadingIsWorkedOut};
 
 /// What the texts of small proof files are, and which files are within the limits, is what was worked out by hand, on
 /// both sides. It has no code: its contract is the law.
 pub fn worked_texts_hold()
-    ensures { WorkedTexts }
+    ensures { TextsAndLimitsAreWorkedOut }
 {}
 
 /// The grammar of proof files can be read, each piece has a class of it, and how small beginnings are cut into pieces,
 /// and where they break off, is what was worked out by hand. It has no code: its contract is the law.
 pub fn worked_breaks_hold()
-    ensures { ReadingIsTold }
+    ensures { ReadingIsWorkedOut }
 {}
 
 /// What reading small proof files comes to, the file or the first refusal, is what was worked out by hand, on both
 /// sides. It has no code: its contract is the law.
 pub fn worked_files_hold()
-    ensures { FilesAreTold }
+    ensures { FilesAreWorkedOut }
 {}
 
 /// The proof files of each program are read as the laws of readers have it. It has no code: its contract is the law.

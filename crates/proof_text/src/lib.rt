@@ -1,7 +1,7 @@
 //! Proof files as text: lemmas and gaps, one on a line, in one spelling.
 //! Contract to the layers above: `text_of` is the text of a proof file, production by production, and `print` writes
-//! exactly that. `read` answers exactly the file for which bytes stand, within the limits and the references of a
-//! program, or exactly the first refusal.
+//! exactly that. `read` answers exactly the file for which bytes stand, or exactly the first refusal, and reads
+//! the text of each file within the limits and the references of a program as that file.
 #![tactic(auto)]
 
 mod action;

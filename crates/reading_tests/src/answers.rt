@@ -5,6 +5,7 @@ use crate::changed::{bytes_changed, tokens_changed};
 use crate::guards::guard;
 use crate::outcomes::{Outcome, outcome_of};
 use crate::printed::{generated, printed};
+use crate::proofs::{Told, proved};
 use crate::replays::replayed;
 use crate::runs::{placeless_run, run, run_beginnings, steps};
 use crate::writing::{Frame, Writing, text_of};
@@ -16,8 +17,9 @@ use std::alloc::Global;
 /// `rules` and `whole` are followed by rules or by a whole text, and answered by what reading it comes to; so are
 /// `long` and `long-whole`, where a program is answered by `read`. `beginnings`, `read-beginnings`, `tokens` and
 /// `bytes` read a text again and again, and `guard` a long one. `run`, `placeless-run`, `steps` and `run-beginnings`
-/// read run files, and `replay` replays one. `print` is followed by rules and `whole-print` by a whole text, and
-/// answered by the canonical text; `generate` by a number, and answered by the text of the generated program.
+/// read run files, `replay` replays one, and `proof` and `count-proof` read a proof file. `print` is followed by rules
+/// and `whole-print` by a whole text, and answered by the canonical text; `generate` by a number, and answered by the
+/// text of the generated program.
 pub(crate) fn answer(alloc: Global, line: &str) -> Result<String, Memory> {
     let Some((call, rest)) = line.split_once(' ') else {
         return String::from_str(alloc, line);
@@ -37,6 +39,8 @@ pub(crate) fn answer(alloc: Global, line: &str) -> Result<String, Memory> {
         "steps" => steps(alloc, rest),
         "run-beginnings" => run_beginnings(alloc, rest),
         "replay" => replayed(alloc, rest),
+        "proof" => proved(alloc, rest, Told::Print),
+        "count-proof" => proved(alloc, rest, Told::Counts),
         "print" => printed(alloc, &text_of(alloc, Frame::Rules, rest)?.text),
         "whole-print" => printed(alloc, &text_of(alloc, Frame::Whole, rest)?.text),
         "generate" => generated(alloc, rest),

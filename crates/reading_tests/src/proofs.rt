@@ -1,0 +1,88 @@
+//! Proof files: a line is rules, and behind a `;` a proof file in which `|` stands for a line feed.
+
+ghost use Rattle.its_model.specs.Valid.{IsValid};
+ghost use Rattle.its_model.specs.Views.{program_of};
+
+use crate::listed::are_listed;
+use crate::runs::bytes_of;
+use crate::writing::{Frame, text_of};
+use its_model::Program;
+use its_reader::read;
+use model::Memory;
+use proof_text::{ProofTextError, print, read as read_proof};
+use proof_tree::ProofFile;
+use std::alloc::{AllocError, Global};
+
+/// What is told of a file that was read.
+#[derive(Clone, Copy)]
+pub(crate) enum Told {
+    /// How many lemmas and gaps it has.
+    Counts,
+    /// And whether it is printed as the same bytes.
+    Print,
+}
+
+/// What reading a proof file of a program comes to: what is told of it, or the refusal. Where the program's text is
+/// refused it is no program.
+pub(crate) fn proved(alloc: Global, line: &str, told: Told) -> Result<String, Memory> {
+    match line.split_once(';') {
+        Some((rules, proof)) => {
+            let program = text_of(alloc, Frame::Rules, rules)?.text;
+            match read(alloc, &program) {
+                Ok(program) => answer(alloc, &program, &bytes_of(alloc, "", proof)?, told),
+                Err(_) => String::from_str(alloc, "no program"),
+            }
+        }
+        None => String::from_str(alloc, "no proof"),
+    }
+}
+
+fn answer(alloc: Global, program: &Program, proof: &[u8], told: Told) -> Result<String, Memory>
+    requires { IsValid (program_of program.now) }
+{
+    match read_proof(alloc, program, proof) {
+        Ok(file) => taken(alloc, program, &file, proof, told),
+        Err(ProofTextError::Syntax { at }) => format!(in alloc; "Syntax at {at}"),
+        Err(ProofTextError::NumberTooLarge { at }) => format!(in alloc; "NumberTooLarge at {at}"),
+        Err(ProofTextError::TooDeep { at }) => format!(in alloc; "TooDeep at {at}"),
+        Err(ProofTextError::BadReference { at }) => format!(in alloc; "BadReference at {at}"),
+        Err(ProofTextError::Limit { at }) => format!(in alloc; "Limit at {at}"),
+        Err(ProofTextError::Memory) => Err(AllocError),
+    }
+}
+
+// What is told of a file that was read from these bytes.
+fn taken(
+    alloc: Global,
+    program: &Program,
+    file: &ProofFile,
+    bytes: &[u8],
+    told: Told,
+) -> Result<String, Memory> {
+    let (lemmas, gaps) = (file.lemmas.len(), file.gaps.len());
+    match told {
+        Told::Counts => format!(in alloc; "lemmas {lemmas}, gaps {gaps}"),
+        Told::Print => {
+            let text = text_again(alloc, program, file, bytes)?;
+            format!(in alloc; "lemmas {lemmas}, gaps {gaps}, {text}")
+        }
+    }
+}
+
+// Whether a file is printed as the same bytes.
+fn text_again(
+    alloc: Global,
+    program: &Program,
+    file: &ProofFile,
+    bytes: &[u8],
+) -> Result<&'static str, Memory> {
+    if !are_listed(program.start_names.len(), &file.lemmas) {
+        return Ok("over other names");
+    }
+    let text = print(alloc, program, file)?;
+    if text.as_slice() == bytes {
+        Ok("same")
+    } else {
+        Ok("other bytes")
+    }
+}
