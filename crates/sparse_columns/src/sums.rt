@@ -90,13 +90,7 @@ fn add_multiple<S: Sums>(sums: &mut S, cell: Cell, factor: i64) -> bool
 }
 
 /// Adds the sum of the multiples of two numbers in the first one's row. The answer is whether it has room.
-fn add_sum<S: Sums>(
-    sums: &mut S,
-    a: Cell,
-    a_factor: i64,
-    b: Cell,
-    b_factor: i64,
-) -> bool
+fn add_sum<S: Sums>(sums: &mut S, a: Cell, a_factor: i64, b: Cell, b_factor: i64) -> bool
     requires places { 0 < S.places sums.old }
     requires a { unsigned_abs a_factor < 2 ^ 31 }
     requires b { unsigned_abs b_factor < 2 ^ 31 }

@@ -1,4 +1,4 @@
-use Rattle.std.proofs.Common.{◌≡◌, arith, ap, ◌∙◌, List, to_z, of_z, sym, refl, length}
+use Rattle.std.proofs.Common.{◌≡◌, arith, ap, ◌∙◌, List, to_z, of_z, sym, refl}
 use Rattle.std.specs.Prelude.{ℤ, ◌+ℤ◌, ◌*ℤ◌}
 use Rattle.std.specs.Int.{w64}
 use Rattle.std.proofs.lemmas.Int.{ints, to_z-of_z}
