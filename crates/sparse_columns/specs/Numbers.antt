@@ -1,5 +1,5 @@
 -- The numbers of a column, row by row.
-use Rattle.std.specs.Prelude.{◌≡◌, ◌≢◌, ◌<◌, ℕ, ℤ, pos, ◌+ℤ◌, nat_eq, if◌then◌else◌, List, [], ◌∷◌, Some, slice_get}
+use Rattle.std.specs.Prelude.{◌≡◌, ◌≢◌, ◌<◌, ℕ, ℤ, pos, ◌+ℤ◌, nat_eq, if◌then◌else◌, List, [], ◌∷◌, Some, slice_get, ◌-◌, vec_len, vec_capacity}
 use Rattle.sparse_columns.specs.declared.cell.Cell.{Cell}
 use Rattle.sparse_columns.specs.declared.cells.Cells.{Cells}
 
@@ -15,6 +15,10 @@ number_of (c ∷ cs) i = alone c.row c.number i +ℤ number_of cs i
 -- the number in row i
 abbrev pub number : Cells → ℕ → ℤ
 number cells i = number_of cells.items.items i
+
+-- for how many more cells there is a place in memory
+abbrev pub places : Cells → ℕ
+places cells = vec_capacity cells.items - vec_len cells.items
 
 -- z is put in row r, and the other numbers are as before
 pub record Puts (old new : Cells) (r : ℕ) (z : ℤ) : Type 0 where

@@ -1,6 +1,6 @@
 //! The numbers of a column.
 
-ghost use Rattle.std.specs.Prelude.{◌≡◌, ℕ, ◌<◌, ◌≤◌, ◌^◌, ◌++◌, [], ◌∷◌, pos, unsigned_abs, true, length, IfOk, IfSome, false, Some, slice_get, ◌≢◌, ◌+ℤ◌};
+ghost use Rattle.std.specs.Prelude.{◌≡◌, ℕ, ◌<◌, ◌≤◌, ◌^◌, ◌++◌, [], ◌∷◌, pos, unsigned_abs, true, length, IfOk, IfSome, false, Some, slice_get, ◌≢◌, ◌+ℤ◌, ◌+◌};
 ghost use Rattle.std.specs.Prelude.{if◌then◌else◌};
 ghost use Rattle.sparse_columns.specs.declared.cell.Cell.{Cell};
 ghost use Rattle.int_laws.specs.Sums.{sum_to};
@@ -18,7 +18,7 @@ pub struct Cells {
 }
 
 impl Cells {
-    ghost use Rattle.sparse_columns.specs.Numbers.{alone, number, number_of, AreNumbers, Puts};
+    ghost use Rattle.sparse_columns.specs.Numbers.{alone, number, number_of, places, AreNumbers, Puts};
 
     /// No numbers.
     pub fn new(alloc: Global) -> Cells
@@ -31,7 +31,8 @@ impl Cells {
 
     /// No numbers, with room for some.
     pub fn with_capacity(alloc: Global, capacity: usize) -> Result<Cells, AllocError>
-        ensures { IfOk result (λ cells. (i : ℕ) → number cells i ≡ pos 0) }
+        ensures numbers { IfOk result (λ cells. (i : ℕ) → number cells i ≡ pos 0) }
+        ensures places { IfOk result (λ cells. places cells ≡ capacity) }
     {
         Ok(Cells {
             items: Vec::with_capacity(alloc, capacity)?,
@@ -76,18 +77,37 @@ impl Cells {
         self.insert(cell)
     }
 
-    /// Puts a number behind the others, if its row comes behind theirs and it is below 2^31 in absolute value; 0 needs no
-    /// room. The answer is whether it was put.
-    pub(crate) fn push(&mut self, row: u32, value: i64) -> Result<bool, AllocError>
-        ensures { IfOk result (λ is_put. is_put ≡ true → Puts self.old self.new row value) }
+    /// Puts a number behind the others, in a place that is there, if its row comes behind theirs and it is below 2^31 in
+    /// absolute value; 0 needs none. The answer is whether it was put.
+    pub(crate) fn push(&mut self, row: u32, value: i64) -> bool
+        requires { 0 < places self.old }
+        ensures puts { result ≡ true → Puts self.old self.new row value }
+        ensures places { places self.old ≤ places self.new + 1 }
     {
         if value == 0 {
-            return Ok(true);
+            return true;
         }
         let Some(cell) = Cell::new(row, value) else {
-            return Ok(false);
+            return false;
         };
-        self.append(cell)
+        self.append_in_place(cell)
+    }
+
+    /// Appends a cell in a place that is there, if its row comes behind those of all others. The answer is whether it was
+    /// appended; else the cells are as before.
+    fn append_in_place(&mut self, cell: Cell) -> bool
+        requires { 0 < places self.old }
+        ensures items { self.new.items.items
+            ≡ (if result then self.old.items.items ++ cell ∷ [] else self.old.items.items) }
+        ensures places { places self.old ≤ places self.new + 1 }
+    {
+        if let Some(last) = self.items.last()
+            && last.row >= cell.row
+        {
+            return false;
+        }
+        self.items.push_reserved(cell);
+        true
     }
 
     /// Appends a cell, if its row comes behind those of all others. The answer is whether it was appended; else the cells

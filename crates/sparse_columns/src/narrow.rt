@@ -5,15 +5,17 @@ ghost use Rattle.sparse_columns.specs.Numbers.{number, number_of};
 
 use crate::cell::Cell;
 use crate::cells::Cells;
-use crate::sums::{Sums, add_combined};
+use crate::sums::{Sums, add_combined, places_of};
 use std::alloc::{AllocError, Global};
 
 impl Sums for Cells {
-    ghost use Rattle.sparse_columns.specs.Numbers.{number};
+    ghost use Rattle.sparse_columns.specs.Numbers.{number, places};
 
     ghost held = { λ cells. number cells };
 
-    fn add(&mut self, row: u32, number: i64) -> Result<bool, AllocError> {
+    ghost places = { λ cells. places cells };
+
+    fn add(&mut self, row: u32, number: i64) -> bool {
         self.push(row, number)
     }
 }
@@ -31,8 +33,8 @@ pub(crate) fn combined_cells(
     ensures { IfOk result (λ found. IfSome found (λ cells. (i : ℕ) → number cells i
         ≡ number_of left.now i *ℤ left_factor +ℤ number_of right.now i *ℤ right_factor)) }
 {
-    let mut cells = Cells::with_capacity(alloc, left.len().saturating_add(right.len()))?;
-    if !add_combined(&mut cells, left, left_factor, right, right_factor)? {
+    let mut cells = Cells::with_capacity(alloc, places_of(left, right)?)?;
+    if !add_combined(&mut cells, left, left_factor, right, right_factor) {
         return Ok(None);
     }
     Ok(Some(cells))

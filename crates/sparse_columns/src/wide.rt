@@ -5,7 +5,7 @@ ghost use Rattle.sparse_columns.specs.Numbers.{alone, number_of};
 ghost use Rattle.sparse_columns.specs.Wide.{wide_number};
 
 use crate::cell::Cell;
-use crate::sums::{Sums, add_combined};
+use crate::sums::{Sums, add_combined, places_of};
 use std::alloc::{AllocError, Global};
 
 /// A number in a row.
@@ -16,14 +16,16 @@ pub(crate) struct Wide {
 }
 
 impl Sums for Vec<Wide> {
-    ghost use Rattle.std.specs.Prelude.{ℕ, ℤ};
+    ghost use Rattle.std.specs.Prelude.{ℕ, ℤ, ◌-◌, vec_len, vec_capacity};
     ghost use Rattle.sparse_columns.specs.Wide.{wide_number};
 
     ghost held = { λ wide. wide_number wide.items };
 
-    fn add(&mut self, row: u32, number: i64) -> Result<bool, AllocError> {
-        self.push(Wide { row, number })?;
-        Ok(true)
+    ghost places = { λ wide. vec_capacity wide - vec_len wide };
+
+    fn add(&mut self, row: u32, number: i64) -> bool {
+        self.push_reserved(Wide { row, number });
+        true
     }
 }
 
@@ -40,8 +42,8 @@ pub(crate) fn combined(
     ensures { IfOk result (λ found. IfSome found (λ wide. (i : ℕ) → wide_number wide.items i
         ≡ number_of left.now i *ℤ left_factor +ℤ number_of right.now i *ℤ right_factor)) }
 {
-    let mut wide = Vec::with_capacity(alloc, left.len())?;
-    if !add_combined(&mut wide, left, left_factor, right, right_factor)? {
+    let mut wide = Vec::with_capacity(alloc, places_of(left, right)?)?;
+    if !add_combined(&mut wide, left, left_factor, right, right_factor) {
         return Ok(None);
     }
     Ok(Some(wide))

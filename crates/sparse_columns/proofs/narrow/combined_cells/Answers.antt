@@ -7,8 +7,8 @@ use Rattle.sparse_columns.proofs.narrow.combined_cells.Goals as goal
 
 pub returns : goal.returns
 returns c i =
-    let sum = c.in_ok-add_combined.ensures c.if-not-branch.false i in
-    let none = c.in_ok-cells.ensures i in
+    let sum = c.add_combined.ensures c.if-not-add_combined.false i in
+    let none = c.in_ok-cells.ensures.numbers i in
     let plain_left = ap (λ (z : ℤ). number_of c.args.left.now i *ℤ z) (to_z-of_z w64 c.args.left_factor c.ranges.left_factor) in
     let plain_right = ap (λ (z : ℤ). number_of c.args.right.now i *ℤ z) (to_z-of_z w64 c.args.right_factor c.ranges.right_factor) in
     omega (arith, ints, sum, none, plain_left, plain_right)

@@ -9,7 +9,7 @@ use Rattle.sparse_columns.proofs.wide.combined.Goals as goal
 
 pub returns : goal.returns
 returns c i =
-    let sum = c.in_ok-add_combined.ensures c.if-not-branch.false i in
+    let sum = c.add_combined.ensures c.if-not-add_combined.false i in
     let none : wide_number c.in_ok-wide.wide.items i ≡ pos 0 = ap (λ (ws : List Wide). wide_number ws i) c.in_ok-wide.ensures.items in
     let plain_left = ap (λ (z : ℤ). number_of c.args.left.now i *ℤ z) (to_z-of_z w64 c.args.left_factor c.ranges.left_factor) in
     let plain_right = ap (λ (z : ℤ). number_of c.args.right.now i *ℤ z) (to_z-of_z w64 c.args.right_factor c.ranges.right_factor) in

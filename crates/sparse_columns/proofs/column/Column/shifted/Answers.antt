@@ -16,7 +16,7 @@ returns c =
     let left : number_of c.as_slice.result.now i ≡ numerator c.args.self.now i = ap (λ (xs : List Cell). number_of xs i) c.as_slice.ensures.items in
     let right : number_of c.as_slice-2.result.now i ≡ number c.put.new.self i = ap (λ (xs : List Cell). number_of xs i) c.as_slice-2.ensures.items in
     let put = (c.in_ok-put.ensures c.if-not-branch.false).each i in
-    let none = c.in_ok-own.ensures i in
+    let none = c.in_ok-own.ensures.numbers i in
     let plain : to_z w64 (of_z w64 c.args.self.now.den) ≡ c.args.self.now.den = search rules in
     let den = ap (λ (z : ℤ). alone c.args.row z i) plain in
     omega (arith, ints, all, left, right, put, none, den)))

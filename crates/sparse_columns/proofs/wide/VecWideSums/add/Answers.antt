@@ -8,8 +8,8 @@ use Rattle.sparse_columns.specs.Wide.{wide_number}
 use Rattle.sparse_columns.proofs.Merging.{wide_number-append}
 use Rattle.sparse_columns.proofs.wide.VecWideSums.add.Goals as goal
 
-pub returns : goal.returns
-returns c _ i =
-    ap (λ (ws : List Wide). wide_number ws i) c.in_ok-push.ensures.items
+pub returns-clause-added : goal.returns-clause-added
+returns-clause-added c _ i =
+    ap (λ (ws : List Wide). wide_number ws i) c.push_reserved.ensures.items
     ∙ (wide_number-append c.args.self.now.items _ i
     ∙ ap (λ (z : ℤ). wide_number c.args.self.now.items i +ℤ alone c.args.row z i) (to_z-of_z w64 c.args.number c.ranges.number))
