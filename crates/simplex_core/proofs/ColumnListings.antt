@@ -13,7 +13,7 @@ use Rattle.sparse_columns.specs.declared.column.Column.{Column}
 use Rattle.sparse_columns.specs.Numbers.{number_of}
 use Rattle.sparse_columns.specs.Columns.{numerator, IsCleared}
 use Rattle.simplex_core.specs.declared.column_table.lists.RowColumns.{RowColumns}
-use Rattle.simplex_core.specs.ColumnListing.{Contains, Names, AreListed, PutsCells, AreTouched, AreMarked, AreBlank, Covers, Unmarks, UnmarksAt, HasAll, HasBoth, HasFirst}
+use Rattle.simplex_core.specs.ColumnListing.{Contains, Names, AreListed, PutsCells, AreTouched, AreMarked, AreBlank, Covers, Unmarks, UnmarksAt, HasAll, HasBoth}
 use Rattle.simplex_core.proofs.Positions.{slice_get-set_same, slice_get-set_other, slice_get-there}
 use Rattle.simplex_core.proofs.Extraction.{slice_get-last, slice_get-before}
 use Rattle.simplex_core.proofs.Searches.{last_or_before}
@@ -55,6 +55,10 @@ contains-before xs x j h = (both-append xs (x ∷ [])).first.each j h
 contains-last : (xs : List ℕ) (x : ℕ) → Contains (xs ++ (x ∷ [])) x
 contains-last xs x = record { at = length xs; is = slice_get-last xs x }
 
+-- where a row's list is another, the other rows' lists name what they did
+pub names-other : (lists : List RowColumns) (r : ℕ) (s : RowColumns) (i j : ℕ) → i ≢ r → Names lists i j → Names (slice_set lists r s) i j
+names-other lists r s i j d h = record { list = h.list; of = slice_get-set_other lists r i s d ∙ h.of; has = h.has }
+
 -- where a list that has all of a row's list takes its place, each list names what it did
 names-kept : (lists : List RowColumns) (r : ℕ) (l s : RowColumns) (i j : ℕ) → slice_get lists r ≡ Some l → HasAll l.columns.items s.columns.items → Names lists i j
     → Names (slice_set lists r s) i j
@@ -68,10 +72,10 @@ names-kept lists r l s i j is all h = go (same_or_other i r)
           of = ap (λ (k : ℕ). slice_get (slice_set lists r s) k) e ∙ slice_get-set_same lists r s (slice_get_within lists r l is);
           has = all.each j (subst (λ (y : RowColumns). Contains y.columns.items j) (sym same) h.has);
         }
-    go (inr d) = record { list = h.list; of = slice_get-set_other lists r i s d ∙ h.of; has = h.has }
+    go (inr d) = names-other lists r s i j d h
 
 -- the row's list names what the new one does
-names-here : (lists : List RowColumns) (r : ℕ) (l s : RowColumns) (j : ℕ) → slice_get lists r ≡ Some l → Contains s.columns.items j → Names (slice_set lists r s) r j
+pub names-here : (lists : List RowColumns) (r : ℕ) (l s : RowColumns) (j : ℕ) → slice_get lists r ≡ Some l → Contains s.columns.items j → Names (slice_set lists r s) r j
 names-here lists r l s j is has = record { list = s; of = slice_get-set_same lists r s (slice_get_within lists r l is); has = has }
 
 -- before any cell
@@ -96,19 +100,6 @@ cells-more a b cells c j m l s all is more at = record {
         subst (λ (f : Cell). Names (slice_set b c.row s) f.row j) cell
         (names-here b c.row l s j is (subst (λ (xs : List ℕ). Contains xs j) (sym more) (contains-last l.columns.items j)))
     go k e there (inr below) = names-kept b c.row l s e.row j is has (all.put k e below there)
-
--- these columns are put into the list of one more cell's row
-pub touched-more : (lists : List RowColumns) (cells : List Cell) (touched : List ℕ) (m : ℕ) (c : Cell) (l s : RowColumns)
-    → ((k j : ℕ) (e : Cell) → k < m → slice_get cells k ≡ Some e → Contains touched j → Names lists e.row j)
-    → slice_get lists c.row ≡ Some l → HasBoth l.columns.items touched s.columns.items → slice_get cells m ≡ Some c
-    → (k j : ℕ) (e : Cell) → k < m + 1 → slice_get cells k ≡ Some e → Contains touched j → Names (slice_set lists c.row s) e.row j
-touched-more lists cells touched m c l s all is both at k j e below there named = go (last_or_before m k (omega arith))
-  where
-    go : (k ≡ m) ⊎ (k < m) → Names (slice_set lists c.row s) e.row j
-    go (inl same) =
-        let cell : c ≡ e = same_Some c e (sym at ∙ (ap (λ (i : ℕ). slice_get cells i) (sym same) ∙ there)) in
-        subst (λ (f : Cell). Names (slice_set lists c.row s) f.row j) cell (names-here lists c.row l s j is (both.second.each j named))
-    go (inr under) = names-kept lists c.row l s e.row j is both.first (all k j e under there named)
 
 -- the lists of the first columns, of which one more is put
 pub listed-more : (columns : List Column) (a b : List RowColumns) (n m : ℕ) (x : Column) (cells : List Cell) → AreListed columns a n m → PutsCells a b cells m (length cells)
@@ -314,7 +305,7 @@ nothing-over w o x u positive ratio e = mul-cancel_ℤ w o (pos 0) positive (rat
 pub pivoted-listed : (xs ys : List Column) (mid : List RowColumns) (n m r : ℕ) (w : ℤ) (shifted : List Cell) (touched : List ℕ) (list : RowColumns) → AreListed xs mid n m → length xs ≡ m
     → pos 0 <ℤ w → r < length mid → list.columns.items ≡ touched → AreTouched xs r touched
     → ((j : ℕ) (a b : Column) → slice_get xs j ≡ Some a → slice_get ys j ≡ Some b → IsCleared a b r w shifted)
-    → ((i j : ℕ) → i < n → number_of shifted i ≢ pos 0 → Contains touched j → Names mid i j)
+    → ((i j : ℕ) → i < n → i ≢ r → number_of shifted i ≢ pos 0 → Contains touched j → Names mid i j)
     → AreListed ys (slice_set mid r list) n m
 pivoted-listed xs ys mid n m r w shifted touched list are size positive below own touch cleared put = record {
   each = λ i j b l lj is d.
@@ -322,17 +313,17 @@ pivoted-listed xs ys mid n m r w shifted touched list are size positive below ow
       row i j a.0 b l lj a.1 d (cleared j a.0 b a.1 is) (same_or_other i r) (zero_or_other (numerator a.0 r));
 }
   where
-    go : (i j : ℕ) (a b : Column) → i < n → j < m → slice_get xs j ≡ Some a → numerator b i ≢ pos 0 → IsCleared a b r w shifted
+    go : (i j : ℕ) (a b : Column) → i < n → i ≢ r → j < m → slice_get xs j ≡ Some a → numerator b i ≢ pos 0 → IsCleared a b r w shifted
         → (numerator a i ≡ pos 0) ⊎ (numerator a i ≢ pos 0) → (number_of shifted i ≡ pos 0) ⊎ (number_of shifted i ≢ pos 0) → (numerator a r ≡ pos 0) ⊎ (numerator a r ≢ pos 0)
         → Names mid i j
-    go i j a b l lj is d h (inr f) s z = are.each i j a l lj is f
-    go i j a b l lj is d h (inl e) (inl f) z =
+    go i j a b l other lj is d h (inr f) s z = are.each i j a l lj is f
+    go i j a b l other lj is d h (inl e) (inl f) z =
         absurd (d (stays (numerator b i) h.divisor (numerator a i) h.under (number_of shifted i) h.over h.positive (h.numbers i) e (zero-mul_ℤ (number_of shifted i) h.over f)))
-    go i j a b l lj is d h (inl e) (inr f) (inl z) =
+    go i j a b l other lj is d h (inl e) (inr f) (inl z) =
         absurd (d (stays (numerator b i) h.divisor (numerator a i) h.under (number_of shifted i) h.over h.positive (h.numbers i) e
         (mul-zero_ℤ (number_of shifted i) h.over (nothing-over w h.over (numerator a r) h.under positive h.ratio z))))
-    go i j a b l lj is d h (inl e) (inr f) (inr z) =
-        put i j l f (touch.all j a is z)
+    go i j a b l other lj is d h (inl e) (inr f) (inr z) =
+        put i j l other f (touch.all j a is z)
 
     row : (i j : ℕ) (a b : Column) → i < n → j < m → slice_get xs j ≡ Some a → numerator b i ≢ pos 0 → IsCleared a b r w shifted
         → (i ≡ r) ⊎ (i ≢ r) → (numerator a r ≡ pos 0) ⊎ (numerator a r ≢ pos 0) → Names (slice_set mid r list) i j
@@ -345,7 +336,7 @@ pivoted-listed xs ys mid n m r w shifted touched list are size positive below ow
       has = subst (λ (ns : List ℕ). Contains ns j) (sym own) (touch.all j a is z);
     }
     row i j a b l lj is d h (inr other) z =
-        let named = go i j a b l lj is d h (zero_or_other (numerator a i)) (zero_or_other (number_of shifted i)) z in
+        let named = go i j a b l other lj is d h (zero_or_other (numerator a i)) (zero_or_other (number_of shifted i)) z in
         record { list = named.list; of = slice_get-set_other mid r i list other ∙ named.of; has = named.has }
 
 -- lists of the same number of rows and columns
@@ -358,54 +349,20 @@ named-contained lists i j l listed named is e =
     subst (λ (ns : List ℕ). Contains ns j) (sym e)
     (subst (λ (m : RowColumns). Contains m.columns.items j) (same_Some named.list l (sym named.of ∙ is)) named.has)
 
--- before any column is looked at
-pub first-none : (listed : List ℕ) (marks : List Bool) (found : List ℕ) (n : ℕ) → marks ≡ replicate n false → HasFirst listed 0 marks found
-first-none listed marks found n e = record {
-  marked = λ j mark. absurd (no-mark n j (ap (λ (ms : List Bool). slice_get ms j) (sym e) ∙ mark));
-  each = λ k j l is. absurd (omega arith);
-}
-
--- a column that has a mark is found already
-pub first-same : (listed : List ℕ) (m : ℕ) (marks : List Bool) (found : List ℕ) (p : ℕ) → HasFirst listed m marks found → slice_get listed m ≡ Some p → slice_get marks p ≡ Some true
-    → HasFirst listed (m + 1) marks found
-first-same listed m marks found p are at mark = record {
-  marked = are.marked;
-  each = λ n j l is. go n j is (last_or_before m n (omega arith));
-}
-  where
-    go : (n j : ℕ) → slice_get listed n ≡ Some j → (n ≡ m) ⊎ (n < m) → Contains found j
-    go n j is (inl e) =
-        subst (λ (o : ℕ). Contains found o) (same_Some p j (sym at ∙ (ap (λ (o : ℕ). slice_get listed o) (sym e) ∙ is))) (are.marked p mark)
-    go n j is (inr l) = are.each n j l is
-
--- one more column is found; no other gets a mark
-pub first-more : (listed : List ℕ) (m : ℕ) (marks more : List Bool) (found : List ℕ) (p : ℕ) → HasFirst listed m marks found → slice_get listed m ≡ Some p
-    → ((j : ℕ) → j ≢ p → slice_get more j ≡ slice_get marks j) → HasFirst listed (m + 1) more (found ++ (p ∷ []))
-first-more listed m marks more found p are at others = record {
-  marked = λ j mark. marked j mark (same_or_other j p);
-  each = λ n j l is. go n j is (last_or_before m n (omega arith));
-}
-  where
-    marked : (j : ℕ) → slice_get more j ≡ Some true → (j ≡ p) ⊎ (j ≢ p) → Contains (found ++ (p ∷ [])) j
-    marked j mark (inl e) = subst (λ (o : ℕ). Contains (found ++ (p ∷ [])) o) (sym e) (contains-last found p)
-    marked j mark (inr d) = contains-before found p j (are.marked j (sym (others j d) ∙ mark))
-
-    go : (n j : ℕ) → slice_get listed n ≡ Some j → (n ≡ m) ⊎ (n < m) → Contains (found ++ (p ∷ [])) j
-    go n j is (inl e) =
-        subst (λ (o : ℕ). Contains (found ++ (p ∷ [])) o) (same_Some p j (sym at ∙ (ap (λ (o : ℕ). slice_get listed o) (sym e) ∙ is))) (contains-last found p)
-    go n j is (inr l) = contains-before found p j (are.each n j l is)
-
--- when all were looked at
-pub first-all : (listed : List ℕ) (marks : List Bool) (found : List ℕ) → HasFirst listed (length listed) marks found → HasAll listed found
-first-all listed marks found are = record { each = λ j named. are.each named.at j (slice_get_within listed named.at j named.is) named.is }
-
--- one list names what another does that names what a third does
-pub all-both : (xs ys zs touched : List ℕ) → HasAll xs ys → zs ≡ ys ++ touched → HasBoth xs touched zs
-all-both xs ys zs touched has e =
-    subst (λ (ns : List ℕ). HasBoth xs touched ns) (sym e)
-    (record { first = record { each = λ j h. (both-append ys touched).first.each j (has.each j h) }; second = (both-append ys touched).second })
-
 -- a list that has all of its row's list takes its place
 pub listed-list : (columns : List Column) (lists : List RowColumns) (n m r : ℕ) (l s : RowColumns) → AreListed columns lists n m → slice_get lists r ≡ Some l
     → HasAll l.columns.items s.columns.items → AreListed columns (slice_set lists r s) n m
 listed-list columns lists n m r l s are is all = record { each = λ i j x a b at d. names-kept lists r l s i j is all (are.each i j x a b at d) }
+
+-- a list that names each column with a number in its row takes the place of the row's list
+pub listed-row : (columns : List Column) (lists : List RowColumns) (n m r : ℕ) (s : RowColumns) (touched : List ℕ) → AreListed columns lists n m → r < length lists
+    → s.columns.items ≡ touched → AreTouched columns r touched → AreListed columns (slice_set lists r s) n m
+listed-row columns lists n m r s touched are below own touch = record { each = λ i j x a b at d. go i j x a b at d (same_or_other i r) }
+  where
+    go : (i j : ℕ) (x : Column) → i < n → j < m → slice_get columns j ≡ Some x → numerator x i ≢ pos 0 → (i ≡ r) ⊎ (i ≢ r) → Names (slice_set lists r s) i j
+    go i j x a b at d (inl e) = record {
+      list = s;
+      of = ap (λ (k : ℕ). slice_get (slice_set lists r s) k) e ∙ slice_get-set_same lists r s below;
+      has = subst (λ (ns : List ℕ). Contains ns j) (sym own) (touch.all j x at (subst (λ (k : ℕ). numerator x k ≢ pos 0) e d));
+    }
+    go i j x a b at d (inr other) = names-other lists r s i j other (are.each i j x a b at d)

@@ -22,11 +22,11 @@ use Rattle.simplex_core.specs.Search.{every}
 use Rattle.simplex_core.specs.Positions.{InTable}
 use Rattle.simplex_core.specs.Outcome.{IsSmallRatio, IsInRange}
 use Rattle.simplex_core.specs.declared.column_table.ColumnTable.{ColumnTable}
-use Rattle.simplex_core.specs.ColumnTables.{ShowsColumns, IsCellOf, AreNotNegative, ClearsTouched, ClearsColumn, ChangesBeside}
+use Rattle.simplex_core.specs.ColumnTables.{ShowsColumns, IsCellOf, AreNotNegative, ClearsTouched, ClearsColumn, ChangesBeside, ListsInRow, ListsTouched}
 use Rattle.simplex_core.proofs.FractionSizes.{lowest-least}
 use Rattle.simplex_core.proofs.Positions.{slice_get-there, slice_get-set_same, slice_get-set_other}
 use Rattle.simplex_core.proofs.Invariant.{same_or_other}
-use Rattle.simplex_core.specs.ColumnListing.{AreTouched}
+use Rattle.simplex_core.specs.ColumnListing.{AreTouched, Contains, Names}
 use Rattle.simplex_core.proofs.ColumnListings.{zero_or_other}
 use Rattle.simplex_core.proofs.Searches.{last_or_before, no_and}
 use Rattle.simplex_core.proofs.Choices.{int_lt-true, lt-int_lt, le-int_lt}
@@ -185,6 +185,35 @@ changes-both a b d one two = record {
   kept = two.kept ∙ one.kept;
   beside = two.beside;
 }
+
+-- these columns are put into the list of one more cell's row
+pub lists-more : (a b d : ColumnTable) (r : ℕ) (cells : List Cell) (touched : List ℕ) (m : ℕ) (c : Cell) → ListsTouched a b r cells touched m → ListsInRow b d c.row touched
+    → slice_get cells m ≡ Some c → ListsTouched a d r cells touched (m + 1)
+lists-more a b d r cells touched m c all one at = record {
+  changes = changes-both a b d all.changes one.changes;
+  put = λ k j e l is apart named. go k j e is apart named (last_or_before m k (omega arith)) (same_or_other e.row c.row);
+}
+  where
+    go : (k j : ℕ) (e : Cell) → slice_get cells k ≡ Some e → e.row ≢ r → Contains touched j → (k ≡ m) ⊎ (k < m) → (e.row ≡ c.row) ⊎ (e.row ≢ c.row) → Names d.lists.items e.row j
+    go k j e is apart named place (inl same) = subst (λ (i : ℕ). Names d.lists.items i j) (sym same) (one.put j named)
+    go k j e is apart named (inl last) (inr other) =
+        let cell : c ≡ e = same_Some c e (sym at ∙ (ap (λ (i : ℕ). slice_get cells i) (sym last) ∙ is)) in
+        absurd (other (ap (λ (x : Cell). x.row) (sym cell)))
+    go k j e is apart named (inr before) (inr other) = one.others e.row j other (all.put k j e before is apart named)
+
+-- a cell in the row that is left out needs nothing
+pub lists-same : (a b : ColumnTable) (r : ℕ) (cells : List Cell) (touched : List ℕ) (m : ℕ) (c : Cell) → ListsTouched a b r cells touched m → slice_get cells m ≡ Some c
+    → c.row ≡ r → ListsTouched a b r cells touched (m + 1)
+lists-same a b r cells touched m c all at own = record {
+  changes = all.changes;
+  put = λ k j e l is apart named. go k j e is apart named (last_or_before m k (omega arith));
+}
+  where
+    go : (k j : ℕ) (e : Cell) → slice_get cells k ≡ Some e → e.row ≢ r → Contains touched j → (k ≡ m) ⊎ (k < m) → Names b.lists.items e.row j
+    go k j e is apart named (inl last) =
+        let cell : c ≡ e = same_Some c e (sym at ∙ (ap (λ (i : ℕ). slice_get cells i) (sym last) ∙ is)) in
+        absurd (apart (ap (λ (x : Cell). x.row) (sym cell) ∙ own))
+    go k j e is apart named (inr before) = all.put k j e before is apart named
 
 -- none of no columns has a number below 0
 pub not_negative-none : (xs : List Column) (i : ℕ) → AreNotNegative xs i 0

@@ -19,11 +19,6 @@ pub record HasBoth (listed more found : List ℕ) : Type 0 where
   pub first : HasAll listed found
   pub second : HasAll more found
 
--- it names the first m of them, and each that has a mark
-pub record HasFirst (listed : List ℕ) (m : ℕ) (marks : List Bool) (found : List ℕ) : Type 0 where
-  pub marked : (j : ℕ) → slice_get marks j ≡ Some true → Contains found j
-  pub each : (n j : ℕ) → n < m → slice_get listed n ≡ Some j → Contains found j
-
 -- the list of row i names column j
 pub record Names (lists : List RowColumns) (i j : ℕ) : Type 0 where
   pub list : RowColumns

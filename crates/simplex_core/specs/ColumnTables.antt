@@ -139,8 +139,16 @@ pub record ChangesBeside (old new : ColumnTable) : Type 0 where
   pub kept : new.columns.items ≡ old.columns.items
   pub beside : IsKept new
 
--- these columns are put into the list of the row of each of the first m cells; what is kept beside the numbers is right,
--- and all else is as before
-pub record ListsTouched (old new : ColumnTable) (cells : List Cell) (touched : List ℕ) (m : ℕ) : Type 0 where
+-- these columns are put into the list of row r, the other rows' lists name what they did; what is kept beside the numbers
+-- is right, and all else is as before
+pub record ListsInRow (old new : ColumnTable) (r : ℕ) (touched : List ℕ) : Type 0 where
   pub changes : ChangesBeside old new
-  pub put : (k j : ℕ) (c : Cell) → k < m → slice_get cells k ≡ Some c → Contains touched j → Names new.lists.items c.row j
+  pub put : (j : ℕ) → Contains touched j → Names new.lists.items r j
+  pub others : (i j : ℕ) → i ≢ r → Names old.lists.items i j → Names new.lists.items i j
+
+-- these columns are put into the list of the row of each of the first m cells but one in row r; what is kept beside the
+-- numbers is right, and all else is as before
+pub record ListsTouched (old new : ColumnTable) (r : ℕ) (cells : List Cell) (touched : List ℕ) (m : ℕ) : Type 0 where
+  pub changes : ChangesBeside old new
+  pub put : (k j : ℕ) (c : Cell) → k < m → slice_get cells k ≡ Some c → c.row ≢ r → Contains touched j
+      → Names new.lists.items c.row j

@@ -1,17 +1,21 @@
 //! For each row the columns that may have a number there.
 
-ghost use Rattle.std.specs.Prelude.{◌≡◌, ℕ, ◌+◌, ◌<◌, ◌^◌, IfOk, true, Some, slice_get, length, ◌++◌, List, [], ◌∷◌};
-ghost use Rattle.simplex_core.specs.ColumnListing.{AreListed, PutsCells, AreRowsBelow, HasAll, HasBoth, HasFirst};
+ghost use Rattle.std.specs.Prelude.{◌≡◌, ◌<◌, ◌^◌, IfOk, length, ◌++◌, List, [], ◌∷◌};
+ghost use Rattle.simplex_core.specs.ColumnListing.{AreListed, PutsCells, AreRowsBelow, HasBoth};
 ghost use Rattle.sparse_columns.specs.declared.cell.Cell.{Cell};
 ghost use Rattle.sparse_columns.specs.declared.column.Column.{Column};
 
 use sparse_columns::{Cell, Column};
 use std::alloc::{AllocError, Global};
 
-/// Columns, in any order.
+/// How many columns a list may hold, however few they were when they last differed.
+const SHORT: usize = 16;
+
+/// Columns, in any order, and how many there were when the list was last made of columns that differ.
 #[derive(Debug, Drop)]
 pub(crate) struct RowColumns {
     columns: Vec<u32>,
+    distinct: usize,
 }
 
 impl RowColumns {
@@ -21,14 +25,18 @@ impl RowColumns {
     {
         RowColumns {
             columns: Vec::new(alloc),
+            distinct: 0,
         }
     }
 
-    /// These columns.
+    /// These columns, which differ, in no more memory than they take.
     pub(super) fn of(columns: Vec<u32>) -> RowColumns
         ensures { result.columns.items ≡ columns.items }
     {
-        RowColumns { columns }
+        let distinct = columns.len();
+        let mut columns = columns;
+        columns.shrink_to_fit();
+        RowColumns { columns, distinct }
     }
 
     /// The columns.
@@ -38,15 +46,10 @@ impl RowColumns {
         self.columns.as_slice()
     }
 
-    /// Where there are more than twice so many, takes out those that stand there before.
-    pub(super) fn shorten(&mut self, alloc: Global, count: usize) -> Result<(), AllocError>
-        ensures { IfOk result (λ _. HasAll self.old.columns.items self.new.columns.items) }
-    {
-        if self.columns.len() / 2 <= count {
-            return Ok(());
-        }
-        self.columns = each_once(alloc, self.columns.as_slice(), count)?;
-        Ok(())
+    /// Whether there are more than `SHORT`, and more than twice as many as when they last differed.
+    pub(super) fn is_long(&self) -> bool {
+        let count = self.columns.len();
+        count > SHORT && count / 2 > self.distinct
     }
 
     /// Adds a column.
@@ -57,50 +60,13 @@ impl RowColumns {
         Ok(())
     }
 
-    /// Adds columns. Where there are more than twice so many before, those that stand there before are taken out.
-    pub(super) fn extend(
-        &mut self,
-        alloc: Global,
-        columns: &[u32],
-        count: usize,
-    ) -> Result<(), AllocError>
+    /// Adds columns.
+    pub(super) fn extend(&mut self, columns: &[u32]) -> Result<(), AllocError>
         ensures { IfOk result (λ _. HasBoth self.old.columns.items columns.now self.new.columns.items) }
     {
-        self.shorten(alloc, count)?;
         self.columns.extend_from_slice(columns)?;
         Ok(())
     }
-}
-
-/// Those of these columns that don't stand there before, of a table of so many.
-fn each_once(alloc: Global, listed: &[u32], count: usize) -> Result<Vec<u32>, AllocError>
-    ensures { IfOk result (λ found. HasAll listed.now found.items) }
-{
-    let mut marks = vec![in alloc; false; count]?;
-    let mut found = Vec::with_capacity(alloc, count)?;
-    for place in 0..listed.len() {
-        keep(listed[place], &mut marks, &mut found)?;
-    }
-    Ok(found)
-}
-
-/// Puts a column behind those that were found, and marks it, if it has no mark.
-fn keep(position: u32, marks: &mut Vec<bool>, found: &mut Vec<u32>) -> Result<(), AllocError>
-    ensures { IfOk result (λ _. (listed : List ℕ) (m : ℕ) → slice_get listed m ≡ Some position
-        → HasFirst listed m marks.old.items found.old.items
-        → HasFirst listed (m + 1) marks.new.items found.new.items) }
-{
-    let place = position as usize;
-    if place >= marks.len() {
-        found.push(position)?;
-        return Ok(());
-    }
-    if marks[place] {
-        return Ok(());
-    }
-    marks[place] = true;
-    found.push(position)?;
-    Ok(())
 }
 
 /// For each row the columns with a number there.

@@ -89,27 +89,28 @@ impl ColumnTable {
     {
         let touched = self.touched_columns(alloc, row)?;
         let front = shifted.before(self.rows);
-        self.list_touched(alloc, front, touched.as_slice())?;
+        self.list_touched(alloc, row, front, touched.as_slice())?;
         self.clear_touched(alloc, row, pivot, shifted, touched.as_slice())?;
         self.lists[row as usize] = RowColumns::of(touched);
         Ok(())
     }
 
-    /// Puts columns into the lists of these cells' rows. Lists that have got long are made shorter before, so none ever
-    /// names more than three times as many columns as there are.
+    /// Puts columns into the lists of these cells' rows, but for one row.
     fn list_touched(
         &mut self,
         alloc: Global,
+        row: u32,
         cells: &[Cell],
         touched: &[u32],
     ) -> Result<(), AllocError>
         requires cells { AreRowsBelow cells.now self.old.rows }
         requires beside { IsKept self.old }
-        ensures { IfOk result (λ _. ListsTouched self.old self.new cells.now touched.now (length cells.now)) }
+        ensures { IfOk result (λ _. ListsTouched self.old self.new row cells.now touched.now (length cells.now)) }
     {
-        let count = self.columns.len();
         for cell in cells {
-            self.lists[cell.row as usize].extend(alloc, touched, count)?;
+            if cell.row != row {
+                self.list_in_row(alloc, cell.row, touched)?;
+            }
         }
         Ok(())
     }

@@ -40,12 +40,12 @@ returns c =
     let rows = all.rows in
     let columns = all.columns in
     let front = c.before-front.result.now in
-    let put : (i j : ℕ) → i < table.rows → number_of shifted i ≢ pos 0 → Contains touched j → Names mid.lists.items i j =
-    λ i j l d named.
+    let put : (i j : ℕ) → i < table.rows → i ≢ row → number_of shifted i ≢ pos 0 → Contains touched j → Names mid.lists.items i j =
+    λ i j l apart d named.
     let there = c.before-front.ensures.lists.all i (let e = short.rows in let first = c.in_ok-touched.ensures.changes.rows in omega (arith, l, e, first)) d in
     subst (λ (ls : List RowColumns). Names ls i j) (sym all.lists)
     (subst (λ (k : ℕ). Names table.lists.items k j) there.3
-    (c.in_ok-list_touched.ensures.put there.0 j there.1 (slice_get_within front there.0 there.1 there.2) there.2
+    (c.in_ok-list_touched.ensures.put there.0 j there.1 (slice_get_within front there.0 there.1 there.2) there.2 (λ e. apart (sym there.3 ∙ e))
     (subst (λ (xs : List ℕ). Contains xs j) (c.as_slice-2.ensures.value ∙ sym c.as_slice.ensures.value) named))) in
     let below : row < length mid.lists.items = (let size = mid.listed in omega (arith, inside, before, rows, size)) in
     record {
