@@ -353,16 +353,3 @@ named-contained lists i j l listed named is e =
 pub listed-list : (columns : List Column) (lists : List RowColumns) (n m r : ℕ) (l s : RowColumns) → AreListed columns lists n m → slice_get lists r ≡ Some l
     → HasAll l.columns.items s.columns.items → AreListed columns (slice_set lists r s) n m
 listed-list columns lists n m r l s are is all = record { each = λ i j x a b at d. names-kept lists r l s i j is all (are.each i j x a b at d) }
-
--- a list that names each column with a number in its row takes the place of the row's list
-pub listed-row : (columns : List Column) (lists : List RowColumns) (n m r : ℕ) (s : RowColumns) (touched : List ℕ) → AreListed columns lists n m → r < length lists
-    → s.columns.items ≡ touched → AreTouched columns r touched → AreListed columns (slice_set lists r s) n m
-listed-row columns lists n m r s touched are below own touch = record { each = λ i j x a b at d. go i j x a b at d (same_or_other i r) }
-  where
-    go : (i j : ℕ) (x : Column) → i < n → j < m → slice_get columns j ≡ Some x → numerator x i ≢ pos 0 → (i ≡ r) ⊎ (i ≢ r) → Names (slice_set lists r s) i j
-    go i j x a b at d (inl e) = record {
-      list = s;
-      of = ap (λ (k : ℕ). slice_get (slice_set lists r s) k) e ∙ slice_get-set_same lists r s below;
-      has = subst (λ (ns : List ℕ). Contains ns j) (sym own) (touch.all j x at (subst (λ (k : ℕ). numerator x k ≢ pos 0) e d));
-    }
-    go i j x a b at d (inr other) = names-other lists r s i j other (are.each i j x a b at d)

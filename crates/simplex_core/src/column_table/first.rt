@@ -13,7 +13,7 @@ ghost use Rattle.simplex_core.specs.ColumnBuilding.{AreSides, IsCosted};
 
 use crate::arithmetic::signed;
 use crate::column_table::ColumnTable;
-use crate::column_table::lists::first_lists;
+use crate::column_table::lists::{first_lists, room_of};
 use crate::problem::{Entry, Problem};
 use crate::sparse_table::first_basis;
 use sparse_columns::Column;
@@ -56,12 +56,14 @@ pub(crate) fn first_columns(
     };
     let basis = first_basis(alloc, problem.rows as usize, problem.cols as usize)?;
     let lists = first_lists(alloc, columns.as_slice(), problem.rows)?;
+    let room = room_of(lists.as_slice());
     let marks = vec![in alloc; false; columns.len()]?;
     Ok(Some(ColumnTable {
         columns,
         right,
         basis,
         lists,
+        room,
         marks,
         first: 0,
         rows: problem.rows,

@@ -2,20 +2,21 @@
 
 ghost use Rattle.std.specs.Prelude.{◌≡◌, ◌<◌, ◌^◌, IfOk, length, ◌++◌, List, [], ◌∷◌};
 ghost use Rattle.simplex_core.specs.ColumnListing.{AreListed, PutsCells, AreRowsBelow, HasBoth};
+ghost use Rattle.simplex_core.specs.ColumnTables.{IsKept, ChangesBeside, ListsInRow};
 ghost use Rattle.sparse_columns.specs.declared.cell.Cell.{Cell};
 ghost use Rattle.sparse_columns.specs.declared.column.Column.{Column};
 
+use crate::column_table::ColumnTable;
 use sparse_columns::{Cell, Column};
 use std::alloc::{AllocError, Global};
 
-/// How many columns a list may hold, however few they were when they last differed.
-const SHORT: usize = 16;
+/// How many columns may be put into lists before they are made anew, for each list, beside twice those that they name.
+const ROOM: usize = 16;
 
-/// Columns, in any order, and how many there were when the list was last made of columns that differ.
+/// Columns, in any order.
 #[derive(Debug, Drop)]
 pub(crate) struct RowColumns {
     columns: Vec<u32>,
-    distinct: usize,
 }
 
 impl RowColumns {
@@ -25,18 +26,16 @@ impl RowColumns {
     {
         RowColumns {
             columns: Vec::new(alloc),
-            distinct: 0,
         }
     }
 
-    /// These columns, which differ, in no more memory than they take.
+    /// These columns, in no more memory than they take.
     pub(super) fn of(columns: Vec<u32>) -> RowColumns
         ensures { result.columns.items ≡ columns.items }
     {
-        let distinct = columns.len();
         let mut columns = columns;
         columns.shrink_to_fit();
-        RowColumns { columns, distinct }
+        RowColumns { columns }
     }
 
     /// The columns.
@@ -44,12 +43,6 @@ impl RowColumns {
         ensures { result.now ≡ self.now.columns.items }
     {
         self.columns.as_slice()
-    }
-
-    /// Whether there are more than `SHORT`, and more than twice as many as when they last differed.
-    pub(super) fn is_long(&self) -> bool {
-        let count = self.columns.len();
-        count > SHORT && count / 2 > self.distinct
     }
 
     /// Adds a column.
@@ -67,6 +60,42 @@ impl RowColumns {
         self.columns.extend_from_slice(columns)?;
         Ok(())
     }
+}
+
+impl ColumnTable {
+    /// Where much was put into the lists, makes them anew, of the columns with a number in each row alone.
+    pub(super) fn renew_lists(&mut self, alloc: Global) -> Result<(), AllocError>
+        requires { IsKept self.old }
+        ensures { IfOk result (λ _. ChangesBeside self.old self.new) }
+    {
+        if self.room > 0 {
+            return Ok(());
+        }
+        self.lists = first_lists(alloc, self.columns.as_slice(), self.rows)?;
+        self.room = room_of(self.lists.as_slice());
+        Ok(())
+    }
+
+    /// Puts columns into a row's list.
+    pub(super) fn list_in_row(&mut self, row: u32, touched: &[u32]) -> Result<(), AllocError>
+        requires row { row < self.old.rows }
+        requires beside { IsKept self.old }
+        ensures { IfOk result (λ _. ListsInRow self.old self.new row touched.now) }
+    {
+        self.lists[row as usize].extend(touched)?;
+        self.room = self.room.saturating_sub(touched.len());
+        Ok(())
+    }
+}
+
+/// How many columns may be put into lists before they are made anew: twice as many as they name, and `ROOM` for each.
+pub(super) fn room_of(lists: &[RowColumns]) -> usize {
+    let mut room: usize = 0;
+    for list in lists {
+        let named = list.columns.len().saturating_mul(2);
+        room = room.saturating_add(named).saturating_add(ROOM);
+    }
+    room
 }
 
 /// For each row the columns with a number there.

@@ -89,27 +89,21 @@ impl ColumnTable {
     {
         let touched = self.touched_columns(alloc, row)?;
         let front = shifted.before(self.rows);
-        self.list_touched(alloc, row, front, touched.as_slice())?;
+        self.list_touched(row, front, touched.as_slice())?;
         self.clear_touched(alloc, row, pivot, shifted, touched.as_slice())?;
         self.lists[row as usize] = RowColumns::of(touched);
         Ok(())
     }
 
     /// Puts columns into the lists of these cells' rows, but for one row.
-    fn list_touched(
-        &mut self,
-        alloc: Global,
-        row: u32,
-        cells: &[Cell],
-        touched: &[u32],
-    ) -> Result<(), AllocError>
+    fn list_touched(&mut self, row: u32, cells: &[Cell], touched: &[u32]) -> Result<(), AllocError>
         requires cells { AreRowsBelow cells.now self.old.rows }
         requires beside { IsKept self.old }
         ensures { IfOk result (λ _. ListsTouched self.old self.new row cells.now touched.now (length cells.now)) }
     {
         for cell in cells {
             if cell.row != row {
-                self.list_in_row(alloc, cell.row, touched)?;
+                self.list_in_row(cell.row, touched)?;
             }
         }
         Ok(())

@@ -1,13 +1,12 @@
 //! The columns with a number in a row.
 
-ghost use Rattle.std.specs.Prelude.{◌≡◌, ◌≢◌, ℕ, ◌+◌, ◌<◌, IfOk, IsTrue, false, Some, List, [], length, slice_get, pos};
+ghost use Rattle.std.specs.Prelude.{◌≡◌, ◌≢◌, ℕ, ◌+◌, ◌<◌, IfOk, IsTrue, false, Some, List, length, slice_get, pos};
 ghost use Rattle.sparse_columns.specs.declared.column.Column.{Column};
 ghost use Rattle.sparse_columns.specs.Columns.{numerator};
 ghost use Rattle.simplex_core.specs.ColumnListing.{AreTouched, AreMarked, AreBlank, Covers, Unmarks, UnmarksAt};
-ghost use Rattle.simplex_core.specs.ColumnTables.{IsKept, ChangesBeside, ListsInRow};
+ghost use Rattle.simplex_core.specs.ColumnTables.{IsKept, ChangesBeside};
 
 use crate::column_table::ColumnTable;
-use crate::column_table::lists::RowColumns;
 use sparse_columns::Column;
 use std::alloc::{AllocError, Global};
 
@@ -22,42 +21,21 @@ impl ColumnTable {
         requires beside { IsKept self.old }
         ensures touched { IfOk result (λ touched. AreTouched self.old.columns.items row touched.items) }
         ensures changes { IfOk result (λ _. ChangesBeside self.old self.new) }
-        ensures lists { self.new.lists.items ≡ self.old.lists.items }
+    {
+        self.renew_lists(alloc)?;
+        self.touched_listed(alloc, row)
+    }
+
+    /// The columns with a number in a row, by its list.
+    fn touched_listed(&mut self, alloc: Global, row: u32) -> Result<Vec<u32>, AllocError>
+        requires row { row < self.old.rows }
+        requires beside { IsKept self.old }
+        ensures touched { IfOk result (λ touched. AreTouched self.old.columns.items row touched.items) }
+        ensures changes { IfOk result (λ _. ChangesBeside self.old self.new) }
     {
         let columns = self.columns.as_slice();
         let listed = self.lists[row as usize].as_slice();
         touched_of(alloc, columns, listed, row, &mut self.marks)
-    }
-
-    /// Puts columns into a row's list. Where the list has got long, it first keeps those alone that have a number in the
-    /// row, each once, so that it never holds many more than had one since then.
-    pub(super) fn list_in_row(
-        &mut self,
-        alloc: Global,
-        row: u32,
-        touched: &[u32],
-    ) -> Result<(), AllocError>
-        requires row { row < self.old.rows }
-        requires beside { IsKept self.old }
-        ensures { IfOk result (λ _. ListsInRow self.old self.new row touched.now) }
-    {
-        self.shorten(alloc, row)?;
-        self.lists[row as usize].extend(touched)?;
-        Ok(())
-    }
-
-    /// Where a row's list has got long, keeps those alone that have a number in the row, each once.
-    fn shorten(&mut self, alloc: Global, row: u32) -> Result<(), AllocError>
-        requires row { row < self.old.rows }
-        requires beside { IsKept self.old }
-        ensures { IfOk result (λ _. ListsInRow self.old self.new row []) }
-    {
-        if !self.lists[row as usize].is_long() {
-            return Ok(());
-        }
-        let touched = self.touched_columns(alloc, row)?;
-        self.lists[row as usize] = RowColumns::of(touched);
-        Ok(())
     }
 }
 
