@@ -10,7 +10,7 @@ use crate::column_table::ColumnTable;
 use sparse_columns::{Cell, Column};
 use std::alloc::{AllocError, Global};
 
-/// How many columns may be put into lists before they are made anew, for each list, beside twice those that they name.
+/// How many columns may be put into lists before they are made anew, for each list, beside eight times those they name.
 const ROOM: usize = 16;
 
 /// Columns, in any order.
@@ -29,12 +29,14 @@ impl RowColumns {
         }
     }
 
-    /// These columns, in no more memory than they take.
+    /// These columns. Where they take less than a quarter of their memory, the rest is given back.
     pub(super) fn of(columns: Vec<u32>) -> RowColumns
         ensures { result.columns.items ≡ columns.items }
     {
         let mut columns = columns;
-        columns.shrink_to_fit();
+        if columns.len() < columns.capacity() / 4 {
+            columns.shrink_to_fit();
+        }
         RowColumns { columns }
     }
 
@@ -88,11 +90,11 @@ impl ColumnTable {
     }
 }
 
-/// How many columns may be put into lists before they are made anew: twice as many as they name, and `ROOM` for each.
+/// How many columns may be put into lists before they are made anew: eight times as many as they name, and `ROOM` each.
 pub(super) fn room_of(lists: &[RowColumns]) -> usize {
     let mut room: usize = 0;
     for list in lists {
-        let named = list.columns.len().saturating_mul(2);
+        let named = list.columns.len().saturating_mul(8);
         room = room.saturating_add(named).saturating_add(ROOM);
     }
     room

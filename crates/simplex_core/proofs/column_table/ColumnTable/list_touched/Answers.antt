@@ -24,10 +24,10 @@ loop-cell-preserved c =
     let before = c.loop-cell.invariant in
     let at = slice_get_read cells (length cells) m cell refl c.loop-cell-test.true c.cell-item.is in
     elim c.if-cell-row.branch [
-      then-cell-row+in_ok-list_in_row w ↦
+      | then-cell-row+in_ok-list_in_row w ↦
           subst (λ (t : ColumnTable). ListsTouched old t row cells touched (m + 1)) (sym w.self-is)
           (lists-more old table w.list_in_row.new.self row cells touched m cell before w.in_ok-list_in_row.ensures at)
-    | else-cell-row w ↦
+      | else-cell-row w ↦
           let same = w.if-cell-row.false in
           subst (λ (t : ColumnTable). ListsTouched old t row cells touched (m + 1)) (sym w.self-is)
           (lists-same old table row cells touched m cell before at (omega (arith, same)))

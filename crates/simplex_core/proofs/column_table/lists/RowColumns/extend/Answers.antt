@@ -1,4 +1,4 @@
-use Rattle.std.proofs.Common.{sym, subst, List, ℕ, ◌++◌}
+use Rattle.std.proofs.Common.{sym, subst, List, ℕ}
 use Rattle.simplex_core.specs.ColumnListing.{HasBoth}
 use Rattle.simplex_core.proofs.ColumnListings.{both-append}
 use Rattle.simplex_core.proofs.column_table.lists.RowColumns.extend.Goals as goal
