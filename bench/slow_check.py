@@ -1,10 +1,11 @@
 """A plain slow checker of proof files, by their description alone: nothing of the crates is used.
 
-`verdict(program, text)` is what `koat check` writes of a proof file: that it is accepted, with its facts and gaps, or
-the first node or gap that isn't, and why. The program is one of `slow_forms.py`, and the proof's text is one of it that
-`slow_proofs.py` takes. Nodes are judged one by one, each by its checks in order; facts are looked up along a list.
+`said(program, text)` is what `koat check` writes of a proof's text, line by line: its first refusal; or that the file
+is accepted, with its facts and gaps; or the first node or gap that isn't, and why. The program is one of
+`slow_forms.py`. Nodes are judged one by one, each by its checks in order; facts are looked up along a list.
 """
 
+import slow_proofs
 from slow_bounds import ONE, ZERO, below, is_large, nodes, rewritten, text_of
 from slow_trees import tree_of
 
@@ -318,7 +319,11 @@ def fact_line(names, fact):
     return f"{kind} {rule}{f'.{place}' if kind == 'size' else ''}: {text_of(bound, names)}"
 
 
-def verdict(program, text):
+def said(program, text):
+    refusal = slow_proofs.Reading(program.known, text).verdict()
+    if not refusal.startswith("lemmas "):
+        kind, _, at = refusal.partition(" at ")
+        return [f"proof refused at {at}: {kind}"]
     lemmas, gaps = tree_of(program, text)
     checker = Checker(program)
     for number, lemma in enumerate(lemmas, 1):

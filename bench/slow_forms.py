@@ -6,6 +6,7 @@
 from math import gcd
 from typing import NamedTuple
 
+import slow_proofs
 from slow_reading import expanded
 
 
@@ -65,7 +66,8 @@ def forms_of(source, target, left, variables, atoms, updates):
 
 
 class Program:
-    """What proofs speak of: symbols in the order in which rules name them, rules from 1, and start names."""
+    """What proofs speak of: symbols in the order in which rules name them, rules from 1, start names; and the same for
+    a reading of proofs, as `known`."""
 
     def __init__(self, reading):
         self.start = reading.starts[0].text
@@ -79,6 +81,9 @@ class Program:
             self.costs.append(rule.cost and forms_of(*parts, rule.atoms + [paid], [rule.cost]))
         first = next(rule for rule in reading.rules if rule.source == self.start)
         self.names = [name.decode() for name in first.variables[:first.left]]
+        targets = [self.symbols.index(rule.target) for rule in reading.rules]
+        names = [name.decode() for name in self.symbols]
+        self.known = slow_proofs.Program(names, list(self.arities.values()), targets, self.names)
 
     def numbers(self):
         return range(1, len(self.rules))
