@@ -46,7 +46,7 @@ def token_at(text, at):
 
 class Rule(NamedTuple):
     """A rule: its variables in order, of which the first `left` are the left side's; expressions are trees; an atom has
-    a left side, a relation and a right side, or is none where it always holds."""
+    a left side, a relation and a right side, or is none where it always holds; so is a cost that isn't written."""
 
     source: bytes
     left: int
@@ -54,6 +54,7 @@ class Rule(NamedTuple):
     target: bytes
     updates: list
     atoms: list
+    cost: tuple
 
 
 class Unexpanded(Exception):
@@ -219,7 +220,7 @@ class Reading:
         self.list_of(self.left_argument)
         left = len(self.variables)
         self.close_term(source, left)
-        counted = self.arrow()
+        cost = self.arrow()
         within = self.is_next("name") and self.next.text == b"Com_1"
         if within:
             self.take()
@@ -233,18 +234,19 @@ class Reading:
         self.close_term(target, self.list_of(self.right_argument))
         if within:
             self.take(")")
-        self.guard(counted)
-        self.rules.append(Rule(source, left, self.variables, target, self.updates, self.guards))
+        self.guard(0 if cost is None else 1)
+        self.rules.append(Rule(source, left, self.variables, target, self.updates, self.guards, cost))
 
     def arrow(self):
-        """As how many atoms of its rule the arrow counts: as one where it has a cost."""
+        """The cost that the arrow has, which counts as an atom of its rule."""
         if not self.is_next("-{"):
             self.take("->")
-            return 0
+            return None
         self.take()
-        self.note_unexpanded([self.expression()])
+        cost = self.expression()
+        self.note_unexpanded([cost])
         self.take("}>")
-        return 1
+        return cost
 
     def list_of(self, argument):
         """How many arguments there are up to the closing bracket."""

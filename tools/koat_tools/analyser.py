@@ -3,6 +3,7 @@
 import os
 import re
 import subprocess
+import tempfile
 from dataclasses import dataclass
 from typing import Optional
 
@@ -12,14 +13,16 @@ TOP = os.path.dirname(os.path.dirname(os.path.dirname(os.path.abspath(__file__))
 
 # Statuses up to 6 are koat's own and mean the same here.
 WORDS_FAULT, READ_FAULT, WRITE_FAULT, REFUSED, NO_KOAT, KOAT_FAILED, NO_DOT, BAD_INPUT = 2, 3, 4, 6, 10, 11, 12, 13
-BAD_RUN = 14
+BAD_RUN, BAD_PROOF = 14, 15
 
-# koat's statuses of a run that is refused, and of steps that are none.
+# koat's statuses of a run that is refused, and of steps that are none; of a proof that is refused, and of one that
+# isn't accepted.
 RUN_REFUSALS = (9, 10)
+PROOF_REFUSED, NOT_ACCEPTED = 7, 8
 
 # One byte more than koat takes, so that it says itself that a text is too long.
 MOST = 4194304 + 1
-MOST_OF_RUN = 67108864 + 1
+MOST_OF_RUN = MOST_OF_PROOF = 67108864 + 1
 
 
 class Stop(Exception):
@@ -63,8 +66,8 @@ def read_file(name, most=MOST):
 
 def analyse(name, pivots=None, seconds=None, with_facts=False):
     """What koat says of the file; the text goes to its standard input, so that it is read once."""
-    data = read_file(name)
-    ran = _ran(["facts" if with_facts else "analyse", *([] if pivots is None else ["--pivots", str(pivots)]), "-"], data, seconds)
+    data, command = read_file(name), "facts" if with_facts else "analyse"
+    ran = _ran([command, *([] if pivots is None else ["--pivots", str(pivots)]), "-"], data, seconds)
     return _answer(ran.returncode, ran.stdout, data, name)
 
 
@@ -83,6 +86,28 @@ def replay(answer, run, seconds=None):
     except (runs.ReplayError, ValueError, IndexError) as fault:
         raise Stop(KOAT_FAILED, f"koat's replay can't be read: {fault}") from fault
     raise Stop(KOAT_FAILED, f"koat ended with status {ran.returncode}" + (f": {said.splitlines()[0]}" if said else ""))
+
+
+def prove(answer, pivots=None, seconds=None):
+    """The text of the proof file that koat writes of a program that it took."""
+    ran = _ran(["prove", *([] if pivots is None else ["--pivots", str(pivots)]), "-"], answer.data, seconds)
+    if ran.returncode not in (0, 1):
+        raise Stop(KOAT_FAILED, f"koat ended with status {ran.returncode}")
+    return ran.stdout
+
+
+def check(answer, data, seconds=None):
+    """What koat's checker says of a proof file's text, line by line; a refusal of the text ends the call."""
+    with tempfile.NamedTemporaryFile() as file:
+        file.write(data)
+        file.flush()
+        ran = _ran(["check", "--", "-", file.name], answer.data, seconds)
+    said = ran.stdout.decode("latin-1").splitlines()
+    if ran.returncode == PROOF_REFUSED and said:
+        raise Stop(BAD_PROOF, f"the proof: {said[0]}")
+    if ran.returncode not in (0, NOT_ACCEPTED) or not said:
+        raise Stop(KOAT_FAILED, f"koat ended with status {ran.returncode}" + (f": {said[0]}" if said else ""))
+    return said
 
 
 def _ran(words, data, seconds):

@@ -8,7 +8,7 @@ import random
 import re
 import sys
 
-from . import analyser, bounds, explain, growth, lint, page, picture, programs, reports, runs
+from . import analyser, bounds, explain, growth, lint, page, picture, programs, proofs, reports, runs, sentences
 from .analyser import Stop
 
 HELP = """Shows what koat says of a program in other forms. It runs koat and changes nothing of what it says; what
@@ -21,13 +21,15 @@ stands beside it (hints, O-classes, values, pictures) is worked out here and isn
   class FILE          the O-class of each bound, and a last line as the termination competition has it
   at FILE A=30 B=12   the value of each bound at these inputs
   run FILE A=30 B=12  a run made at random from these inputs, as a run file for `koat replay`
+  proof FILE          the proof of the bounds in sentences, lemma by lemma; with --proof PROOF that of this file
   page FILE           a page for the browser: the graph, the rules with their bounds, fields for the inputs; with
                       --run RUN also how often each rule occurs in the run of that file, and how large values become"""
 
 STATUSES = """status: 0 done; 1 lint found a likely slip; 2 the words are no command line; 3 FILE can't be read; 4
 the output can't be written; 6 koat refused the program; 10 koat can't be run; 11 koat gave no answer, or none that
 can be read; 12 dot is missing, failed or took too long; 13 inputs of `at` or `run` are wrong; 14 koat refused the run;
-130 interrupted. FILE may be - for standard input. The variable KOAT names another program than ./koat."""
+15 koat refused the proof's text, or doesn't accept it; 130 interrupted. FILE may be - for standard input. The
+variable KOAT names another program than ./koat."""
 
 
 INTERRUPTED = 130
@@ -63,6 +65,8 @@ def parser():
         if name == "run":
             one.add_argument("--steps", metavar="N", type=counted, default=1000, help="how many steps at most; 1,000")
             one.add_argument("--seed", metavar="N", type=counted, default=0, help="another number gives another run; 0")
+        if name == "proof":
+            one.add_argument("--proof", metavar="PROOF", help="a proof file, in place of the one that koat writes")
         if name == "page":
             one.add_argument("--without-picture", action="store_true", help="needs no dot")
             one.add_argument("--run", metavar="RUN", help="the file of a run, shown beside the bounds")
@@ -213,6 +217,24 @@ def _run(asked, out):
     return 0
 
 
+def _proof(asked, out):
+    """Shows the proof of the bounds in sentences, which koat's checker accepted, or says what it doesn't accept."""
+    answer = _reported(asked)
+    if asked.proof is None:
+        data = analyser.prove(answer, asked.pivots, asked.seconds)
+    else:
+        data = analyser.read_file(asked.proof, analyser.MOST_OF_PROOF)
+    said = analyser.check(answer, data, asked.seconds)
+    is_accepted = said[0] == "accepted"
+    try:
+        facts = [it for it in said[1:] if not it.startswith("gap ")] if is_accepted else None
+        _print(sentences.lines(answer.program, proofs.read(data.decode("latin-1")), facts), out)
+    except (proofs.ProofError, sentences.FactsError, LookupError) as fault:
+        raise Stop(analyser.KOAT_FAILED, f"the proof can't be read: {fault}") from fault
+    print(f"koat's checker {'accepts this proof' if is_accepted else f'does not accept it: {said[0]}'}", file=out)
+    return 0 if is_accepted else analyser.BAD_PROOF
+
+
 def _page(asked, out):
     """Writes one page that needs nothing else: HTML with the picture, the styles and the script in it."""
     answer = _reported(asked)
@@ -224,4 +246,5 @@ def _page(asked, out):
 
 WITH_INPUTS = ("at", "run")
 
-COMMANDS = {"explain": _explain, "lint": _lint, "json": _json, "class": _class, "at": _at, "run": _run, "page": _page}
+COMMANDS = {"explain": _explain, "lint": _lint, "json": _json, "class": _class, "at": _at, "run": _run, "proof": _proof,
+            "page": _page}

@@ -52,9 +52,12 @@ def _over(part, denominator):
 
 
 def _gap(report, entry, program):
-    facts = entry.why.facts
-    told = _no_function(entry.rule, facts["rules"]) + _shut(facts["shut"])
-    return told + _moves(facts, entry.rule, program) + [ADVICE]
+    return gap_words(entry.why.facts, entry.rule, program) + [ADVICE]
+
+
+def gap_words(facts, rule, program):
+    """Why no function ranks a rule, by the facts of a gap: its rules, its shut places, its moves and its floor."""
+    return _no_function(rule, facts["rules"]) + _shut(facts["shut"]) + _moves(facts, rule, program)
 
 
 ADVICE = ("Where no run gets there, a comparison of degree 1 is missing from the guard: add what holds of the "
