@@ -1,5 +1,5 @@
 -- With which status a replay ends, whichever of its two files is there: what each answer says of what the shelf holds.
-use Rattle.std.proofs.Common.{◌≡◌, ◌≢◌, ◌⊎◌, ◌↔◌, ℕ, ◌<◌, List, [], length, Option, Some, None, refl, sym, ◌∙◌, subst}
+use Rattle.std.proofs.Common.{◌≡◌, ◌≢◌, ◌⊎◌, ◌↔◌, ℕ, ◌<◌, List, length, Option, Some, None, refl, sym, ◌∙◌, subst}
 use Rattle.std.proofs.Common.{inl, inr}
 use Rattle.std.specs.Prelude.{IsSomeAnd, IfSome}
 use Rattle.std.specs.FinMap.{get}
@@ -23,8 +23,7 @@ use Rattle.koat_cli.specs.RunTexts.{runs, run_limit}
 use Rattle.koat_cli.specs.Ends.{Ends, FirstGave}
 use Rattle.koat_cli.specs.Answering.{SpellsOne, SpellsNone}
 use Rattle.koat_cli.specs.MissingFiles.{AsksOnShelf, MissesFile, GivesNoProgram, MissingFilesAreTold}
-use Rattle.koat_cli.proofs.Answering.{same_held, refused_for_none}
-use Rattle.koat_cli.proofs.AnsweringReplays.{no_program}
+use Rattle.koat_cli.proofs.Answering.{same_held, refused_for_none, program_apart}
 use Rattle.koat_cli.proofs.Exclusions.{Determined}
 use Rattle.koat_cli.proofs.OneRequest.{answer_of}
 use Rattle.koat_cli.proofs.ReplayStatuses.{Tells, replay_tells}
@@ -102,7 +101,7 @@ module _ (seen : Seen) (shelf : Files) (file run : Word) (tells : seen.held ≡ 
     second_missed : (s : Status) (x bytes : List ℕ) → get shelf file ≡ Some bytes → SpellsOne bytes (λ p. get shelf run ≡ None)
         → Answers seen (Replay file run) s x → s ≡ ReadFault
     second_missed s x bytes is spells (NoProgram a) =
-        absurd (no_program laws bytes [] (λ p. get shelf run ≡ None) spells
+        absurd (program_apart bytes (λ p. get shelf run ≡ None) spells
         (refused_for_none laws seen file bytes s x (held_some file bytes is) steady a).1)
     second_missed s x bytes is spells (Behind a) = run_missed s x a.program spells.holds a.said
 
@@ -140,7 +139,7 @@ module _ (seen : Seen) (shelf : Files) (file run : Word) (tells : seen.held ≡ 
         let same : a.given.bytes ≡ bytes = same_held seen.held file bytes a.given.bytes (held_some file bytes is) a.given.held in
         let spelled : SpellsOne bytes (λ p. p ≡ a.program) =
         subst (λ (b : List ℕ). SpellsOne b (λ p. p ≡ a.program)) same (spells_of a.program a.given (λ p. p ≡ a.program) refl) in
-        absurd (no_program laws bytes [] (λ p. p ≡ a.program) spelled none)
+        absurd (program_apart bytes (λ p. p ≡ a.program) spelled none)
 
     -- so each of the two statuses comes exactly where the files are so
     only_missed : (s : Status) (x : List ℕ) → Answers seen (Replay file run) s x → (s ≡ ReadFault) ↔ MissesFile shelf file run

@@ -25,9 +25,9 @@ mod top_call;
 
 pub use asks::{Request, asks};
 pub use law::{
-    analysis_texts_state_one_report, answers_exclude_each_other, held_files_are_answered,
-    numbers_are_answered, replays_are_answered, worked_answers_hold, worked_ends_hold,
-    worked_replay_texts_hold,
+    analysis_texts_state_one_report, answers_exclude_each_other, checks_are_answered,
+    held_files_are_answered, numbers_are_answered, replays_are_answered,
+    what_is_proved_is_accepted, worked_answers_hold, worked_ends_hold, worked_replay_texts_hold,
 };
 pub use missing_files::{missing_files_are_told, worked_missing_files_hold};
 pub use program::run_program;
