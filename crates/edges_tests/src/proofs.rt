@@ -341,7 +341,8 @@ fn either_file_of_a_check_may_be_missing(rt: HostRuntime) -> Result<(), Fail> {
     Ok(())
 }
 
-// What a call writes that ends with status 0, where a shelf holds a program and a proof; nothing where it ends otherwise.
+// What a call writes that ends with status 0, where a shelf holds a program and a proof; nothing where it ends
+// otherwise.
 fn written(
     alloc: Global,
     program: &[u8],

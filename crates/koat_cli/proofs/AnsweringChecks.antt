@@ -27,6 +27,8 @@ differ = record {
   bad_none = λ e. let no_way : ⊥ = cc in no_way;
   bad_refused = λ e. let no_way : ⊥ = cc in no_way;
   none_refused = λ e. let no_way : ⊥ = cc in no_way;
+  bad_fault = λ e. let no_way : ⊥ = cc in no_way;
+  none_fault = λ e. let no_way : ⊥ = cc in no_way;
 }
 
 -- what is answered of a proof file says that it is accepted, or isn't
@@ -36,7 +38,7 @@ check_says p f s x (Accepts a) = inl (a.ends, a.accepted.accepted.accepted)
 check_says p f s x (Refuses a) = inr (a.ends, refused_not_accepted p f x a.refused)
 
 -- a check asks so of two files
-checking : IsCommand Check proofs IsCheckOf AcceptsFileFor IsNotAccepted No ProofRefused
+pub checking : IsCommand Check proofs IsCheckOf AcceptsFileFor IsNotAccepted No ProofRefused
 checking = record {
   decided = proof_texts_decided;
   apart = λ p f accepted not_so. not_so accepted;

@@ -27,6 +27,8 @@ differ = record {
   bad_none = λ e. let no_way : ⊥ = cc in no_way;
   bad_refused = λ e. let no_way : ⊥ = cc in no_way;
   none_refused = λ e. let no_way : ⊥ = cc in no_way;
+  bad_fault = λ e. let no_way : ⊥ = cc in no_way;
+  none_fault = λ e. let no_way : ⊥ = cc in no_way;
 }
 
 -- what is answered of a run says that it is in range, or has a bad step
@@ -36,7 +38,7 @@ replay_says p r s x (Tallied a) = inl (a.ends, a.in_range)
 replay_says p r s x (NoRun a) = inr (a.ends, (a.bad, a.first))
 
 -- a replay asks so of two files
-replaying : Determined → IsCommand Replay runs IsReplayOf IsInRange HasBadStep NotARun RunRefused
+pub replaying : Determined → IsCommand Replay runs IsReplayOf IsInRange HasBadStep NotARun RunRefused
 replaying laws = record {
   decided = run_texts_decided;
   apart = λ p r good bad. laws.replays.none_bad p r.start (last_first r) bad.0 good bad.1;

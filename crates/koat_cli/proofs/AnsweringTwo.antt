@@ -8,7 +8,7 @@ use Rattle.asks.specs.Requests.{Request}
 use Rattle.its_reader.specs.its_text.Spelling.{SpellsWithin}
 use Rattle.model.specs.Programs.{Program}
 use Rattle.koat_cli.specs.declared.status.Status.{Status}
-use Rattle.koat_cli.specs.declared.status.Status.TheVariants.{Done, Memory, ProgramRefused}
+use Rattle.koat_cli.specs.declared.status.Status.TheVariants.{Done, ReadFault, Memory, ProgramRefused}
 use Rattle.koat_cli.specs.Calls.{Seen, Call, Put}
 use Rattle.koat_cli.specs.OnFiles.{program_limit}
 use Rattle.koat_cli.specs.OnTexts.{TextKind, Unread, OverLimit, RefusedText, OnText, NoText, OfText, OnProgramFirst}
@@ -29,13 +29,15 @@ pub data IsOneOf (bad refused : Status) (A B C D : Type 0) (s : Status) : Type 0
   IsNoText : s ≡ refused → C → IsOneOf bad refused A B C D s
   IsRefused : s ≡ ProgramRefused → D → IsOneOf bad refused A B C D s
 
--- the four statuses differ
+-- the four statuses differ, and none of them is that of a fault of reading
 pub record Differ (bad refused : Status) : Type 0 where
   pub done_bad : Done ≢ bad
   pub done_none : Done ≢ refused
   pub bad_none : bad ≢ refused
   pub bad_refused : bad ≢ ProgramRefused
   pub none_refused : refused ≢ ProgramRefused
+  pub bad_fault : bad ≢ ReadFault
+  pub none_fault : refused ≢ ReadFault
 
 -- what they say excludes each other
 pub record Exclude (A B C D : Type 0) : Type 0 where

@@ -15,7 +15,7 @@ use Rattle.asks.specs.Lines.{Word}
 use Rattle.asks.specs.Requests.{Replay}
 use Rattle.asks.proofs.WorkedLines.{command_lines}
 use Rattle.koat_cli.specs.declared.status.Status.{Status}
-use Rattle.koat_cli.specs.declared.status.Status.TheVariants.{ReadFault, ProgramRefused}
+use Rattle.koat_cli.specs.declared.status.Status.TheVariants.{ReadFault, ProgramRefused, RunRefused, NotARun}
 use Rattle.koat_cli.specs.Report.{read_fault_text}
 use Rattle.koat_cli.specs.Calls.{Seen}
 use Rattle.koat_cli.specs.OnFiles as files
@@ -23,6 +23,10 @@ use Rattle.koat_cli.specs.OnFiles.{program_limit}
 use Rattle.koat_cli.specs.OnTexts.{NoProgram}
 use Rattle.koat_cli.specs.Answers.{Answers, ToRequest}
 use Rattle.koat_cli.specs.Answering.{SpellsNone}
+use Rattle.koat_cli.specs.AnsweringReplays.{IsInRange, HasBadStep}
+use Rattle.koat_cli.specs.Outputs.{IsReplayOf}
+use Rattle.koat_cli.specs.RunTexts.{runs}
+use Rattle.koat_cli.proofs.AnsweringReplays.{replaying}
 use Rattle.koat_cli.specs.WorkedMissingFiles.{holding, Replayed, FilesAreReadInOrder}
 use Rattle.koat_cli.proofs.Exclusions.{Determined}
 use Rattle.koat_cli.proofs.MissingFiles.{program_missed, told_refused}
@@ -87,10 +91,10 @@ pub files_read_in_order : Determined → FilesAreReadInOrder
 files_read_in_order laws = record {
   no_program = no_program;
   no_program_alone = λ status text said.
-      program_missed (holding (codes "-q")) (one_file (codes "-q")) (codes "p") (codes "-q") refl steady status text
+      program_missed Replay runs IsReplayOf IsInRange HasBadStep NotARun RunRefused (replaying laws) laws (holding (codes "-q")) (one_file (codes "-q")) (codes "p") (codes "-q") refl steady status text
       lacks_program (of_replay (holding (codes "-q")) status text said);
   no_run = no_run;
   no_run_alone = λ status text said.
-      told_refused (holding (codes "p")) (one_file (codes "p")) (codes "p") (codes "-q") refl steady laws status text []
+      told_refused Replay runs IsReplayOf IsInRange HasBadStep NotARun RunRefused (replaying laws) laws (holding (codes "p")) (one_file (codes "p")) (codes "p") (codes "-q") refl steady status text []
       has_program (no_bytes_spell_none laws) (of_replay (holding (codes "p")) status text said);
 }

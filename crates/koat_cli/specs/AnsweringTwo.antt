@@ -1,5 +1,5 @@
--- What a call asks of two files that are held, the program's and one with a text that belongs to it; and what the second
--- one's bytes stand for, whatever kind of text it is.
+-- What a call asks of two files that are held, the program's and one with a text that belongs to it; and what the
+-- second one's bytes stand for, whatever kind of text it is.
 use Rattle.std.specs.Prelude.{◌≡◌, ◌⊎◌, ℕ, ◌<◌, ◌≤◌, List, length, Some, IsSomeAnd}
 use Rattle.std.specs.FinMap.{get}
 use Rattle.outside_io.specs.Counts.{Rose}

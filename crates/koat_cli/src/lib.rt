@@ -1,7 +1,7 @@
 //! The program's top call, from the words of the command line to the status. Its contract is the theorem: after status
 //! 0 of `analyse` the report on the sink is true on every run of the program that the file spells, after status 0 of
-//! `facts` so are the facts and the report, after status 0 of `check` so are the facts of the proof, whoever made it, and
-//! after status 0 of `replay` each number of the tally on the sink is at most the value of the bound beside it.
+//! `facts` so are the facts and the report, after status 0 of `check` so are the facts of the proof, whoever made it,
+//! and after status 0 of `replay` each number of the tally on the sink is at most the value of the bound beside it.
 #![tactic(auto)]
 
 mod analysis;
