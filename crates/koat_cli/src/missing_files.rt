@@ -16,8 +16,8 @@ pub fn missing_files_are_told()
     replays_are_decided();
 }
 
-/// What is answered to a replay where a shelf lacks one of the two files was worked out by hand: the first word is the
-/// program, and is read first. It has no code but the law of replays: its contract is these values.
+/// What is answered to a replay, and to a check, where a shelf lacks one of the two files was worked out by hand: the
+/// first word is the program, and is read first. It has no code but the law of replays: its contract is these values.
 pub fn worked_missing_files_hold()
     ensures { FilesAreReadInOrder }
 {
