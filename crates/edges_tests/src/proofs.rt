@@ -16,7 +16,26 @@ const COUNTING: &str =
 const STAYING: &str =
     "(STARTTERM (FUNCTIONSYMBOLS l0))(RULES l0(A) -> Com_1(l1(A)) l1(A) -> Com_1(l1(A)))";
 
-// Proof files of the first and the last program.
+// A loop inside another, with long names, a comment and guards in square brackets.
+const NESTED: &str = "(GOAL COMPLEXITY)
+(COMMENT nested loops (from C))
+(STARTTERM (FUNCTIONSYMBOLS evalfstart))
+(VAR Ar_0 Ar_1)
+(RULES
+  evalfstart(Ar_0, Ar_1) -> Com_1(evalfentryin(Ar_0, Ar_1)) [ TRUE ]
+  evalfentryin(Ar_0, Ar_1) -> Com_1(evalfbb4in(Ar_0, Ar_1))
+  evalfbb4in(Ar_0, Ar_1) -> Com_1(evalfbb1in(Ar_0, Ar_1)) [ Ar_0 >= 1 ]
+  evalfbb4in(Ar_0, Ar_1) -> Com_1(evalfreturnin(Ar_0, Ar_1)) [ 0 >= Ar_0 ]
+  evalfbb1in(Ar_0, Ar_1) -> Com_1(evalfbb3in(Ar_0, Ar_0))
+  evalfbb3in(Ar_0, Ar_1) -> Com_1(evalfbb2in(Ar_0, Ar_1)) [ Ar_1 >= 1 ]
+  evalfbb3in(Ar_0, Ar_1) -> Com_1(evalflatchin(Ar_0, Ar_1)) [ 0 >= Ar_1 ]
+  evalfbb2in(Ar_0, Ar_1) -> Com_1(evalfbb3in(Ar_0, Ar_1 - 1))
+  evalflatchin(Ar_0, Ar_1) -> Com_1(evalfbb4in(Ar_0 - 1, Ar_1))
+  evalfreturnin(Ar_0, Ar_1) -> Com_1(evalfstop(Ar_0, Ar_1))
+)
+";
+
+// Proof files of the first program and of the one that counts down.
 const ENTERED: &str = "koat-proof 1
 lemma rank 1 set [1] den 1 forms [l0 [0 1]; l1 [0 0]] moves [[]] floor [] uses {start}
 lemma spread 1.1 up lin 1 [1 0] [] low lin 1 [-1 0] [] uses {start}
@@ -154,6 +173,12 @@ const CHECKS: &[(&str, &str, Status, &str)] = &[
         Status::ProgramRefused,
         "program refused at 7: RepeatedSection\n",
     ),
+    (
+        COUNTED,
+        COUNTING,
+        Status::ProgramRefused,
+        "program refused at 0: Syntax\n",
+    ),
 ];
 
 // Programs, with the status and the text of their proof files.
@@ -243,7 +268,7 @@ fn proofs_are_accepted_or_refused(rt: HostRuntime) -> Result<(), Fail> {
     Ok(())
 }
 
-// Whether the proof file of a program is another, or isn't accepted as one with these first bytes of its facts.
+// Whether the proof file of a program is another, or more than the program is fetched.
 fn is_other_proof(
     alloc: Global,
     program: &str,
@@ -316,27 +341,69 @@ fn either_file_of_a_check_may_be_missing(rt: HostRuntime) -> Result<(), Fail> {
     Ok(())
 }
 
-// What `prove` writes of the generated program of thirteen rules is accepted.
+// What a call writes that ends with status 0, where a shelf holds a program and a proof; nothing where it ends
+// otherwise.
+fn written(
+    alloc: Global,
+    program: &[u8],
+    proof: &[u8],
+    words: &[&str],
+) -> Result<MemorySink, AllocError> {
+    let mut files = Vec::new(alloc);
+    files.push(file(alloc, "p", program)?)?;
+    files.push(file(alloc, "q", proof)?)?;
+    let mut shelf = MemoryShelf::new(files, Vec::new(alloc));
+    let mut sink = MemorySink::new(alloc, 99_999, Vec::new(alloc))?;
+    let words = words_of(alloc, words)?;
+    if run(alloc, &words, &mut shelf, &mut sink) == Status::Done {
+        Ok(sink)
+    } else {
+        MemorySink::new(alloc, 0, Vec::new(alloc))
+    }
+}
+
+// How many lines the answer has to the check of what `prove` writes of a program, where both end with status 0.
+fn lines_of_check(alloc: Global, program: &[u8]) -> Result<usize, AllocError> {
+    let proof = written(alloc, program, b"", &["prove", "p"])?;
+    let facts = written(alloc, program, proof.bytes(), &["check", "p", "q"])?;
+    Ok(facts
+        .bytes()
+        .iter()
+        .filter(|byte| **byte == b'\n')
+        .count())
+}
+
+// What `prove` writes is accepted, with a fact for each of its bounds: of the generated program of thirteen rules, with
+// two places each, and of a loop inside another, with ten rules.
 #[test]
 fn what_is_proved_is_accepted(rt: HostRuntime) -> Result<(), Fail> {
     let alloc = rt.alloc();
-    let mut empty = MemoryShelf::new(Vec::new(alloc), Vec::new(alloc));
-    let mut written = MemorySink::new(alloc, 9_999, Vec::new(alloc))?;
-    let words = words_of(alloc, &["generate", "6"])?;
-    assert_eq!(rt; run(alloc, &words, &mut empty, &mut written), Status::Done);
-    let mut files = Vec::new(alloc);
-    files.push(file(alloc, "p", written.bytes())?)?;
-    let mut shelf = MemoryShelf::new(files, Vec::new(alloc));
-    let mut proof = MemorySink::new(alloc, 99_999, Vec::new(alloc))?;
-    let words = words_of(alloc, &["prove", "p"])?;
-    assert_eq!(rt; run(alloc, &words, &mut shelf, &mut proof), Status::Done);
-    let mut files = Vec::new(alloc);
-    files.push(file(alloc, "p", written.bytes())?)?;
-    files.push(file(alloc, "q", proof.bytes())?)?;
-    let mut both = MemoryShelf::new(files, Vec::new(alloc));
-    let mut facts = MemorySink::new(alloc, 9_999, Vec::new(alloc))?;
-    let words = words_of(alloc, &["check", "p", "q"])?;
-    assert_eq!(rt; run(alloc, &words, &mut both, &mut facts), Status::Done);
-    assert!(rt; facts.bytes().starts_with(b"accepted\ntime 1: 1\n"));
+    let generated = written(alloc, b"", b"", &["generate", "6"])?;
+    let lines = [
+        lines_of_check(alloc, generated.bytes())?,
+        lines_of_check(alloc, NESTED.as_bytes())?,
+    ];
+    assert_eq!(rt; lines, [40, 31]);
+    Ok(())
+}
+
+// How many blanks a proof's file has, and the answer: as many as the text of a proof may have, and one more.
+const BLANKS: &[(usize, &str)] = &[
+    (67_108_864, "proof refused at 0: Syntax\n"),
+    (67_108_865, "proof refused: too long\n"),
+];
+
+#[test]
+fn a_proof_may_be_too_long(rt: HostRuntime) -> Result<(), Fail> {
+    let alloc = rt.alloc();
+    let mut other = 0;
+    for (count, text) in BLANKS {
+        let proof = vec![in alloc; b' '; *count]?;
+        if is_other(alloc, ENTERING, &proof, Status::ProofRefused, text)? {
+            println!(rt; "not {text}")?;
+            other += u64::from(other < 1000);
+        }
+    }
+    assert_eq!(rt; other, 0);
     Ok(())
 }

@@ -137,7 +137,7 @@ pub data Answered (bytes : List ℕ) (A B : Program → Type 0) : Status → Typ
   IsRefused : SpellsNone bytes → Answered bytes A B ProgramRefused
 
 -- they don't spell a program where they spell none
-program_apart : (bytes : List ℕ) (Holds : Program → Type 0) → SpellsOne bytes Holds → SpellsNone bytes → ⊥
+pub program_apart : (bytes : List ℕ) (Holds : Program → Type 0) → SpellsOne bytes Holds → SpellsNone bytes → ⊥
 program_apart bytes Holds a (inl more) = omega (arith, more, a.within)
 program_apart bytes Holds a (inr none) = none a.program a.spelled
 

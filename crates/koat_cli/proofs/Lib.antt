@@ -19,7 +19,11 @@ pub mod ProofAnswers
 pub mod Exclusions
 pub mod DeterminedCalls
 pub mod Answering
+pub mod AnsweringTwo
 pub mod AnsweringReplays
+pub mod AnsweringChecks
+pub mod FewSymbols
+pub mod ProvenChecks
 pub mod MissingFiles
 pub mod NumbersAnswered
 pub mod WorkedEnds

@@ -11,6 +11,7 @@ use Rattle.text_grammar.proofs.ReaderLaws.{reader_laws}
 use Rattle.proof_tree.specs.proof_nodes.GapChecks.{GapFault}
 use Rattle.proof_tree.specs.proof_nodes.Gaps.{ProofFile}
 use Rattle.proof_tree.specs.proof_nodes.Reasons.{Reason}
+use Rattle.proof_tree.specs.proof_setting.Laws.{AcceptsFileFor}
 use Rattle.proof_tree.specs.proof_setting.RankedSets.{forms_at}
 use Rattle.proof_tree.specs.proof_setting.Setting.{setting_of}
 use Rattle.proof_tree.proofs.proof_nodes.FilesInLine.{file-refusals-in-line}
@@ -42,12 +43,12 @@ proof_texts_decided p = record {
   apart = λ bytes f x stands refused. stands.faultless refused.fault refused.first.is;
 }
 
--- a proof file that is accepted isn't refused
-pub not_both : (p : Program) (f : ProofFile) (x y : List ℕ) → IsAcceptance p f x → IsRefusal p f y → ⊥
-not_both p f x y a (AtNode b) =
-    ((refusals-in-line.none (setting_of p) f.lemmas).0 a.accepted.accepted.lemmas).none b.lemma b.node b.reason b.refused
-not_both p f x y a (AtGap b) =
-    ((file-refusals-in-line.none (setting_of p) (forms_at p) f).0 a.accepted.accepted).1.none b.gap b.fault b.refused
+-- a proof file that is refused isn't accepted
+pub refused_not_accepted : (p : Program) (f : ProofFile) (x : List ℕ) → IsRefusal p f x → ¬ (AcceptsFileFor p f)
+refused_not_accepted p f x (AtNode b) accepts =
+    ((refusals-in-line.none (setting_of p) f.lemmas).0 accepts.lemmas).none b.lemma b.node b.reason b.refused
+refused_not_accepted p f x (AtGap b) accepts =
+    ((file-refusals-in-line.none (setting_of p) (forms_at p) f).0 accepts).1.none b.gap b.fault b.refused
 
 -- it is refused at one place, and with one text
 one_refusal : (p : Program) (f : ProofFile) (x y : List ℕ) → IsRefusal p f x → IsRefusal p f y → x ≡ y
@@ -75,6 +76,6 @@ one_acceptance p f x y a b =
 pub one_check : (p : Program) (f : ProofFile) (s t : Status) (x y : List ℕ) → IsCheckOf p f s x → IsCheckOf p f t y
     → (s ≡ t) × (x ≡ y)
 one_check p f s t x y (Accepts a) (Accepts b) = (a.ends ∙ sym b.ends, one_acceptance p f x y a.accepted b.accepted)
-one_check p f s t x y (Accepts a) (Refuses b) = absurd (not_both p f x y a.accepted b.refused)
-one_check p f s t x y (Refuses a) (Accepts b) = absurd (not_both p f y x b.accepted a.refused)
+one_check p f s t x y (Accepts a) (Refuses b) = absurd (refused_not_accepted p f y b.refused a.accepted.accepted.accepted)
+one_check p f s t x y (Refuses a) (Accepts b) = absurd (refused_not_accepted p f x a.refused b.accepted.accepted.accepted)
 one_check p f s t x y (Refuses a) (Refuses b) = (a.ends ∙ sym b.ends, one_refusal p f x y a.refused b.refused)

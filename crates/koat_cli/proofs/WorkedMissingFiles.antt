@@ -1,4 +1,4 @@
--- What is answered to a replay where a shelf lacks one of the two files.
+-- What is answered to a replay and to a check where a shelf lacks one of the two files.
 use Rattle.std.proofs.Common.{◌≡◌, ℕ, List, [], ◌∷◌, Some, None, refl, sym, ◌∙◌, inl, inr, arith, codes}
 use Rattle.std.specs.Fmt.{digits}
 use Rattle.std.specs.Cmp.Lexicographic.{slice_cmp, nat_list_cmp_total}
@@ -12,18 +12,28 @@ use Rattle.its_reader.specs.its_text.Kinds.{Kind, MissingSection}
 use Rattle.its_reader.specs.its_text.Answers.{verdict}
 use Rattle.its_reader.proofs.its_text.VerdictLaws.{verdicts_are_right}
 use Rattle.asks.specs.Lines.{Word}
-use Rattle.asks.specs.Requests.{Replay}
+use Rattle.asks.specs.Requests.{Check, Replay}
 use Rattle.asks.proofs.WorkedLines.{command_lines}
 use Rattle.koat_cli.specs.declared.status.Status.{Status}
-use Rattle.koat_cli.specs.declared.status.Status.TheVariants.{ReadFault, ProgramRefused}
+use Rattle.koat_cli.specs.declared.status.Status.TheVariants.{ReadFault, ProgramRefused, ProofRefused, No}
+use Rattle.koat_cli.specs.declared.status.Status.TheVariants.{RunRefused, NotARun}
 use Rattle.koat_cli.specs.Report.{read_fault_text}
 use Rattle.koat_cli.specs.Calls.{Seen}
 use Rattle.koat_cli.specs.OnFiles as files
-use Rattle.koat_cli.specs.OnFiles.{program_limit}
+use Rattle.koat_cli.specs.OnFiles.{program_limit, IsNoProgram}
 use Rattle.koat_cli.specs.OnTexts.{NoProgram}
 use Rattle.koat_cli.specs.Answers.{Answers, ToRequest}
 use Rattle.koat_cli.specs.Answering.{SpellsNone}
-use Rattle.koat_cli.specs.WorkedMissingFiles.{holding, Replayed, FilesAreReadInOrder}
+use Rattle.koat_cli.specs.AnsweringChecks.{IsNotAccepted}
+use Rattle.koat_cli.specs.AnsweringReplays.{IsInRange, HasBadStep}
+use Rattle.koat_cli.specs.Checks.{IsCheckOf}
+use Rattle.koat_cli.specs.ProofTexts.{proofs}
+use Rattle.proof_tree.specs.proof_setting.Laws.{AcceptsFileFor}
+use Rattle.koat_cli.specs.Outputs.{IsReplayOf}
+use Rattle.koat_cli.specs.RunTexts.{runs}
+use Rattle.koat_cli.proofs.AnsweringChecks.{checking}
+use Rattle.koat_cli.proofs.AnsweringReplays.{replaying}
+use Rattle.koat_cli.specs.WorkedMissingFiles.{holding, Replayed, Checked, FilesAreReadInOrder}
 use Rattle.koat_cli.proofs.Exclusions.{Determined}
 use Rattle.koat_cli.proofs.MissingFiles.{program_missed, told_refused}
 use Rattle.koat_cli.proofs.OneRequest.{answer_of}
@@ -37,9 +47,12 @@ steady : ¬ (Rose 0 0)
 steady (inl more) = omega (arith, more)
 steady (inr most) = omega (arith, most)
 
--- what it tells of two names
+-- what it tells of names
 lacks_program : get (one_file (codes "-q")) (codes "p") ≡ None
 lacks_program = get-insert nat_list_cmp_total empty (codes "-q") [] (codes "p") ∙ get-empty (slice_cmp nat_cmp) (codes "p")
+
+lacks_checked : get (one_file (codes "q")) (codes "p") ≡ None
+lacks_checked = get-insert nat_list_cmp_total empty (codes "q") [] (codes "p") ∙ get-empty (slice_cmp nat_cmp) (codes "p")
 
 has_program : get (one_file (codes "p")) (codes "p") ≡ Some []
 has_program = get-insert nat_list_cmp_total empty (codes "p") [] (codes "p")
@@ -62,18 +75,29 @@ of_replay seen status text said =
     answer_of (record { words = codes "replay" ∷ codes "p" ∷ codes "--" ∷ codes "-q" ∷ []; shelf = seen })
     (Replay (codes "p") (codes "-q")) status text command_lines.replay said
 
+-- and to a check
+of_check : (seen : Seen) (status : Status) (text : List ℕ) → Checked seen status text
+    → Answers seen (Check (codes "p") (codes "q")) status text
+of_check seen status text said =
+    answer_of (record { words = codes "check" ∷ codes "p" ∷ codes "q" ∷ []; shelf = seen })
+    (Check (codes "p") (codes "q")) status text command_lines.check said
+
 -- a program that is lacking
 no_program : Replayed (holding (codes "-q")) ReadFault read_fault_text
 no_program =
     ToRequest (Replay (codes "p") (codes "-q")) command_lines.replay
     (NoProgram (files.Unread (record { fault = inr lacks_program; told = refl; ends = refl })))
 
+no_checked : Checked (holding (codes "q")) ReadFault read_fault_text
+no_checked =
+    ToRequest (Check (codes "p") (codes "q")) command_lines.check
+    (NoProgram (files.Unread (record { fault = inr lacks_checked; told = refl; ends = refl })))
+
 -- one without bytes
-no_run : Replayed (holding (codes "p")) ProgramRefused (codes "program refused at 0: MissingSection\n")
+no_bytes : IsNoProgram (holding (codes "p")) (codes "p") ProgramRefused (codes "program refused at 0: MissingSection\n")
 unfolding digits
-no_run =
-    ToRequest (Replay (codes "p") (codes "-q")) command_lines.replay
-    (NoProgram (files.Refused (record {
+no_bytes =
+    files.Refused (record {
       bytes = [];
       fetched = record { held = has_program; taken = refl; within = omega arith };
       fault = record { kind = MissingSection; at = 0 };
@@ -81,16 +105,34 @@ no_run =
       first = verdicts_are_right.each [];
       told = refl;
       ends = refl;
-    })))
+    })
+
+no_run : Replayed (holding (codes "p")) ProgramRefused (codes "program refused at 0: MissingSection\n")
+no_run = ToRequest (Replay (codes "p") (codes "-q")) command_lines.replay (NoProgram no_bytes)
+
+no_proof : Checked (holding (codes "p")) ProgramRefused (codes "program refused at 0: MissingSection\n")
+no_proof = ToRequest (Check (codes "p") (codes "q")) command_lines.check (NoProgram no_bytes)
 
 pub files_read_in_order : Determined → FilesAreReadInOrder
 files_read_in_order laws = record {
   no_program = no_program;
   no_program_alone = λ status text said.
-      program_missed (holding (codes "-q")) (one_file (codes "-q")) (codes "p") (codes "-q") refl steady status text
-      lacks_program (of_replay (holding (codes "-q")) status text said);
+      program_missed Replay runs IsReplayOf IsInRange HasBadStep NotARun RunRefused (replaying laws) laws (holding (codes "-q"))
+      (one_file (codes "-q")) (codes "p") (codes "-q") refl steady status text lacks_program
+      (of_replay (holding (codes "-q")) status text said);
   no_run = no_run;
   no_run_alone = λ status text said.
-      told_refused (holding (codes "p")) (one_file (codes "p")) (codes "p") (codes "-q") refl steady laws status text []
-      has_program (no_bytes_spell_none laws) (of_replay (holding (codes "p")) status text said);
+      told_refused Replay runs IsReplayOf IsInRange HasBadStep NotARun RunRefused (replaying laws) laws (holding (codes "p"))
+      (one_file (codes "p")) (codes "p") (codes "-q") refl steady status text [] has_program (no_bytes_spell_none laws)
+      (of_replay (holding (codes "p")) status text said);
+  no_checked = no_checked;
+  no_checked_alone = λ status text said.
+      program_missed Check proofs IsCheckOf AcceptsFileFor IsNotAccepted No ProofRefused checking laws (holding (codes "q"))
+      (one_file (codes "q")) (codes "p") (codes "q") refl steady status text lacks_checked
+      (of_check (holding (codes "q")) status text said);
+  no_proof = no_proof;
+  no_proof_alone = λ status text said.
+      told_refused Check proofs IsCheckOf AcceptsFileFor IsNotAccepted No ProofRefused checking laws (holding (codes "p"))
+      (one_file (codes "p")) (codes "p") (codes "q") refl steady status text [] has_program (no_bytes_spell_none laws)
+      (of_check (holding (codes "p")) status text said);
 }

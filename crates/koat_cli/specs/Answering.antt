@@ -93,9 +93,9 @@ pub record AreAnswered (request : Word → Request) (FindsAll Misses : Program �
   pub refused : (call : Call) (put : Put) (bytes : List ℕ) (s : Status) → AsksOfHeld call put bytes request
       → Ends s call put → s ≢ Memory → (s ≡ ProgramRefused) ↔ SpellsNone bytes
 
--- so it is of calls that ask for the analysis of a file, or for its proof file, by the times that the program's analysis
--- finds; and of those that ask for it with the facts at locations, by the times that are found of the program that its kept facts
--- strengthen
+-- so it is of calls that ask for the analysis of a file, or for its proof file, by the times that the program's
+-- analysis finds; and of those that ask for it with the facts at locations, by the times that are found of the program
+-- that its kept facts strengthen
 pub record HeldFilesAreAnswered : Type 0 where
   pub analyses : (pivots : ℕ)
       → AreAnswered (Analyse pivots) (λ p. FindsAllTimes p pivots) (λ p. MissesTimes p pivots)

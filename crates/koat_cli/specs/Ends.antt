@@ -182,16 +182,16 @@ TellsOfTimes (Selfrun n) = ⊤
 TellsOfTimes (Facts pivots file) = ⊤
 
 -- what statuses mean: where `analyse` ends with `Done`, such a report was written, in which every rule has a time, and
--- where it ends with `Unknown`, one in which some rule has none; so it is with `facts` and such facts with a report, and
--- with `prove` and the proof file of what was found, which is accepted; where `check` ends with `Done`, the facts of a
--- proof file were written that is accepted, and each of them holds on every run of the program; where `replay` does, the
--- tally along the run was written beside the bounds. With `Unknown` a call ends only where its words ask for something
--- that tells of times: `analyse`, `prove`, `facts` or `selfrun`. With `Usage` a call ends only where its words ask for
--- nothing, and the usage text was written; with `ReadFault` only where a file may fail that is fetched for its words;
--- with `ProgramRefused` only where a text was written that refuses the first file; with `ProofRefused` and `No` only
--- where its words ask for `check`, and a text was written that refuses the second file, or that tells what isn't
--- accepted first; and with `RunRefused` and `NotARun` only where its words ask for a replay, and a text was written that
--- refuses the second file, or that tells the first bad step of the run
+-- where it ends with `Unknown`, one in which some rule has none; so it is with `facts` and such facts with a report,
+-- and with `prove` and the proof file of what was found, which is accepted; where `check` ends with `Done`, the facts
+-- of a proof file were written that is accepted, and each of them holds on every run of the program; where `replay`
+-- does, the tally along the run was written beside the bounds. With `Unknown` a call ends only where its words ask for
+-- something that tells of times: `analyse`, `prove`, `facts` or `selfrun`. With `Usage` a call ends only where its
+-- words ask for nothing, and the usage text was written; with `ReadFault` only where a file may fail that is fetched
+-- for its words; with `ProgramRefused` only where a text was written that refuses the first file; with `ProofRefused`
+-- and `No` only where its words ask for `check`, and a text was written that refuses the second file, or that tells
+-- what isn't accepted first; and with `RunRefused` and `NotARun` only where its words ask for a replay, and a text was
+-- written that refuses the second file, or that tells the first bad step of the run
 pub record Means (status : Status) (call : Call) (put : Put) : Type 0 where
   pub done : (pivots : ℕ) (file : Word) → Asks call.words (Analyse pivots file) → status ≡ Done
       → (report : Report) × WroteReport call put pivots file report × IsTrue (list_all is_timed report.times)

@@ -17,7 +17,10 @@ pub mod Ends
 pub mod Processes
 pub mod Exclusion
 pub mod Answering
+pub mod AnsweringTwo
 pub mod AnsweringReplays
+pub mod AnsweringChecks
+pub mod ProvenChecks
 pub mod MissingFiles
 pub mod AnalysisTexts
 -- values that were worked out by hand

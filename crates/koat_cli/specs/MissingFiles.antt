@@ -1,40 +1,47 @@
--- With which status a call ends that asks for the replay of a run, whichever of the two files is there.
+-- With which status a call ends that asks for the check of a proof or for the replay of a run, whichever of the two
+-- files is there.
 use Rattle.std.specs.Prelude.{◌≡◌, ◌≢◌, ◌⊎◌, ◌↔◌, ℕ, List, Some, None}
 use Rattle.std.specs.FinMap.{get}
 use Rattle.outside_io.specs.Counts.{Rose}
 use Rattle.outside_io.specs.Files.{Files}
 use Rattle.asks.specs.Lines.{Word}
-use Rattle.asks.specs.Requests.{Replay, Asks}
+use Rattle.asks.specs.Requests.{Request, Check, Replay, Asks}
 use Rattle.koat_cli.specs.declared.status.Status.{Status}
 use Rattle.koat_cli.specs.declared.status.Status.TheVariants.{ReadFault, Memory, ProgramRefused}
 use Rattle.koat_cli.specs.Calls.{Call, Put}
 use Rattle.koat_cli.specs.Ends.{Ends}
 use Rattle.koat_cli.specs.Answering.{SpellsOne, SpellsNone}
 
--- the words ask for the replay of this run of this program, the shelf tells that it holds these files, and neither the
--- shelf's nor the sink's count of faults rises
-pub record AsksOnShelf (call : Call) (put : Put) (files : Files) (file run : Word) : Type 0 where
-  pub asked : Asks call.words (Replay file run)
+-- the words ask so of these two files, the shelf tells that it holds these, and neither the shelf's nor the sink's
+-- count of faults rises
+pub record AsksOnShelf (call : Call) (put : Put) (request : Word → Word → Request) (files : Files) (file second : Word)
+    : Type 0 where
+  pub asked : Asks call.words (request file second)
   pub held : call.shelf.held ≡ Some files
   pub no_read_fault : ¬ (Rose call.shelf.faults_before call.shelf.faults_after)
   pub no_write_fault : ¬ (Rose put.faults_before put.faults_after)
 
 -- the first file is lacking, or it spells a program within the limits and the second one is lacking
 abbrev pub MissesFile : Files → Word → Word → Type 0
-MissesFile files file run = (get files file ≡ None)
-    ⊎ ((bytes : List ℕ) × ((get files file ≡ Some bytes) × SpellsOne bytes (λ p. get files run ≡ None)))
+MissesFile files file second = (get files file ≡ None)
+    ⊎ ((bytes : List ℕ) × ((get files file ≡ Some bytes) × SpellsOne bytes (λ p. get files second ≡ None)))
 
 -- the first file is there, and spells no program within the limits
 abbrev pub GivesNoProgram : Files → Word → Type 0
 GivesNoProgram files file = (bytes : List ℕ) × ((get files file ≡ Some bytes) × SpellsNone bytes)
 
--- however a call ends that asks for a replay on such a shelf, want of memory aside: the status is `ReadFault` exactly
--- where the first file is lacking, or it spells a program and the second one is lacking; and `ProgramRefused` exactly
--- where the first file is there and spells no program, whether the second one is there or not
-pub record MissingFilesAreTold : Type 0 where
-  pub read_fault : (call : Call) (put : Put) (files : Files) (file run : Word) (s : Status)
-      → AsksOnShelf call put files file run → Ends s call put → s ≢ Memory
-      → (s ≡ ReadFault) ↔ MissesFile files file run
-  pub program_refused : (call : Call) (put : Put) (files : Files) (file run : Word) (s : Status)
-      → AsksOnShelf call put files file run → Ends s call put → s ≢ Memory
+-- however a call ends that asks so on such a shelf, want of memory aside: the status is `ReadFault` exactly where the
+-- first file is lacking, or it spells a program and the second one is lacking; and `ProgramRefused` exactly where the
+-- first file is there and spells no program, whether the second one is there or not
+pub record TellsMissing (request : Word → Word → Request) : Type 0 where
+  pub read_fault : (call : Call) (put : Put) (files : Files) (file second : Word) (s : Status)
+      → AsksOnShelf call put request files file second → Ends s call put → s ≢ Memory
+      → (s ≡ ReadFault) ↔ MissesFile files file second
+  pub program_refused : (call : Call) (put : Put) (files : Files) (file second : Word) (s : Status)
+      → AsksOnShelf call put request files file second → Ends s call put → s ≢ Memory
       → (s ≡ ProgramRefused) ↔ GivesNoProgram files file
+
+-- so it is of calls that ask for a check, and of those that ask for a replay
+pub record MissingFilesAreTold : Type 0 where
+  pub checks : TellsMissing Check
+  pub replays : TellsMissing Replay

@@ -28,9 +28,9 @@ use Rattle.koat_cli.specs.ReplayTexts.{text_of_replay}
 use Rattle.koat_cli.specs.RunTexts.{bad_step_text}
 use Rattle.koat_cli.specs.Report.{usage_text}
 
--- the report is that of the analysis of the program with so many pivots for each linear program; every bound in it holds
--- on every run of the program, from any integers and by any choice of rules; and each reason in it, why a bound is
--- missing, is so of the program
+-- the report is that of the analysis of the program with so many pivots for each linear program; every bound in it
+-- holds on every run of the program, from any integers and by any choice of rules; and each reason in it, why a bound
+-- is missing, is so of the program
 pub record IsFound (program : Program) (pivots : ℕ) (report : Report) : Type 0 where
   pub found : IsAnalysis program pivots report
   pub true_on_all_runs : ReportHolds program report

@@ -1,4 +1,4 @@
--- What is answered to a replay where a shelf lacks one of the two files, as it was worked out by hand.
+-- What is answered to a replay and to a check where a shelf lacks one of the two files, as it was worked out by hand.
 use Rattle.std.specs.Prelude.{◌≡◌, ℕ, List, [], ◌∷◌, Some, codes}
 use Rattle.std.specs.FinMap.{empty, insert}
 use Rattle.asks.specs.Lines.{Word}
@@ -17,13 +17,24 @@ abbrev pub Replayed : Seen → Status → List ℕ → Type 0
 Replayed seen status text =
     Says (record { words = codes "replay" ∷ codes "p" ∷ codes "--" ∷ codes "-q" ∷ []; shelf = seen }) status text
 
+-- and so is `check p q`
+abbrev pub Checked : Seen → Status → List ℕ → Type 0
+Checked seen status text =
+    Says (record { words = codes "check" ∷ codes "p" ∷ codes "q" ∷ []; shelf = seen }) status text
+
 -- the program of `replay p -- -q` is `p`, and its run `-q`: where `p` is lacking, the answer is a fault of reading and
 -- no other, though `-q` is there and is no run; and where `p` is there and has no bytes, it is a refusal of `p` and no
--- other, though `-q` is lacking
+-- other, though `-q` is lacking; so it is of `check p q` and its proof `q`
 pub record FilesAreReadInOrder : Type 0 where
   pub no_program : Replayed (holding (codes "-q")) ReadFault read_fault_text
   pub no_program_alone : (status : Status) (text : List ℕ) → Replayed (holding (codes "-q")) status text
       → status ≡ ReadFault
   pub no_run : Replayed (holding (codes "p")) ProgramRefused (codes "program refused at 0: MissingSection\n")
   pub no_run_alone : (status : Status) (text : List ℕ) → Replayed (holding (codes "p")) status text
+      → status ≡ ProgramRefused
+  pub no_checked : Checked (holding (codes "q")) ReadFault read_fault_text
+  pub no_checked_alone : (status : Status) (text : List ℕ) → Checked (holding (codes "q")) status text
+      → status ≡ ReadFault
+  pub no_proof : Checked (holding (codes "p")) ProgramRefused (codes "program refused at 0: MissingSection\n")
+  pub no_proof_alone : (status : Status) (text : List ℕ) → Checked (holding (codes "p")) status text
       → status ≡ ProgramRefused

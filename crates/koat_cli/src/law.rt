@@ -3,6 +3,8 @@
 
 ghost use Rattle.koat_cli.specs.Answering.{HeldFilesAreAnswered, NumbersAreAnswered};
 ghost use Rattle.koat_cli.specs.AnsweringReplays.{ReplaysAreAnswered};
+ghost use Rattle.koat_cli.specs.AnsweringChecks.{ChecksAreAnswered};
+ghost use Rattle.koat_cli.specs.ProvenChecks.{WhatIsProvedIsAccepted};
 ghost use Rattle.koat_cli.specs.Exclusion.{AnswersExcludeEachOther};
 ghost use Rattle.koat_cli.specs.AnalysisTexts.{AnalysisTextsStateOneReport};
 ghost use Rattle.koat_cli.specs.WorkedEnds.{FaultsLeaveFirstBytes};
@@ -50,6 +52,28 @@ pub fn numbers_are_answered()
 /// step. Its contract is the law; it has no code but the law of replays.
 pub fn replays_are_answered()
     ensures { ReplaysAreAnswered }
+{
+    replays_are_decided();
+}
+
+/// The law that a call whose words ask for the check of a proof, both files being held by a shelf that tells so, and in
+/// which no count of faults rises, ends with `Done`, `ProgramRefused`, `ProofRefused`, `No` or for want of memory, and,
+/// want of memory aside, with `ProgramRefused` exactly where the first file spells no program within the limits, with
+/// `ProofRefused` exactly where it spells one and the second is the text of no proof file of it, with `Done` exactly
+/// where it is that of one that is accepted, and with `No` exactly where it is that of one that isn't. Its contract is
+/// the law; it has no code but the law of replays.
+pub fn checks_are_answered()
+    ensures { ChecksAreAnswered }
+{
+    replays_are_decided();
+}
+
+/// The law that what `prove` wrote of a program, with `Done` or with `Unknown`, is accepted by `check` where it has at
+/// most 67,108,864 bytes: a call whose words ask for its check for the same program, both files being held by a shelf
+/// that tells so, and in which no count of faults rises, ends with `Done` or for want of memory. Its contract is the
+/// law; it has no code but the law of replays.
+pub fn what_is_proved_is_accepted()
+    ensures { WhatIsProvedIsAccepted }
 {
     replays_are_decided();
 }

@@ -3,13 +3,13 @@
 /// The status with which the program ends. Its number is its place in this list, from 0.
 #[derive(Clone, Copy, Debug, PartialEq, Eq)]
 pub enum Status {
-    /// With `analyse`, the report was written, with `facts`, the facts and the report, and with `prove`, the proof file;
-    /// every rule has a time. With `selfrun`, its figures were written, and every rule of the generated program has a
-    /// time. With `check`, the proof is accepted, and its facts were written. With `replay`, the tally along the run was
-    /// written, and with `generate`, the program's text.
+    /// With `analyse`, the report was written, with `facts`, the facts and the report, and with `prove`, the proof
+    /// file; every rule has a time. With `selfrun`, its figures were written, and every rule of the generated program
+    /// has a time. With `check`, the proof is accepted, and its facts were written. With `replay`, the tally along the
+    /// run was written, and with `generate`, the program's text.
     Done,
-    /// With `analyse`, the report was written, with `facts`, the facts and the report, with `prove`, the proof file, and
-    /// with `selfrun`, its figures; some rule has no time.
+    /// With `analyse`, the report was written, with `facts`, the facts and the report, with `prove`, the proof file,
+    /// and with `selfrun`, its figures; some rule has no time.
     Unknown,
     /// The words are no command line.
     Usage,

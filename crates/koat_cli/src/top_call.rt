@@ -21,8 +21,8 @@ use std::alloc::Global;
 /// - `prove [--pivots N] FILE` fetches the file of a program, and writes the proof file of what its analysis finds: a
 ///   lemma for each bound, or for several, and a gap for each rule that no function ranks. `check` accepts it, where it
 ///   has at most 67,108,864 bytes.
-/// - `check FILE PROOF` fetches the file of a program, and then that of a proof, of at most 67,108,864 bytes, and writes
-///   the facts of all its lemmas, and its gaps, where all of them are accepted. It solves no linear program, and
+/// - `check FILE PROOF` fetches the file of a program, and then that of a proof, of at most 67,108,864 bytes, and
+///   writes the facts of all its lemmas, and its gaps, where all of them are accepted. It solves no linear program, and
 ///   believes none that did.
 /// - `replay FILE RUN` fetches the file of a program, and then that of a run, of at most 67,108,864 bytes, and writes
 ///   the tally along the run: how many steps it has, how often each rule occurs, and the greatest absolute value of
@@ -46,13 +46,13 @@ use std::alloc::Global;
 ///   size, where it has one. With `facts`, the same with the report behind the facts, and each fact holds on every run,
 ///   too. With `prove`, the proof file of the same analysis was written. With `check`, the files spell a program and a
 ///   proof file that is accepted, and its facts were written: each of them holds on every run of the program, whoever
-///   made the proof. With `replay`, the steps are a run of the program, no value passes 128 bits on the way, and the tally was
-///   written: each number of it is at most the value of the bound beside it. With `selfrun`, its figures were written,
-///   and every rule of the generated program has a time. With `generate`, that program's text was written.
+///   made the proof. With `replay`, the steps are a run of the program, no value passes 128 bits on the way, and the
+///   tally was written: each number of it is at most the value of the bound beside it. With `selfrun`, its figures were
+///   written, and every rule of the generated program has a time. With `generate`, that program's text was written.
 /// - `Unknown`: with `analyse` and `facts`, the same, where some rule has no time: the report says why, and every bound
-///   that it gives holds on every run. With `facts` the reasons are those of the strengthened program. With `prove`, the
-///   proof file was written of such an analysis. With `selfrun`,
-///   its figures alone were written, and some rule of the generated program has no time.
+///   that it gives holds on every run. With `facts` the reasons are those of the strengthened program. With `prove`,
+///   the proof file was written of such an analysis. With `selfrun`, its figures alone were written, and some rule of
+///   the generated program has no time.
 /// - `Usage`: the words are no command line.
 /// - `ReadFault`: a file is asked for, and the shelf had a fault in this call, or tells that it lacks the file of the
 ///   program, or, where that spells a program, the file of the proof or of the run.
