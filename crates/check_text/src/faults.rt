@@ -23,7 +23,11 @@ pub(crate) fn fault(alloc: Global, p: &Program, error: &CheckError) -> Result<Ve
     ensures { IfOk result (λ text. TellsError (program_of p.now) error.now text.items) }
 {
     match error {
-        CheckError::No { lemma, node, reason } => no_lemma(alloc, *lemma, *node, reason),
+        CheckError::No {
+            lemma,
+            node,
+            reason,
+        } => no_lemma(alloc, *lemma, *node, reason),
         CheckError::NoGap { gap, fault } => no_gap(alloc, p, *gap, fault),
         CheckError::Memory => Err(AllocError),
     }

@@ -1,6 +1,6 @@
-//! What the checker says of a proof file, as text. Contract to the layer above: `verdict_on` is that the file is accepted,
-//! with the text of all of its facts and gaps, and then every fact holds on all runs of the program; or that it isn't,
-//! with the text of what is refused first.
+//! What the checker says of a proof file, as text. Contract to the layer above: `verdict_on` is that the file is
+//! accepted, with the text of all of its facts and gaps, and then every fact holds on all runs of the program; or that
+//! it isn't, with the text of what is refused first.
 #![tactic(auto)]
 
 mod facts;

@@ -71,12 +71,7 @@ end
 
 // Programs and proof files, with the status and the text of the answer.
 const CHECKS: &[(&str, &str, Status, &str)] = &[
-    (
-        ENTERING,
-        "koat-proof 1\nend\n",
-        Status::Done,
-        "accepted\n",
-    ),
+    (ENTERING, "koat-proof 1\nend\n", Status::Done, "accepted\n"),
     (
         ENTERING,
         ENTERED,
@@ -366,11 +361,7 @@ fn written(
 fn lines_of_check(alloc: Global, program: &[u8]) -> Result<usize, AllocError> {
     let proof = written(alloc, program, b"", &["prove", "p"])?;
     let facts = written(alloc, program, proof.bytes(), &["check", "p", "q"])?;
-    Ok(facts
-        .bytes()
-        .iter()
-        .filter(|byte| **byte == b'\n')
-        .count())
+    Ok(facts.bytes().iter().filter(|byte| **byte == b'\n').count())
 }
 
 // What `prove` writes is accepted, with a fact for each of its bounds: of the generated program of thirteen rules, with

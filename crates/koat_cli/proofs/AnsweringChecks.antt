@@ -89,8 +89,8 @@ checks_answered laws = record {
   where
     exactly : (call : Call) (put : Put) (bytes proof_bytes : List ℕ) (s : Status)
         → AsksOfTwo call put Check bytes proof_bytes → Ends s call put → s ≢ Memory → AreExact No ProofRefused
-          (SpellsOne bytes (λ p. HasText (proofs p) proof_bytes (AcceptsFileFor p)))
-          (SpellsOne bytes (λ p. HasText (proofs p) proof_bytes (IsNotAccepted p)))
-          (SpellsOne bytes (λ p. HasNoText (proofs p) proof_bytes)) (SpellsNone bytes) s
+        (SpellsOne bytes (λ p. HasText (proofs p) proof_bytes (AcceptsFileFor p)))
+        (SpellsOne bytes (λ p. HasText (proofs p) proof_bytes (IsNotAccepted p)))
+        (SpellsOne bytes (λ p. HasNoText (proofs p) proof_bytes)) (SpellsNone bytes) s
     exactly call put bytes proof_bytes s h ends memory =
         answered Check proofs IsCheckOf AcceptsFileFor IsNotAccepted No ProofRefused checking laws bytes proof_bytes call put h s ends memory

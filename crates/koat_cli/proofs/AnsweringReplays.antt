@@ -88,8 +88,8 @@ replays_answered laws = record {
   where
     exactly : (call : Call) (put : Put) (bytes run_bytes : List ℕ) (s : Status) → AsksOfTwo call put Replay bytes run_bytes
         → Ends s call put → s ≢ Memory → AreExact NotARun RunRefused
-          (SpellsOne bytes (λ p. HasText (runs p) run_bytes (IsInRange p)))
-          (SpellsOne bytes (λ p. HasText (runs p) run_bytes (HasBadStep p)))
-          (SpellsOne bytes (λ p. HasNoText (runs p) run_bytes)) (SpellsNone bytes) s
+        (SpellsOne bytes (λ p. HasText (runs p) run_bytes (IsInRange p)))
+        (SpellsOne bytes (λ p. HasText (runs p) run_bytes (HasBadStep p)))
+        (SpellsOne bytes (λ p. HasNoText (runs p) run_bytes)) (SpellsNone bytes) s
     exactly call put bytes run_bytes s h ends memory =
         answered Replay runs IsReplayOf IsInRange HasBadStep NotARun RunRefused (replaying laws) laws bytes run_bytes call put h s ends memory

@@ -1,6 +1,6 @@
 -- A program that is spelled within the limits has few symbols, since each of its rules names two.
 use Rattle.std.proofs.Common.{◌≡◌, ℕ, suc, ◌+◌, ◌^◌, ◌<◌, ◌≤◌, Bool, true, false, if◌then◌else◌, List, [], ◌∷◌, ◌++◌, length}
-use Rattle.std.proofs.Common.{length-append, Option, Some, None, refl, subst, arith}
+use Rattle.std.proofs.Common.{length-append, Option, Some, None, subst, arith}
 use Rattle.model.specs.Programs.{Name, Symbol, Program}
 use Rattle.its_reader.specs.its_text.Written.{LeftTerm, WrittenRule}
 use Rattle.its_reader.specs.its_text.Numbering.{term_in, names_of, with_symbol, with_left, symbols_of, start_of, rules_of}

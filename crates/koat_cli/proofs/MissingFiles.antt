@@ -96,6 +96,7 @@ module _ {T : Type 0} (request : Word → Word → Request) (kind : Program → 
     where
       done : Done ≢ ReadFault
       done is = let no_way : ⊥ = cc in no_way
+
       other : ((s ≡ Done) × Good p a.thing) ⊎ ((s ≡ bad) × Bad p a.thing) → ⊥
       other (inl good) = done (sym good.0 ∙ e)
       other (inr wrong) = command.differ.bad_fault (sym wrong.0 ∙ e)
@@ -116,7 +117,7 @@ module _ {T : Type 0} (request : Word → Word → Request) (kind : Program → 
     (
       some_held seen shelf file second tells steady file a.given.bytes a.given.held,
       spells_of seen shelf file second tells steady a.program a.given (λ p. get shelf second ≡ None)
-      (second_lacks s x a.program a.said e),
+          (second_lacks s x a.program a.said e),
     ),
   )
 
@@ -165,6 +166,7 @@ module _ {T : Type 0} (request : Word → Word → Request) (kind : Program → 
     where
       done : Done ≢ ProgramRefused
       done is = let no_way : ⊥ = cc in no_way
+
       other : ((s ≡ Done) × Good p a.thing) ⊎ ((s ≡ bad) × Bad p a.thing) → ⊥
       other (inl good) = done (sym good.0 ∙ e)
       other (inr wrong) = command.differ.bad_refused (sym wrong.0 ∙ e)
@@ -216,16 +218,14 @@ tells_missing request kind Out Good Bad bad refused command laws = record {
   read_fault = λ call put shelf file second s h ends memory.
       let wrote = ends.wrote (λ e. h.no_write_fault (ends.write_fault e).fault) memory in
       let answer = command.answers call.shelf file second s wrote.text
-      (answer_of call (request file second) s wrote.text h.asked wrote.says) in
-      (
+      (answer_of call (request file second) s wrote.text h.asked wrote.says) in (
         missed_of request kind Out Good Bad bad refused command laws call.shelf shelf file second h.held h.no_read_fault s wrote.text answer,
         told_missed request kind Out Good Bad bad refused command laws call.shelf shelf file second h.held h.no_read_fault s wrote.text answer,
       );
   program_refused = λ call put shelf file second s h ends memory.
       let wrote = ends.wrote (λ e. h.no_write_fault (ends.write_fault e).fault) memory in
       let answer = command.answers call.shelf file second s wrote.text
-      (answer_of call (request file second) s wrote.text h.asked wrote.says) in
-      (
+      (answer_of call (request file second) s wrote.text h.asked wrote.says) in (
         refused_of request kind Out Good Bad bad refused command laws call.shelf shelf file second h.held h.no_read_fault s wrote.text answer,
         (λ m. told_refused request kind Out Good Bad bad refused command laws call.shelf shelf file second h.held h.no_read_fault s wrote.text m.0 m.1.0 m.1.1 answer),
       );

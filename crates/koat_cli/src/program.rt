@@ -4,6 +4,7 @@ ghost use Rattle.std.specs.Prelude.{◌≡◌, ◌≢◌, ◌≤◌, [], drop, I
 ghost use Rattle.std.specs.IoError.{error_kind};
 ghost use Rattle.std.specs.Process.{exit_status};
 ghost use Rattle.koat_cli.specs.Calls.{call_of, put_of};
+ghost use Rattle.koat_cli.specs.Numbers.{number_of};
 ghost use Rattle.koat_cli.specs.Processes.{Exits};
 
 use crate::status::Status;
@@ -39,11 +40,19 @@ pub fn run_program<F: Shelf, S: Sink>(
     ensures keeps_sink_count { S.faults sink.old ≤ S.faults sink.new }
     ensures keeps_telling { IsSome (S.written sink.old) → IsSome (S.written sink.new) }
 {
-    let status = match words {
-        Ok(all) => run(alloc, after_first(&all), shelf, sink),
-        Err(error) if error.kind() == ErrorKind::InvalidData => run(alloc, &[], shelf, sink),
-        Err(_) => Status::Memory,
-    };
+    match words {
+        Ok(all) => exit_with(run(alloc, after_first(&all), shelf, sink)),
+        Err(error) if error.kind() == ErrorKind::InvalidData => {
+            exit_with(run(alloc, &[], shelf, sink))
+        }
+        Err(_) => exit_with(Status::Memory),
+    }
+}
+
+// The end of a process with the number of this status.
+fn exit_with(status: Status) -> ExitCode
+    ensures { exit_status result ≡ number_of status }
+{
     ExitCode::from(status.code())
 }
 
