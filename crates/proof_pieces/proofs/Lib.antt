@@ -12,3 +12,7 @@ mod WorkedBounds
 -- their pieces, and how these are found again
 pub mod BoundCuts
 pub mod BoundFound
+-- outlines and levels follow what has been read
+pub mod MarkMoves
+pub mod OutlineLaws
+pub mod BracketMarks

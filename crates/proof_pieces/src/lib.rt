@@ -14,6 +14,7 @@ mod law;
 mod lexer;
 mod modes;
 mod names;
+mod outline;
 mod piece;
 mod words;
 
