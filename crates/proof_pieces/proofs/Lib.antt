@@ -16,3 +16,7 @@ pub mod BoundFound
 pub mod MarkMoves
 pub mod OutlineLaws
 pub mod BracketMarks
+pub mod FollowLaws
+pub mod ItemLaws
+pub mod LeadLaws
+pub mod ListLaws

@@ -12,5 +12,6 @@ pub mod BoundSteps
 pub mod Outlines
 pub mod Levels
 pub mod Following
+pub mod Shadows
 -- the crates below, which callers name through this one
 pub use Rattle.bound_text.specs as bound_text

@@ -208,16 +208,28 @@ abbrev pub in_maximum : Option Frame → Bool
 in_maximum None = false
 in_maximum (Some frame) = is_of_maximum frame.opening
 
+-- whether an argument can end here: it is no maximum, and stands in the brackets of one
+abbrev pub ends_argument : Option Frame → Innermost → Bool
+ends_argument round i =
+    in_maximum round && (ends_term i.before i.last && not (is_maximum_shape (bound_shape i)))
+
 -- what follows an item
 abbrev pub follows_item : Option Frame → Innermost → Piece → Option Lead
 follows_item round i Times = Some (stays (at_stage stage.Begins i))
 follows_item round i Caret = takes_back i.last i
 follows_item round i Blank = when (ends_term i.before i.last) (stays (at_stage stage.Blank i))
-follows_item round i Comma =
-    when (in_maximum round && (ends_term i.before i.last && not (is_maximum_shape (bound_shape i))))
-    (stays (at_stage stage.Comma i))
+follows_item round i Comma = when (ends_argument round i) (stays (at_stage stage.Comma i))
 follows_item round i Close = closes round i
 follows_item round i piece = None
+
+-- a term ends, and an argument
+abbrev pub ends_plus : Piece → Option Lead
+ends_plus Blank = Some (record { innermost = record begun { terms = true }; change = change.Term })
+ends_plus piece = None
+
+abbrev pub ends_comma : Option Frame → Piece → Option Lead
+ends_comma round Blank = when (in_maximum round) (record { innermost = begun; change = change.Argue })
+ends_comma round piece = None
 
 -- where a piece leads, inside the innermost open bracket, if one is open
 abbrev pub lead_at : Stage → Option Frame → Innermost → Piece → Option Lead
@@ -226,8 +238,8 @@ lead_at (stage.Run v) round i piece = ends_run v i piece
 lead_at stage.Power round i piece = begins_exponent i piece
 lead_at stage.Item round i piece = follows_item round i piece
 lead_at stage.Blank round i Plus = Some (stays (at_stage stage.Plus i))
-lead_at stage.Plus round i Blank = Some (record { innermost = record begun { terms = true }; change = change.Term })
-lead_at stage.Comma round i Blank = when (in_maximum round) (record { innermost = begun; change = change.Argue })
+lead_at stage.Plus round i piece = ends_plus piece
+lead_at stage.Comma round i piece = ends_comma round piece
 lead_at s round i piece = None
 
 abbrev pub lead : Option Frame → Innermost → Piece → Option Lead
