@@ -36,7 +36,7 @@ use Rattle.proof_pieces.specs.declared.outline.Lead.{Lead}
 use Rattle.proof_pieces.specs.Outlines.{shape_of, last_of, is_last_input, any_factor, before_last, innermost_of, with_item}
 use Rattle.proof_pieces.specs.Outlines.{stage_of, opening_of, frames_of, innermost_frame, lead_at, takes_back, ends_term}
 use Rattle.proof_pieces.specs.Outlines.{bound_shape, closes_behind, item_shape, behind_bracket, is_maximum_shape, in_maximum}
-use Rattle.proof_pieces.specs.Levels.{Begun, raised_from, raised, before_term, begun_of, factor_level, item_level, node_if}
+use Rattle.proof_pieces.specs.Levels.{raised_from, raised, before_term, begun_of, factor_level, item_level, node_if}
 use Rattle.proof_pieces.specs.Levels.{is_factor_frame, is_product}
 use Rattle.proof_pieces.specs.Following.{Stands, IsStanding, begun_in, Follows, FollowsWhere, OutlinesLead}
 use Rattle.proof_pieces.proofs.MarkMoves.{factors_behind, star_behind, each_behind, term_behind, term_raised, moved_factors}

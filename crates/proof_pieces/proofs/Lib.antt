@@ -20,3 +20,9 @@ pub mod FollowLaws
 pub mod ItemLaws
 pub mod LeadLaws
 pub mod ListLaws
+pub mod ShallowLaws
+pub mod DeepLaws
+pub mod CarryLaws
+pub mod LevelsLaws
+pub mod FollowerLaws
+pub mod CarriedReading

@@ -5,7 +5,9 @@ use Rattle.std.specs.Prelude.{slice_get, option_to_list, ⊤, MatchOption}
 use Rattle.std.proofs.lemmas.List.{append-nil}
 use Rattle.text_grammar.specs.text_core.Readers.{onto}
 use Rattle.proof_pieces.specs.declared.outline.Frame.{Frame}
+use Rattle.proof_pieces.specs.declared.levels.Begun.{Begun}
 use Rattle.proof_pieces.specs.Outlines.{innermost_frame}
+use Rattle.proof_pieces.specs.Levels.{first_begun}
 
 -- with one more at the end it comes first
 pub onto_push : {X : Type 0} (xs ys : List X) (x : X) → onto (xs ++ x ∷ []) ys ≡ x ∷ onto xs ys
@@ -36,3 +38,20 @@ pub onto_popped : {X : Type 0} (r : Option X) (xs ys : List X) → xs ≡ ys ++ 
     → onto xs [] ≡ option_to_list r ++ onto ys []
 onto_popped None xs ys e = ap (λ (zs : List _). onto zs []) (e ∙ append-nil ys)
 onto_popped (Some x) xs ys e = ap (λ (zs : List _). onto zs []) e ∙ onto_push ys [] x
+
+-- the innermost bound that isn't done
+some_begun : (bs : List Begun) (b : Begun) → slice_get bs 0 ≡ Some b → first_begun bs ≡ b
+some_begun [] b e = cc
+some_begun (c ∷ bs) b e = cc
+
+no_begun : (bs : List Begun) → slice_get bs 0 ≡ None → first_begun bs ≡ record { above = 0; start = 0 }
+no_begun [] e = refl
+no_begun (c ∷ bs) e = cc
+
+pub begun_some : (bs : List Begun) (b : Begun) → slice_get bs (length bs - 1) ≡ Some b → b ≡ first_begun (onto bs [])
+begun_some bs b e = sym (some_begun (onto bs []) b (first_last bs ∙ e))
+
+pub begun_none : (bs : List Begun) → slice_get bs (length bs - 1) ≡ None → record { above = 0; start = 0 } ≡ first_begun (onto bs [])
+begun_none bs e = sym (no_begun (onto bs []) (first_last bs ∙ e))
+
+pub ruleset begun_last = (begun_some, begun_none)

@@ -7,9 +7,10 @@ use Rattle.bound_text.specs.Fronts.{Front, Position, RunCaret, ItemRead, BlankRe
 use Rattle.bound_text.specs.Fronts.{can_end, levels_above}
 use Rattle.bound_text.specs.Inside.{front_marks}
 use Rattle.bound_text.specs.Carrying.{limited_step}
+use Rattle.proof_pieces.specs.declared.levels.Begun.{Begun}
 use Rattle.proof_pieces.specs.declared.outline.Lead.{Lead}
 use Rattle.proof_pieces.specs.Outlines.{frames_of, innermost_of, innermost_frame, frames_behind, lead}
-use Rattle.proof_pieces.specs.Levels.{Begun, begun_of, before_term, marks_behind, begun_behind}
+use Rattle.proof_pieces.specs.Levels.{begun_of, before_term, marks_behind, begun_behind}
 use Rattle.bound_text.specs.Fronts.{sum_at}
 
 -- the position can be behind these factors

@@ -1,13 +1,15 @@
 -- The levels of the parts of a bound that has been read, piece by piece, and how a piece changes them: it adds its own,
 -- and where with it a node begins to count above what the current term has so far, each part of that is a level deeper.
 use Rattle.std.specs.Prelude.{ℕ, zero, suc, ◌+◌, Bool, true, false, if◌then◌else◌, not, ◌&&◌, ◌||◌, nat_lt, is_some}
-use Rattle.std.specs.Prelude.{List, [], ◌∷◌, ◌++◌, length, map, Option, Some, None}
+use Rattle.std.specs.Prelude.{List, [], ◌∷◌, ◌++◌, length, map, min, ◌^◌, ◌-◌, Option, Some, None}
 use Rattle.std.specs.Option.{option_map}
 use Rattle.its_model.specs.model.Bounds.{NoParts, Parts}
 use Rattle.bound_text.specs.Pieces.{Piece, Variable, Number, Maximum, Open, Times, Blank}
 use Rattle.bound_text.specs.Writing.{plus_between}
 use Rattle.bound_text.specs.Fronts.{Outer, Whole, Inside, Front, levels_above, sum_node, sum_at}
 use Rattle.bound_text.specs.Inside.{Marks, outer_marks, each_marks, level_behind}
+use Rattle.proof_pieces.specs.Bounds.{bound_levels}
+use Rattle.proof_pieces.specs.declared.levels.Begun.{Begun}
 use Rattle.proof_pieces.specs.declared.outline.Shape.{Shape}
 use Rattle.proof_pieces.specs.declared.outline.Shape.TheVariants as shape
 use Rattle.proof_pieces.specs.declared.outline.Opening.{Opening}
@@ -28,11 +30,6 @@ abbrev pub raised_from : ℕ → Marks → Marks
 raised_from zero marks = raised marks
 raised_from (suc n) [] = []
 raised_from (suc n) (mark ∷ marks) = mark ∷ raised_from n marks
-
--- of a bound that isn't done: how many levels stand above it, and with which piece its current term begins
-pub record Begun : Type 0 where
-  pub above : ℕ
-  pub start : ℕ
 
 -- what stands before the current term of a bound in brackets
 abbrev pub before_term : Outer → ℕ → Parts → Marks
@@ -111,18 +108,26 @@ above_in opening.Factor above round i = factor_level above round i true
 above_in (opening.Maximum some) above round i = item_level above round i
 above_in opening.Exponent above round i = item_level above round i
 
+-- the innermost of the bounds that aren't done
+abbrev pub first_begun : List Begun → Begun
+first_begun [] = record { above = 0; start = 0 }
+first_begun (b ∷ bs) = b
+
 -- a term begins at a piece
 abbrev pub term_begins : ℕ → List Begun → List Begun
 term_begins at [] = []
 term_begins at (b ∷ bs) = record b { start = at } ∷ bs
 
+-- the bounds that aren't done, with one in a bracket that opens
+abbrev pub begun_inside : Opening → ℕ → Option Frame → Innermost → List Begun → List Begun
+begun_inside belongs next round i bs =
+    record { above = above_in belongs (first_begun bs).above round i; start = next } ∷ bs
+
 -- the bounds that aren't done behind a change, where the next piece has this number
 abbrev pub begun_behind : Change → ℕ → Option Frame → Innermost → List Begun → List Begun
 begun_behind change.Keep next round i bs = bs
 begun_behind change.Term next round i bs = term_begins next bs
-begun_behind (change.Open frame) next round i [] = []
-begun_behind (change.Open frame) next round i (b ∷ bs) =
-    record { above = above_in frame.opening b.above round i; start = next } ∷ b ∷ bs
+begun_behind (change.Open frame) next round i bs = begun_inside frame.opening next round i bs
 begun_behind change.Close next round i [] = []
 begun_behind change.Close next round i (b ∷ bs) = bs
 begun_behind change.Argue next round i bs = term_begins next bs
@@ -131,3 +136,24 @@ begun_behind change.Argue next round i bs = term_begins next bs
 abbrev pub marks_behind : Begun → Option Frame → Innermost → Piece → Marks → Marks
 marks_behind b round i piece marks =
     (if raises round i piece then raised_from b.start marks else marks) ++ mark_of b.above round i piece ∷ []
+
+abbrev pub marks_taken : List Begun → Option Frame → Innermost → Piece → Marks → Marks
+marks_taken bs round i piece marks = marks_behind (first_begun bs) round i piece marks
+
+-- whether a part that begins with a piece is too deep
+abbrev pub is_deep : Option ℕ → Bool
+is_deep None = false
+is_deep (Some level) = nat_lt bound_levels level
+
+-- whether one of the pieces begins such a part, and the marks before the first that does
+abbrev pub has_deep : Marks → Bool
+has_deep [] = false
+has_deep (mark ∷ marks) = is_deep mark || has_deep marks
+
+abbrev pub shallow : Marks → Marks
+shallow [] = []
+shallow (mark ∷ marks) = if is_deep mark then [] else mark ∷ shallow marks
+
+-- a number as the code counts it, up to 2^64-1
+abbrev pub capped : ℕ → ℕ
+capped n = min n (2 ^ 64 - 1)

@@ -13,5 +13,6 @@ pub mod Outlines
 pub mod Levels
 pub mod Following
 pub mod Shadows
+pub mod Carried
 -- the crates below, which callers name through this one
 pub use Rattle.bound_text.specs as bound_text
