@@ -15,8 +15,6 @@ use Rattle.bound_text.specs.Reading.{stands}
 use Rattle.bound_text.specs.Carrying.{limited_step, first_of as first_kind}
 use Rattle.bound_text.specs.Inside.{Marks, deep_among, front_marks, other_kinds}
 use Rattle.bound_text.specs.Depths.{FindsDeep}
-use Rattle.bound_text.specs.Views.{front_of}
-use Rattle.bound_text.specs.declared.state.Reader.{Reader as CodeReader}
 use Rattle.text_grammar.specs.text_core.Tokens.{Token, pieces}
 use Rattle.text_grammar.specs.text_core.Readers.{Fault, onto}
 use Rattle.text_grammar.specs.text_core.Reading.{Refused, Stopped, Going, first_of, first_among}
@@ -27,12 +25,11 @@ use Rattle.text_grammar.specs.declared.token.Fault as code_fault
 use Rattle.text_core.proofs.Walks.{onto-append}
 use Rattle.proof_pieces.specs.declared.inner.Inner.{Inner}
 use Rattle.proof_pieces.specs.declared.inner.BoundRead.{BoundRead}
-use Rattle.proof_pieces.specs.declared.bound_reading.Stepped.TheVariants.{Led, Off}
 use Rattle.proof_pieces.specs.declared.kind.ProofKind.{ProofKind}
 use Rattle.proof_pieces.specs.declared.kind.ProofKind.TheVariants.{Syntax, NumberTooLarge, TooDeep, BadReference, Limit}
 use Rattle.proof_pieces.specs.Bounds.{number_of, bound_levels, kind_of, as_told, too_deep, told_at_end, bounds_in, counted_from}
 use Rattle.proof_pieces.specs.Bounds.{bound_answer}
-use Rattle.proof_pieces.specs.BoundSteps.{answer_of, pieces_in, Steps, TellsDeep, IsBefore, or_told}
+use Rattle.proof_pieces.specs.BoundSteps.{answer_of, pieces_in, TellsDeep, IsBefore, or_told}
 use Rattle.proof_pieces.specs.BoundSteps.{or_syntax, ended_with, BreaksOff, Ends}
 
 -- a refusal of a kind at a position

@@ -1,16 +1,16 @@
 -- The marks of a bound in brackets are those of the item that it makes.
-use Rattle.std.proofs.Common.{◌≡◌, ℕ, zero, suc, ◌+◌, Bool, true, false, cond, not, List, [], ◌∷◌, ◌++◌, Some, None, refl, ap}
+use Rattle.std.proofs.Common.{◌≡◌, ℕ, suc, Bool, true, false, cond, not, List, [], ◌∷◌, Some, None, refl, ap}
 use Rattle.std.proofs.Common.{sym, ◌∙◌, arith}
-use Rattle.std.specs.Prelude.{⊤, ◌&&◌}
+use Rattle.std.specs.Prelude.{⊤}
 use Rattle.its_model.specs.model.Bounds.{Bound, Constant, Input, SumOf, ProductOf, MaximumOf, PowerOf, Parts, NoParts}
 use Rattle.its_model.specs.model.Bounds.{Part}
-use Rattle.bound_text.specs.Shapes.{is_sum, is_leaf, is_empty, is_variable, with_part}
+use Rattle.bound_text.specs.Shapes.{is_sum, is_leaf, is_variable, with_part}
 use Rattle.bound_text.specs.Pieces.{Piece}
-use Rattle.bound_text.specs.Writing.{Before, Nothing, Other, plus_between, comma_between}
-use Rattle.bound_text.specs.Fronts.{Bracket, Arguments, Exponent, Factor, as_one, term_of, bound_of_parts, can_end}
+use Rattle.bound_text.specs.Writing.{Nothing, plus_between, comma_between}
+use Rattle.bound_text.specs.Fronts.{Bracket, Arguments, Exponent, Factor, term_of, bound_of_parts, can_end}
 use Rattle.bound_text.specs.Fronts.{product_node, product_node_round, node_of_any}
 use Rattle.bound_text.specs.Steps.{can_close, item_of}
-use Rattle.bound_text.specs.Inside.{Marks, unmarked, ended_marks, times_marks, factor_marks, exponent_marks, bound_marks}
+use Rattle.bound_text.specs.Inside.{Marks, unmarked, factor_marks, exponent_marks, bound_marks}
 use Rattle.bound_text.specs.Inside.{joined_marks, more_marks, factors_marks, each_marks, star_marks, bracket_marks}
 use Rattle.bound_text.specs.Inside.{level_behind}
 use Rattle.bound_text.proofs.JoiningLaws.{as_one-with_part}

@@ -1,10 +1,9 @@
 -- Reading a bound with what is carried comes to the answer to all of it.
-use Rattle.std.proofs.Common.{◌≡◌, ℕ, suc, ◌-◌, ◌≤◌, ◌<◌, Bool, true, false, cond, List, [], ◌∷◌, length, map, Option, Some, None, refl, ap}
+use Rattle.std.proofs.Common.{◌≡◌, ℕ, ◌-◌, ◌≤◌, Bool, true, false, cond, List, [], ◌∷◌, length, map, Option, Some, None, refl, ap}
 use Rattle.std.proofs.Common.{sym, subst, ◌∙◌, arith, inl, inr}
-use Rattle.std.specs.Prelude.{◌⊎◌, ◌||◌, is_some, slice_get, IfOk, Result, Ok, Err}
+use Rattle.std.specs.Prelude.{◌||◌, is_some, IfOk, Result, Ok, Err}
 use Rattle.std.specs.declared.alloc.AllocError.{AllocError}
 use Rattle.bound_text.specs.Printing.{piece_of}
-use Rattle.bound_text.specs.Pieces.{Piece}
 use Rattle.bound_text.specs.Kinds as kinds
 use Rattle.bound_text.specs.Fronts.{Front}
 use Rattle.bound_text.specs.Inside.{front_marks, deep_among}
@@ -12,20 +11,18 @@ use Rattle.bound_text.specs.Steps.{beginning, finish}
 use Rattle.bound_text.specs.Views.{front_of}
 use Rattle.bound_text.specs.declared.state.Reader.{Reader}
 use Rattle.text_grammar.specs.declared.token.Fault as code_fault
-use Rattle.text_grammar.specs.text_core.Tokens.{Token}
 use Rattle.text_grammar.specs.text_core.Readers.{Fault}
 use Rattle.text_grammar.specs.text_core.Reading.{Refused, first_among, first_of}
 use Rattle.text_grammar.specs.Marks.{fault_of}
 use Rattle.proof_pieces.specs.declared.bound_reading.Stepped.TheVariants as stepped
-use Rattle.proof_pieces.specs.declared.follower.Follower.{Follower}
 use Rattle.proof_pieces.specs.declared.inner.Inner.{Inner}
 use Rattle.proof_pieces.specs.declared.inner.BoundRead.{BoundRead}
 use Rattle.proof_pieces.specs.declared.kind.ProofKind.{ProofKind}
 use Rattle.proof_pieces.specs.declared.reading.Reading.{Reading}
 use Rattle.proof_pieces.specs.Bounds.{as_told, bound_answer, bound_levels, bounds_in, counted_from, too_deep}
 use Rattle.proof_pieces.specs.BoundSteps.{answer_of, pieces_in, or_told, or_syntax, ended_with, BreaksOff, Ends, IsBefore, TellsDeep}
-use Rattle.proof_pieces.specs.Carried.{Agrees, Carries, IsToldWithout, IsTree, StepsOn, has_reader, told_with}
-use Rattle.proof_pieces.specs.Levels.{has_deep, shallow}
+use Rattle.proof_pieces.specs.Carried.{Agrees, Carries, IsToldWithout, IsTree, StepsOn, has_reader}
+use Rattle.proof_pieces.specs.Levels.{shallow}
 use Rattle.proof_pieces.specs.Shadows.{Shadows}
 use Rattle.proof_pieces.proofs.BoundLaws.{Reads, reads_begun, reads_on, reads_off, reads_ended, told_against, counted_at}
 use Rattle.proof_pieces.proofs.CarryLaws.{agrees_on, same_first}

@@ -1,27 +1,24 @@
 -- What is carried, piece by piece.
-use Rattle.std.proofs.Common.{◌≡◌, ℕ, suc, ◌<◌, ◌≤◌, ◌+◌, Bool, true, false, cond, List, [], ◌∷◌, ◌++◌, length, map, Option, Some, None, refl, ap}
-use Rattle.std.proofs.Common.{sym, subst, ◌∙◌, arith, inl, inr, length-append}
-use Rattle.std.specs.Prelude.{IfSome, ◌⊎◌, ◌||◌, is_some, slice_get, IsTrue, ⊤}
-use Rattle.std.specs.Option.{option_map}
-use Rattle.its_model.specs.model.Bounds.{Bound}
+use Rattle.std.proofs.Common.{◌≡◌, ℕ, ◌<◌, ◌≤◌, ◌+◌, Bool, true, false, cond, List, [], ◌∷◌, length, map, Option, Some, None, refl, ap}
+use Rattle.std.proofs.Common.{sym, subst, ◌∙◌, arith, inl, inr}
+use Rattle.std.specs.Prelude.{IfSome, ◌||◌, is_some, slice_get}
 use Rattle.bound_text.specs.Pieces.{Piece}
 use Rattle.bound_text.specs.Kinds as kinds
 use Rattle.bound_text.specs.Fronts.{Front}
-use Rattle.bound_text.specs.Reading.{stands}
-use Rattle.bound_text.specs.Inside.{front_marks, other_kinds, deep_among}
-use Rattle.bound_text.specs.Carrying.{limited_step, first_of as first_kind}
+use Rattle.bound_text.specs.Inside.{front_marks, deep_among}
+use Rattle.bound_text.specs.Carrying.{limited_step}
 use Rattle.text_grammar.specs.declared.token.Fault as code_fault
 use Rattle.text_grammar.specs.text_core.Tokens.{Token}
 use Rattle.text_grammar.specs.text_core.Readers.{Fault}
-use Rattle.text_grammar.specs.text_core.Reading.{first_among, is_before, first_of}
+use Rattle.text_grammar.specs.text_core.Reading.{first_among, is_before}
 use Rattle.text_grammar.specs.Marks.{fault_of}
 use Rattle.std.proofs.lemmas.Bool.Decides.{nat_tests}
 use Rattle.proof_pieces.specs.declared.inner.Inner.{Inner}
 use Rattle.proof_pieces.specs.declared.kind.ProofKind.{ProofKind}
 use Rattle.proof_pieces.specs.declared.kind.ProofKind.TheVariants.{TooDeep}
-use Rattle.proof_pieces.specs.Bounds.{too_deep, as_told, bounds_in, counted_from, kind_of, bound_levels}
+use Rattle.proof_pieces.specs.Bounds.{too_deep, as_told, bounds_in, counted_from, bound_levels}
 use Rattle.proof_pieces.specs.BoundSteps.{or_told}
-use Rattle.proof_pieces.specs.Carried.{Agrees, IsBehindDeep, told_with}
+use Rattle.proof_pieces.specs.Carried.{Agrees, told_with}
 use Rattle.proof_pieces.specs.Following.{IsStanding}
 use Rattle.proof_pieces.specs.Levels.{has_deep, shallow}
 use Rattle.proof_pieces.proofs.BoundLaws.{counted_at}

@@ -1,18 +1,16 @@
 -- Where the first part is that is too deep, and that it comes no later as more is read.
-use Rattle.std.proofs.Common.{◌≡◌, ℕ, zero, suc, ◌<◌, ◌≤◌, Bool, true, false, cond, nat_lt, List, [], ◌∷◌, ◌++◌, length, map}
-use Rattle.std.proofs.Common.{Option, Some, None, refl, ap, sym, subst, ◌∙◌, arith, length-append}
-use Rattle.std.specs.Prelude.{◌||◌, slice_get, IfSome}
-use Rattle.std.specs.Option.{option_map}
+use Rattle.std.proofs.Common.{◌≡◌, ℕ, zero, suc, ◌<◌, ◌≤◌, Bool, true, false, cond, nat_lt, List, [], ◌∷◌, length}
+use Rattle.std.proofs.Common.{Option, Some, None, refl, ap, subst, ◌∙◌, arith, length-append}
+use Rattle.std.specs.Prelude.{◌||◌, slice_get}
 use Rattle.bound_text.specs.Pieces.{Piece}
 use Rattle.bound_text.specs.Kinds as kinds
 use Rattle.bound_text.specs.Fronts.{Front}
-use Rattle.bound_text.specs.Depths.{FindsDeep}
 use Rattle.bound_text.specs.Inside.{Marks, deep_among, front_marks}
 use Rattle.bound_text.specs.Carrying.{limited_step}
 use Rattle.text_grammar.specs.text_core.Tokens.{Token}
 use Rattle.proof_pieces.specs.declared.outline.Lead.{Lead}
 use Rattle.proof_pieces.specs.Bounds.{bound_levels}
-use Rattle.proof_pieces.specs.Levels.{has_deep, is_deep, raised, raised_from, shallow, raises, marks_behind, mark_of}
+use Rattle.proof_pieces.specs.Levels.{has_deep, is_deep, raised, raised_from, shallow, raises, mark_of}
 use Rattle.proof_pieces.specs.Outlines.{frames_of, innermost_of, innermost_frame, lead}
 use Rattle.proof_pieces.specs.Following.{IsStanding, begun_in, Follows, FollowsWhere}
 use Rattle.proof_pieces.proofs.LeadLaws.{outlines_lead}

@@ -1,50 +1,38 @@
 -- Outlines and levels follow what is carried, piece by piece.
-use Rattle.std.proofs.Common.{◌≡◌, ℕ, zero, suc, ◌+◌, ◌≤◌, ◌^◌, ◌-◌, Bool, true, false, cond, not, nat_lt, nat_le, List, [], ◌∷◌}
-use Rattle.std.proofs.Common.{◌++◌, length, Option, Some, None, refl, ap, sym, subst, ◌∙◌, arith}
-use Rattle.std.specs.Prelude.{⊤, ◌&&◌, is_some}
+use Rattle.std.proofs.Common.{◌≡◌, ℕ, zero, suc, ◌≤◌, Bool, true, false, cond, not, nat_lt, [], ◌∷◌}
+use Rattle.std.proofs.Common.{◌++◌, length, Option, Some, None, refl, ap, sym, ◌∙◌, arith}
+use Rattle.std.specs.Prelude.{is_some}
 use Rattle.std.specs.Option.{option_map}
-use Rattle.std.proofs.lemmas.Bool.{and_parts, not-true}
 use Rattle.std.proofs.lemmas.Bool.Decides.{nat_tests}
-use Rattle.its_model.specs.model.Bounds.{Bound, Constant, Input, SumOf, ProductOf, MaximumOf, PowerOf, Parts, NoParts}
+use Rattle.its_model.specs.model.Bounds.{Bound, Constant, Input, PowerOf, Parts, NoParts}
 use Rattle.its_model.specs.model.Bounds.{Part}
-use Rattle.bound_text.specs.Shapes.{is_empty, is_sum, is_maximum, with_part}
-use Rattle.bound_text.specs.Pieces.{Piece, Variable, Number, Maximum, Open, Close, Times, Caret, Plus, Blank, Comma, Wrong}
-use Rattle.bound_text.specs.Writing.{Nothing, Run, plus_between, comma_between}
-use Rattle.bound_text.specs.Fronts.{Bracket, Arguments, Exponent, Factor, Outer, Whole, Inside, Position, Begins, RunCaret}
-use Rattle.bound_text.specs.Fronts.{PowerCaret, ItemRead, BlankRead, PlusRead, CommaRead, Front, last, init, is_input}
-use Rattle.bound_text.specs.Fronts.{can_end, term_of, bound_of_parts, can_be_argument, in_factor, in_arguments, levels_above}
-use Rattle.bound_text.specs.Fronts.{sum_node, sum_at, product_node, product_node_round, node_of_any, nodes_of}
-use Rattle.bound_text.specs.Steps.{when, step_at, with_copies, front_at, behind_factor, inside, item_of, can_close, caret_behind}
-use Rattle.bound_text.specs.Steps.{end_run}
-use Rattle.bound_text.specs.Checks.{has_large_base_at, is_large_number}
-use Rattle.bound_text.specs.Inside.{Marks, factors_marks, star_marks, each_marks, outer_marks, bracket_marks, factor_marks}
-use Rattle.bound_text.specs.Inside.{bound_marks, level_behind, front_marks, ended_marks}
-use Rattle.bound_text.specs.Carrying.{copies_within_limit, kept_at, limited_step}
-use Rattle.bound_text.proofs.PartLaws.{last-with_part, init-with_part, product_node-with_part, is_empty-with_part}
+use Rattle.bound_text.specs.Shapes.{is_empty, with_part}
+use Rattle.bound_text.specs.Pieces.{Piece, Variable, Number, Maximum, Open}
+use Rattle.bound_text.specs.Writing.{Nothing, plus_between}
+use Rattle.bound_text.specs.Fronts.{Arguments, Exponent, Factor, Outer, Inside, Position, Begins, RunCaret}
+use Rattle.bound_text.specs.Fronts.{PowerCaret, ItemRead, Front, last, is_input}
+use Rattle.bound_text.specs.Fronts.{levels_above}
+use Rattle.bound_text.specs.Fronts.{sum_node, product_node, node_of_any}
+use Rattle.bound_text.specs.Steps.{when, step_at, with_copies, front_at, behind_factor, inside}
+use Rattle.bound_text.specs.Inside.{Marks, factors_marks, star_marks, each_marks, outer_marks}
+use Rattle.bound_text.specs.Inside.{bound_marks, level_behind, front_marks}
+use Rattle.bound_text.specs.Carrying.{copies_within_limit, kept_at}
+use Rattle.bound_text.proofs.PartLaws.{last-with_part, product_node-with_part, is_empty-with_part}
 use Rattle.bound_text.proofs.RunLaws.{product_two}
 use Rattle.bound_text.proofs.CarriedNodes.{kept_few, kept_two, is_several, are_two, are_few}
 use Rattle.bound_text.proofs.MarkLaws.{constant_behind, input_behind, copies_behind, ends_nothing}
-use Rattle.bound_text.proofs.SoundnessLaws.{unsnoc}
-use Rattle.proof_pieces.specs.declared.outline.Shape.{Shape}
 use Rattle.proof_pieces.specs.declared.outline.Shape.TheVariants as shape
-use Rattle.proof_pieces.specs.declared.outline.Opening.TheVariants as opening
-use Rattle.proof_pieces.specs.declared.outline.Frame.{Frame}
-use Rattle.proof_pieces.specs.declared.outline.Innermost.{Innermost}
 use Rattle.proof_pieces.specs.declared.outline.Stage.TheVariants as stage
 use Rattle.proof_pieces.specs.declared.outline.Change.TheVariants as change
 use Rattle.proof_pieces.specs.declared.outline.Lead.{Lead}
-use Rattle.proof_pieces.specs.Outlines.{shape_of, last_of, is_last_input, any_factor, before_last, innermost_of, with_item}
-use Rattle.proof_pieces.specs.Outlines.{stage_of, opening_of, frames_of, innermost_frame, lead_at, takes_back, ends_term}
-use Rattle.proof_pieces.specs.Outlines.{bound_shape, closes_behind, item_shape, behind_bracket, is_maximum_shape, in_maximum}
-use Rattle.proof_pieces.specs.Levels.{raised_from, raised, before_term, begun_of, factor_level, item_level, node_if}
-use Rattle.proof_pieces.specs.Levels.{is_factor_frame, is_product}
-use Rattle.proof_pieces.specs.Following.{Stands, IsStanding, begun_in, Follows, FollowsWhere, OutlinesLead}
-use Rattle.proof_pieces.proofs.MarkMoves.{factors_behind, star_behind, each_behind, term_behind, term_raised, moved_factors}
-use Rattle.proof_pieces.proofs.MarkMoves.{deeper, bracket_behind}
-use Rattle.proof_pieces.proofs.OutlineLaws.{item_outlined, input_shown, any_shown, end_shown, product_shown, bound_shown}
-use Rattle.proof_pieces.proofs.OutlineLaws.{maximum_shown, close_shown, arguments_shown, factor_shown, any_node, sum_shows}
-use Rattle.proof_pieces.proofs.BracketMarks.{other_behind, each-with_part, level_more, term_marks, inside_marks, bound_made_marks}
-use Rattle.proof_pieces.proofs.BracketMarks.{sum_in, item_marks, item_other, item_node}
+use Rattle.proof_pieces.specs.Outlines.{shape_of, last_of, is_last_input, innermost_of}
+use Rattle.proof_pieces.specs.Outlines.{frames_of, innermost_frame, lead_at}
+use Rattle.proof_pieces.specs.Levels.{raised_from, before_term, begun_of, factor_level, item_level, node_if}
+use Rattle.proof_pieces.specs.Following.{Follows, FollowsWhere}
+use Rattle.proof_pieces.proofs.MarkMoves.{factors_behind, star_behind, term_behind, term_raised}
+use Rattle.proof_pieces.proofs.OutlineLaws.{item_outlined, input_shown, any_shown}
+use Rattle.proof_pieces.proofs.OutlineLaws.{any_node, sum_shows}
+use Rattle.proof_pieces.proofs.BracketMarks.{other_behind, level_more}
 
 -- tests that agree lead on together
 pub when_follows : (f : Front) (p : Piece) (v w : Bool) (g : Front) (l : Lead) → v ≡ w → (v ≡ true → Follows f p g l)

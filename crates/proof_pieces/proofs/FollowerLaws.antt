@@ -1,6 +1,5 @@
 -- Outline and levels of the code follow what is carried.
-use Rattle.std.proofs.Common.{◌≡◌, ℕ, Bool, true, false, List, length, Option, Some, None, refl, ap, sym, subst, ◌∙◌}
-use Rattle.std.specs.Prelude.{IsTrue}
+use Rattle.std.proofs.Common.{◌≡◌, ℕ, Bool, true, List, length, Option, Some, None, refl, ap, sym, subst, ◌∙◌}
 use Rattle.std.specs.Option.{option_map}
 use Rattle.bound_text.specs.Pieces.{Piece}
 use Rattle.bound_text.specs.Fronts.{Front}
@@ -8,7 +7,7 @@ use Rattle.bound_text.specs.Inside.{Marks, front_marks, other_kinds}
 use Rattle.bound_text.specs.Carrying.{limited_step, first_of}
 use Rattle.bound_text.specs.Reading.{stands}
 use Rattle.proof_pieces.specs.Bounds.{kind_of}
-use Rattle.bound_text.specs.Views.{front_of, is_settled}
+use Rattle.bound_text.specs.Views.{front_of}
 use Rattle.bound_text.specs.declared.state.Reader.{Reader}
 use Rattle.proof_pieces.specs.declared.bound_reading.Stepped.{Stepped}
 use Rattle.proof_pieces.specs.declared.bound_reading.Stepped.TheVariants as stepped
@@ -20,7 +19,7 @@ use Rattle.proof_pieces.specs.declared.outline.Frame.{Frame}
 use Rattle.proof_pieces.specs.declared.outline.Innermost.{Innermost}
 use Rattle.proof_pieces.specs.declared.outline.Lead.{Lead}
 use Rattle.proof_pieces.specs.BoundSteps.{Steps}
-use Rattle.proof_pieces.specs.Carried.{Carries, IsTree, IsSettledTree, StepsOn, has_reader, told_with}
+use Rattle.proof_pieces.specs.Carried.{IsTree, IsSettledTree, StepsOn, has_reader, told_with}
 use Rattle.proof_pieces.specs.Following.{Follows, FollowsWhere}
 use Rattle.proof_pieces.specs.Levels.{begun_of, marks_taken, begun_behind}
 use Rattle.proof_pieces.specs.Outlines.{frames_of, frames_behind, innermost_of, innermost_frame, lead}

@@ -1,5 +1,5 @@
 -- What a piece does to what is kept of levels.
-use Rattle.std.proofs.Common.{◌≡◌, ℕ, suc, ◌+◌, ◌^◌, ◌-◌, min, cond, List, [], ◌∷◌, ◌++◌, length, map, Option, refl, ap, sym, subst, ◌∙◌}
+use Rattle.std.proofs.Common.{◌≡◌, ℕ, suc, ◌+◌, ◌^◌, ◌-◌, min, cond, List, [], ◌∷◌, length, map, Option, refl}
 use Rattle.std.proofs.Common.{arith, length-append}
 use Rattle.bound_text.specs.Pieces.{Piece}
 use Rattle.bound_text.specs.Inside.{Marks}

@@ -1,7 +1,7 @@
 -- Outlines show what steps look at.
-use Rattle.std.proofs.Common.{◌≡◌, ℕ, zero, suc, Bool, true, false, not, cond, List, [], ◌∷◌, Option, Some, None, refl, ap}
+use Rattle.std.proofs.Common.{◌≡◌, ℕ, Bool, true, false, not, cond, Option, Some, None, refl, ap}
 use Rattle.std.proofs.Common.{sym, ◌∙◌}
-use Rattle.std.specs.Prelude.{◌&&◌, ◌==◌, nat_lt, is_some}
+use Rattle.std.specs.Prelude.{◌&&◌, is_some}
 use Rattle.std.specs.Option.{option_map}
 use Rattle.its_model.specs.model.Bounds.{Bound, Constant, Input, SumOf, ProductOf, MaximumOf, PowerOf, Parts, NoParts}
 use Rattle.its_model.specs.model.Bounds.{Part}

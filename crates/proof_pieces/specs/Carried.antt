@@ -1,5 +1,6 @@
 -- What the code carries of a bound while its pieces are read, and what a piece comes to.
-use Rattle.std.specs.Prelude.{◌≡◌, ℕ, ◌<◌, Bool, true, false, List, Option, Some, None, IsTrue, IfSome, ◌⊎◌, ⊤, is_some, length}
+use Rattle.std.specs.Prelude.{◌≡◌, ℕ, ◌<◌, Bool, true, false, List, Option, Some, None, IsTrue, IfSome, ◌⊎◌, ⊤}
+use Rattle.std.specs.Prelude.{is_some, length}
 use Rattle.std.specs.Option.{option_map}
 use Rattle.bound_text.specs.Pieces.{Piece}
 use Rattle.bound_text.specs.Fronts.{Front}

@@ -1,5 +1,5 @@
 -- How outlines and levels follow what has been read.
-use Rattle.std.specs.Prelude.{◌≡◌, ℕ, suc, true, false, List, [], ◌∷◌, length, Option, Some, None, ⊤}
+use Rattle.std.specs.Prelude.{◌≡◌, true, false, length, Option, Some, None, ⊤}
 use Rattle.its_model.specs.model.Bounds.{Parts}
 use Rattle.bound_text.specs.Shapes.{is_empty}
 use Rattle.bound_text.specs.Pieces.{Piece}

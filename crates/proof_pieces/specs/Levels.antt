@@ -3,8 +3,8 @@
 use Rattle.std.specs.Prelude.{ℕ, zero, suc, ◌+◌, Bool, true, false, if◌then◌else◌, not, ◌&&◌, ◌||◌, nat_lt, is_some}
 use Rattle.std.specs.Prelude.{List, [], ◌∷◌, ◌++◌, length, map, min, ◌^◌, ◌-◌, Option, Some, None}
 use Rattle.std.specs.Option.{option_map}
-use Rattle.its_model.specs.model.Bounds.{NoParts, Parts}
-use Rattle.bound_text.specs.Pieces.{Piece, Variable, Number, Maximum, Open, Times, Blank}
+use Rattle.its_model.specs.model.Bounds.{Parts}
+use Rattle.bound_text.specs.Pieces.{Piece, Open, Times, Blank}
 use Rattle.bound_text.specs.Writing.{plus_between}
 use Rattle.bound_text.specs.Fronts.{Outer, Whole, Inside, Front, levels_above, sum_node, sum_at}
 use Rattle.bound_text.specs.Inside.{Marks, outer_marks, each_marks, level_behind}

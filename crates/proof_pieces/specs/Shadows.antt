@@ -1,5 +1,5 @@
 -- What the code keeps of outlines and levels.
-use Rattle.std.specs.Prelude.{◌≡◌, ℕ, Bool, true, false, List, [], length, map, Option, Some, None}
+use Rattle.std.specs.Prelude.{◌≡◌, Bool, true, false, List, [], length, map, Some, None}
 use Rattle.bound_text.specs.Carrying.{limited_step}
 use Rattle.bound_text.specs.Fronts.{Front}
 use Rattle.bound_text.specs.Inside.{Marks, front_marks}

@@ -12,6 +12,7 @@ mod grammar;
 mod inner;
 mod kind;
 mod law;
+mod leads;
 mod levels;
 mod lexer;
 mod modes;

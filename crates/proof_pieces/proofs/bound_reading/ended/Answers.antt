@@ -1,4 +1,4 @@
-use Rattle.std.proofs.Common.{◌≡◌, ap, ◌∙◌}
+use Rattle.std.proofs.Common.{ap}
 use Rattle.text_grammar.specs.text_core.Reading.{Refused}
 use Rattle.proof_pieces.specs.Carried.{has_reader}
 use Rattle.proof_pieces.proofs.CarriedReading.{ends_without}

@@ -1,10 +1,7 @@
-use Rattle.std.proofs.Common.{◌≡◌, ◌-◌, ◌+◌, ◌||◌, Bool, cond, Option, None, length, ap, subst, sym, ◌∙◌, arith, refl}
-use Rattle.bound_text.specs.Fronts.{Front}
+use Rattle.std.proofs.Common.{◌≡◌, ◌-◌, ◌+◌, ◌||◌, Bool, cond, None, length, ap, subst, ◌∙◌, arith, refl}
 use Rattle.bound_text.specs.Printing.{piece_of}
-use Rattle.bound_text.specs.declared.state.Reader.{Reader}
-use Rattle.proof_pieces.specs.Bounds.{bound_answer}
-use Rattle.proof_pieces.specs.BoundSteps.{IsBefore, answer_of, pieces_in}
-use Rattle.proof_pieces.specs.Carried.{Carries, StepsOn}
+use Rattle.proof_pieces.specs.BoundSteps.{IsBefore, pieces_in}
+use Rattle.proof_pieces.specs.Carried.{StepsOn}
 use Rattle.proof_pieces.proofs.CarriedReading.{knows_begun, knows_on, knows_off, knows_told}
 use Rattle.proof_pieces.proofs.FollowerLaws.{tree_settled}
 use Rattle.proof_pieces.proofs.bound_reading.read_bound.Goals as goal

@@ -1,5 +1,5 @@
 use Rattle.std.proofs.Common.{arith}
-use Rattle.proof_pieces.proofs.BoundLaws.{tells_deep, tells_past, tells_none, first_before}
+use Rattle.proof_pieces.proofs.BoundLaws.{tells_deep, tells_past, first_before}
 use Rattle.proof_pieces.proofs.bound_reading.told_at_end.Goals as goal
 
 pub returns-in-Some-clause-first : goal.returns-in-Some-clause-first

@@ -1,4 +1,4 @@
-use Rattle.std.proofs.Common.{◌≡◌, Some, None, sym, ◌∙◌}
+use Rattle.std.proofs.Common.{sym, ◌∙◌}
 use Rattle.bound_text.specs.Printing.{piece_of}
 use Rattle.proof_pieces.proofs.FollowerLaws.{shadows_on, shadows_off}
 use Rattle.proof_pieces.proofs.follower.Follower.take.Goals as goal

@@ -1,10 +1,9 @@
-use Rattle.std.proofs.Common.{◌≡◌, ℕ, cond, length, ap, sym, subst, ◌∙◌, Bool}
+use Rattle.std.proofs.Common.{◌≡◌, cond, length, ap, sym, subst, ◌∙◌, Bool}
 use Rattle.std.specs.Prelude.{map}
-use Rattle.bound_text.specs.Inside.{Marks}
 use Rattle.bound_text.specs.Printing.{piece_of}
 use Rattle.bound_text.proofs.DepthLaws.{on_ok}
 use Rattle.proof_pieces.specs.declared.levels.Begun.{Begun}
-use Rattle.proof_pieces.specs.Levels.{capped, first_begun, marks_taken, begun_behind, raised_from}
+use Rattle.proof_pieces.specs.Levels.{first_begun, marks_taken, begun_behind, raised_from}
 use Rattle.proof_pieces.specs.Shadows.{Holds, ShowsLevels, begun_in, capped_begun}
 use Rattle.proof_pieces.proofs.LevelsLaws.{first_capped, taken_count}
 use Rattle.proof_pieces.proofs.levels.Levels.take.Goals as goal

@@ -1,4 +1,4 @@
-use Rattle.std.proofs.Common.{◌≡◌, ◌<◌, ◌^◌, ◌++◌, length, min, take, drop, subst, ap, sym, ◌∙◌, arith}
+use Rattle.std.proofs.Common.{◌≡◌, ◌++◌, length, min, take, drop, subst, ap, sym, ◌∙◌, arith}
 use Rattle.std.specs.Prelude.{Bool}
 use Rattle.bound_text.specs.Inside.{Marks}
 use Rattle.proof_pieces.specs.Levels.{raised, raised_from}

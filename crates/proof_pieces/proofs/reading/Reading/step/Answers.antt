@@ -1,4 +1,4 @@
-use Rattle.std.proofs.Common.{◌≡◌, Some, sym, subst, ◌∙◌}
+use Rattle.std.proofs.Common.{sym, subst, ◌∙◌}
 use Rattle.bound_text.specs.Printing.{piece_of}
 use Rattle.proof_pieces.specs.BoundSteps.{pieces_in}
 use Rattle.proof_pieces.specs.Carried.{IsSettledTree}
