@@ -97,11 +97,14 @@ agrees_on f g piece told best next kind at true deep s e l d h n = go (is_some n
     go true a w b = inl (a, same)
     go false a true b =
         let none = no_fault next a in
-        inr (none, record {
-          deep = sym d ∙ b;
-          behind = subst (λ (o : Option (Fault ProofKind)). IfSome o (λ x. length (shallow (front_marks g)) < x.at))
-              (sym (same ∙ ap fault_of none)) tt;
-        })
+        inr (
+          none,
+          record {
+            deep = sym d ∙ b;
+            behind = subst (λ (o : Option (Fault ProofKind)). IfSome o (λ x. length (shallow (front_marks g)) < x.at))
+                (sym (same ∙ ap fault_of none)) tt;
+          },
+        )
     go false a false b = let none = no_fault next a in (same ∙ ap fault_of none, none)
 agrees_on f g piece told best next kind at false deep s e l d (inl h) n =
     subst (λ (v : Bool). Agrees g (or_told told kind at) next v) (sym (drop_tree (is_some next || deep)))

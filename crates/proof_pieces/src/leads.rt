@@ -181,7 +181,11 @@ impl Innermost {
     fn bound_shape(self) -> Shape
         ensures { result ≡ plain.bound_shape self }
     {
-        if self.terms { Shape::Sum } else { term_shape(self.before, self.last) }
+        if self.terms {
+            Shape::Sum
+        } else {
+            term_shape(self.before, self.last)
+        }
     }
 
     // Whether the factors can be all of a term.
@@ -222,8 +226,9 @@ impl Innermost {
         ensures { result ≡ plain.begins_exponent self (piece_of piece) }
     {
         match piece {
-            BoundPiece::Number(_) | BoundPiece::Variable(_) =>
-                Some(stays(self.with_item(Shape::Other))),
+            BoundPiece::Number(_) | BoundPiece::Variable(_) => Some(stays(self.with_item(
+                Shape::Other,
+            ))),
             BoundPiece::Open => Some(self.opens(Opening::Exponent)),
             _ => None,
         }

@@ -84,12 +84,7 @@ fn item_level(above: u64, round: Option<Frame>, innermost: Innermost) -> u64
 }
 
 // The mark of a piece.
-fn mark_of(
-    above: u64,
-    round: Option<Frame>,
-    innermost: Innermost,
-    piece: BoundPiece,
-) -> Option<u64>
+fn mark_of(above: u64, round: Option<Frame>, innermost: Innermost, piece: BoundPiece) -> Option<u64>
     ensures { (high : ℕ) → above ≡ capped high
         → result ≡ option_map capped (plain.mark_of high round innermost (piece_of piece)) }
 {
