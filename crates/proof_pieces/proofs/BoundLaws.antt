@@ -15,8 +15,6 @@ use Rattle.bound_text.specs.Reading.{stands}
 use Rattle.bound_text.specs.Carrying.{limited_step, first_of as first_kind}
 use Rattle.bound_text.specs.Inside.{Marks, deep_among, front_marks, other_kinds}
 use Rattle.bound_text.specs.Depths.{FindsDeep}
-use Rattle.bound_text.specs.Views.{front_of}
-use Rattle.bound_text.specs.declared.state.Reader.{Reader as CodeReader}
 use Rattle.text_grammar.specs.text_core.Tokens.{Token, pieces}
 use Rattle.text_grammar.specs.text_core.Readers.{Fault, onto}
 use Rattle.text_grammar.specs.text_core.Reading.{Refused, Stopped, Going, first_of, first_among}
@@ -27,12 +25,11 @@ use Rattle.text_grammar.specs.declared.token.Fault as code_fault
 use Rattle.text_core.proofs.Walks.{onto-append}
 use Rattle.proof_pieces.specs.declared.inner.Inner.{Inner}
 use Rattle.proof_pieces.specs.declared.inner.BoundRead.{BoundRead}
-use Rattle.proof_pieces.specs.declared.bound_reading.Stepped.TheVariants.{Led, Off}
 use Rattle.proof_pieces.specs.declared.kind.ProofKind.{ProofKind}
 use Rattle.proof_pieces.specs.declared.kind.ProofKind.TheVariants.{Syntax, NumberTooLarge, TooDeep, BadReference, Limit}
 use Rattle.proof_pieces.specs.Bounds.{number_of, bound_levels, kind_of, as_told, too_deep, told_at_end, bounds_in, counted_from}
 use Rattle.proof_pieces.specs.Bounds.{bound_answer}
-use Rattle.proof_pieces.specs.BoundSteps.{answer_of, pieces_in, Steps, TellsDeep, IsBefore, or_told}
+use Rattle.proof_pieces.specs.BoundSteps.{answer_of, pieces_in, TellsDeep, IsBefore, or_told}
 use Rattle.proof_pieces.specs.BoundSteps.{or_syntax, ended_with, BreaksOff, Ends}
 
 -- a refusal of a kind at a position
@@ -113,7 +110,7 @@ counted_pieces i [] = refl
 counted_pieces i (x ∷ xs) = ap (λ (ps : List Piece). piece_of x.piece ∷ ps) (counted_pieces (suc i) xs)
 
 -- a token that is counted stands at its number
-counted_at : (i j : ℕ) (xs : List Inner) → j < length xs → (t : Token Piece) × (slice_get (counted_from i xs) j ≡ Some t) × (t.at ≡ i + j)
+pub counted_at : (i j : ℕ) (xs : List Inner) → j < length xs → (t : Token Piece) × (slice_get (counted_from i xs) j ≡ Some t) × (t.at ≡ i + j)
 counted_at i j [] h = absurd (omega (arith, h))
 counted_at i zero (x ∷ xs) h = (record { piece = piece_of x.piece; at = i; upto = suc i }, refl, omega arith)
 counted_at i (suc j) (x ∷ xs) h = let w = counted_at (suc i) j xs (omega (arith, h)) in let e = w.2 in (w.0, w.1, omega (arith, e))
@@ -227,46 +224,59 @@ first_before n count (Some x) j first h l e = go (is_before (bounds_in n) (refus
 
 -- how far reading has come: so many pieces were read, before which all refusals so far stand, and what is left decides
 -- the answer
-pub record Reads (n : ℕ) (all left : List Inner) (f : Front) (best : Option (code_fault.Fault ProofKind)) : Type 0 where
+pub record Reads (n : ℕ) (all left : List Inner) (f : Front) (best : Option (Fault ProofKind)) : Type 0 where
   pub read : List Inner
   pub count : length read + length left ≡ length all
-  pub before : IsBefore (length read) best
+  pub before : IfSome best (λ x. x.at < length read)
   pub done : List (Token Piece)
   pub tokens : onto done [] ≡ counted_from 0 read
-  pub decides : run (bounds_in n) (length all) (Going (fault_of best) done f) (counted_from (length read) left) ≡ bound_answer n all
+  pub decides : run (bounds_in n) (length all) (Going best done f) (counted_from (length read) left) ≡ bound_answer n all
 
 -- at the beginning
-pub reads_begun : (n : ℕ) (all : List Inner) (f : Front) → f ≡ (bounds_in n).beginning → Reads n all all f None
-reads_begun n all f e = record {
+pub reads_begun : (n : ℕ) (all : List Inner) → Reads n all all (bounds_in n).beginning None
+reads_begun n all = record {
   read = [];
   count = omega arith;
   before = tt;
   done = [];
   tokens = refl;
-  decides = ap (λ (g : Front). run (bounds_in n) (length all) (Going None [] g) (counted_from 0 all)) e;
+  decides = refl;
 }
 
+-- the first that stands against a piece before others
+abbrev pub told_against : ℕ → Front → Inner → List Inner → Option ProofKind
+told_against n f x behind = option_map kind_of (first_kind (stands n f (piece_of x.piece) (pieces_in behind)) other_kinds)
+
+-- it stands before the next piece
+told_within : (best : Option (Fault ProofKind)) (told : Option ProofKind) (at k : ℕ) → at < k → IfSome best (λ x. x.at < at) → IfSome (or_told best told at) (λ x. x.at < k)
+told_within None None at k h l = tt
+told_within None (Some kind) at k h l = h
+told_within (Some x) told at k h l = omega (arith, h, l)
+
 -- a piece more
-pub reads_on : (n : ℕ) (all left behind : List Inner) (x : Inner) (f : Front) (best next : Option (code_fault.Fault ProofKind)) (r : CodeReader) (told : Option ProofKind) (at : ℕ)
-    → Reads n all left f best → left ≡ x ∷ behind → at ≡ length all - length left
-    → Steps n f (piece_of x.piece) (pieces_in behind) r (Led told)
-    → fault_of next ≡ or_told (fault_of best) told at → IsBefore (at + 1) next → Reads n all behind (front_of r) next
-reads_on n all left behind x f best next r told at d is place steps same before = go (subst (λ (xs : List Inner). Reads n all xs f best) is d) (place ∙ ap (λ (xs : List Inner). length all - length xs) is)
+pub reads_on : (n : ℕ) (all left behind : List Inner) (x : Inner) (f g : Front) (best : Option (Fault ProofKind)) (at : ℕ)
+    → Reads n all left f best → left ≡ x ∷ behind → at ≡ length all - length left → limited_step f (piece_of x.piece) ≡ Some g
+    → Reads n all behind g (or_told best (told_against n f x behind) at)
+reads_on n all left behind x f g best at d is place leads = go (subst (λ (xs : List Inner). Reads n all xs f best) is d) (place ∙ ap (λ (xs : List Inner). length all - length xs) is)
   where
-    go : Reads n all (x ∷ behind) f best → at ≡ length all - suc (length behind) → Reads n all behind (front_of r) next
+    told : Option ProofKind
+    told = told_against n f x behind
+
+    go : Reads n all (x ∷ behind) f best → at ≡ length all - suc (length behind) → Reads n all behind g (or_told best told at)
     go d p = record {
       read = d.read ++ x ∷ [];
       count = let e = d.count in omega (arith, e, length-append d.read (x ∷ []));
-      before = subst (λ (k : ℕ). IsBefore k next) (let e = d.count in let s : at + 1 ≡ length (d.read ++ x ∷ []) = omega (arith, e, p, length-append d.read (x ∷ [])) in s) before;
+      before = told_within best told at (length (d.read ++ x ∷ [])) (let e = d.count in omega (arith, e, p, length-append d.read (x ∷ [])))
+          (subst (λ (k : ℕ). IfSome best (λ y. y.at < k)) (sym here) d.before);
       done = t ∷ d.done;
       tokens = onto-append d.done [] (t ∷ []) ∙ ap (λ (ts : List (Token Piece)). ts ++ t ∷ []) d.tokens ∙ counted_more d.read x;
       decides =
-          ap (λ (o : Option (Fault ProofKind)). run (bounds_in n) (length all) (Going o (t ∷ d.done) (front_of r)) (counted_from (length (d.read ++ x ∷ [])) behind))
-          (same ∙ ap (or_told (fault_of best) told) here ∙ sym (among_next n (fault_of best) told (length d.read) (is_before_plain (length d.read) best d.before)))
-          ∙ ap (λ (k : ℕ). run (bounds_in n) (length all) (Going (first_among (bounds_in n) (fault_of best) (refusals told (length d.read))) (t ∷ d.done) (front_of r)) (counted_from k behind)) (let s : length (d.read ++ x ∷ []) ≡ suc (length d.read) = omega (arith, length-append d.read (x ∷ [])) in s)
-          ∙ sym (ap (λ (o : Option Front). run (bounds_in n) (length all) (further (bounds_in n) (first_among (bounds_in n) (fault_of best) (told_at_end o (too_deep f (onto d.done [])) ++ refusals told (length d.read))) d.done t o (refused Syntax (length d.read))) (counted_from (suc (length d.read)) behind)) steps.0)
-          ∙ ap (λ (k : Option ProofKind). run (bounds_in n) (length all) (further (bounds_in n) (first_among (bounds_in n) (fault_of best) (told_at_end (limited_step f (piece_of x.piece)) (too_deep f (onto d.done [])) ++ refusals k (length d.read))) d.done t (limited_step f (piece_of x.piece)) (refused Syntax (length d.read))) (counted_from (suc (length d.read)) behind))
-          (steps.2 ∙ ap (λ (ps : List Piece). option_map kind_of (first_kind (stands n f (piece_of x.piece) ps) other_kinds)) (sym (counted_pieces (suc (length d.read)) behind)))
+          ap (λ (o : Option (Fault ProofKind)). run (bounds_in n) (length all) (Going o (t ∷ d.done) g) (counted_from (length (d.read ++ x ∷ [])) behind))
+          (ap (or_told best told) here ∙ sym (among_next n best told (length d.read) d.before))
+          ∙ ap (λ (k : ℕ). run (bounds_in n) (length all) (Going (first_among (bounds_in n) best (refusals told (length d.read))) (t ∷ d.done) g) (counted_from k behind)) (let s : length (d.read ++ x ∷ []) ≡ suc (length d.read) = omega (arith, length-append d.read (x ∷ [])) in s)
+          ∙ sym (ap (λ (o : Option Front). run (bounds_in n) (length all) (further (bounds_in n) (first_among (bounds_in n) best (told_at_end o (too_deep f (onto d.done [])) ++ refusals told (length d.read))) d.done t o (refused Syntax (length d.read))) (counted_from (suc (length d.read)) behind)) leads)
+          ∙ ap (λ (k : Option ProofKind). run (bounds_in n) (length all) (further (bounds_in n) (first_among (bounds_in n) best (told_at_end (limited_step f (piece_of x.piece)) (too_deep f (onto d.done [])) ++ refusals k (length d.read))) d.done t (limited_step f (piece_of x.piece)) (refused Syntax (length d.read))) (counted_from (suc (length d.read)) behind))
+          (ap (λ (ps : List Piece). option_map kind_of (first_kind (stands n f (piece_of x.piece) ps) other_kinds)) (sym (counted_pieces (suc (length d.read)) behind)))
           ∙ d.decides;
     }
       where
@@ -289,22 +299,29 @@ behind_all : {X : Type 0} (xs : List X) → xs ++ [] ≡ xs
 behind_all [] = refl
 behind_all (x ∷ xs) = ap (λ (ys : List _). x ∷ ys) (behind_all xs)
 
+-- the refusals so far of the code are as good as those of the definition, behind so many pieces, where those of parts that
+-- are too deep come besides
+abbrev pub SameFirst : Front → Option (Fault ProofKind) → Option (code_fault.Fault ProofKind) → ℕ → Type 0
+SameFirst f told best count =
+    (n : ℕ) (xs : List Inner) → length xs ≡ count
+    → first_among (bounds_in n) (fault_of best) (too_deep f (counted_from 0 xs)) ≡ first_among (bounds_in n) told (too_deep f (counted_from 0 xs))
+
 -- a piece that can't follow
-pub reads_off : (n : ℕ) (all left behind : List Inner) (x : Inner) (f : Front) (best : Option (code_fault.Fault ProofKind)) (r : CodeReader) (result : BoundRead) (at : ℕ)
-    → Reads n all left f best → left ≡ x ∷ behind → at ≡ length all - length left
-    → Steps n f (piece_of x.piece) (pieces_in behind) r Off → BreaksOff (front_of r) best at result → answer_of result ≡ bound_answer n all
-reads_off n all left behind x f best r result at d is place steps off =
+pub reads_off : (n : ℕ) (all left behind : List Inner) (x : Inner) (f : Front) (told : Option (Fault ProofKind)) (best : Option (code_fault.Fault ProofKind)) (result : BoundRead) (at : ℕ)
+    → Reads n all left f told → left ≡ x ∷ behind → at ≡ length all - length left
+    → limited_step f (piece_of x.piece) ≡ None → BreaksOff f best at result → SameFirst f told best at → answer_of result ≡ bound_answer n all
+reads_off n all left behind x f best code result at d is place leads off same =
     go (subst (λ (xs : List Inner). Reads n all xs f best) is d) (place ∙ ap (λ (xs : List Inner). length all - length xs) is)
   where
     go : Reads n all (x ∷ behind) f best → at ≡ length all - suc (length behind) → answer_of result ≡ bound_answer n all
     go d p =
         off.is
         ∙ ap (λ (y : Fault ProofKind). Refused y) (sym (breaks_with n (fault_of off.told) told at (is_before_plain at off.told off.before)))
-        ∙ ap (λ (o : Option (Fault ProofKind)). Refused (first_of (bounds_in n) (first_among (bounds_in n) o (refusals told at)) (refused Syntax at))) (off.first.each n d.read (sym here) ∙ deep)
-        ∙ ap (λ (o : Option (Fault ProofKind)). Refused (first_of (bounds_in n) o (refused Syntax at))) (sym (among_both n (fault_of best) (too_deep f (onto d.done [])) (refusals told at)))
-        ∙ ap (λ (k : ℕ). Refused (first_of (bounds_in n) (first_among (bounds_in n) (fault_of best) (too_deep f (onto d.done []) ++ refusals told k)) (refused Syntax (k)))) here
+        ∙ ap (λ (o : Option (Fault ProofKind)). Refused (first_of (bounds_in n) (first_among (bounds_in n) o (refusals told at)) (refused Syntax at))) (off.first.each n d.read (sym here) ∙ same n d.read (sym here) ∙ deep)
+        ∙ ap (λ (o : Option (Fault ProofKind)). Refused (first_of (bounds_in n) o (refused Syntax at))) (sym (among_both n best (too_deep f (onto d.done [])) (refusals told at)))
+        ∙ ap (λ (k : ℕ). Refused (first_of (bounds_in n) (first_among (bounds_in n) best (too_deep f (onto d.done []) ++ refusals told k)) (refused Syntax (k)))) here
         ∙ sym (run-stopped n (length all) (counted_from (suc (length d.read)) behind) _)
-        ∙ sym (ap (λ (o : Option Front). run (bounds_in n) (length all) (further (bounds_in n) (first_among (bounds_in n) (fault_of best) (told_at_end o (too_deep f (onto d.done [])) ++ refusals told (length d.read))) d.done t o (refused Syntax (length d.read))) (counted_from (suc (length d.read)) behind)) steps.0)
+        ∙ sym (ap (λ (o : Option Front). run (bounds_in n) (length all) (further (bounds_in n) (first_among (bounds_in n) best (told_at_end o (too_deep f (onto d.done [])) ++ refusals told (length d.read))) d.done t o (refused Syntax (length d.read))) (counted_from (suc (length d.read)) behind)) leads)
         ∙ d.decides
       where
         told : Option ProofKind
@@ -316,31 +333,26 @@ reads_off n all left behind x f best r result at d is place steps off =
         here : at ≡ length d.read
         here = let e = d.count in omega (arith, e, p)
 
-        deep : first_among (bounds_in n) (fault_of best) (too_deep (front_of r) (counted_from 0 d.read)) ≡ first_among (bounds_in n) (fault_of best) (too_deep f (onto d.done []))
-        deep = ap (λ (g : Front). first_among (bounds_in n) (fault_of best) (too_deep g (counted_from 0 d.read))) steps.1
-            ∙ ap (λ (ts : List (Token Piece)). first_among (bounds_in n) (fault_of best) (too_deep f ts)) (sym d.tokens)
+        deep : first_among (bounds_in n) best (too_deep f (counted_from 0 d.read)) ≡ first_among (bounds_in n) best (too_deep f (onto d.done []))
+        deep = ap (λ (ts : List (Token Piece)). first_among (bounds_in n) best (too_deep f ts)) (sym d.tokens)
 
 -- the end
-pub reads_ended : (n : ℕ) (all left : List Inner) (f : Front) (best : Option (code_fault.Fault ProofKind)) (result : BoundRead)
-    → Reads n all left f best → length left ≡ 0 → Ends f best (length all) result → answer_of result ≡ bound_answer n all
-reads_ended n all left f best result d is ends = go left is d
+pub reads_ended : (n : ℕ) (all left : List Inner) (f : Front) (told : Option (Fault ProofKind)) (best : Option (code_fault.Fault ProofKind)) (result : BoundRead)
+    → Reads n all left f told → length left ≡ 0 → Ends f best (length all) result → SameFirst f told best (length all) → answer_of result ≡ bound_answer n all
+reads_ended n all left f told best result d is ends same = go left is d
   where
-    go : (xs : List Inner) → length xs ≡ 0 → Reads n all xs f best → answer_of result ≡ bound_answer n all
+    go : (xs : List Inner) → length xs ≡ 0 → Reads n all xs f told → answer_of result ≡ bound_answer n all
     go (x ∷ xs) none d = absurd (omega (arith, none))
     go [] none d =
         ends.is
         ∙ sym (ended_as n (fault_of ends.told) (finish f) (length all) (is_before_plain (length all) ends.told ends.before))
         ∙ ap (λ (o : Option (Fault ProofKind)). ended (bounds_in n) o (finish f) (refused Syntax (length all)))
         (ends.first.each n d.read (let e = d.count in omega (arith, e))
-        ∙ ap (λ (ts : List (Token Piece)). first_among (bounds_in n) (fault_of best) (too_deep f ts)) (sym d.tokens)
-        ∙ ap (first_among (bounds_in n) (fault_of best)) (sym (behind_all (too_deep f (onto d.done [])))))
+        ∙ same n d.read (let e = d.count in omega (arith, e))
+        ∙ ap (λ (ts : List (Token Piece)). first_among (bounds_in n) told (too_deep f ts)) (sym d.tokens)
+        ∙ ap (first_among (bounds_in n) told) (sym (behind_all (too_deep f (onto d.done [])))))
         ∙ d.decides
 
--- where reading stands, all refusals so far stand before the next piece
-pub reads_before : (n : ℕ) (all left : List Inner) (f : Front) (best : Option (code_fault.Fault ProofKind)) (at : ℕ)
-    → Reads n all left f best → at ≡ length all - length left → IsBefore at best
-reads_before n all left f best at d p = subst (λ (k : ℕ). IsBefore k best) (let e = d.count in let s : length d.read ≡ at = omega (arith, e, p) in s) d.before
-
 -- and as many pieces are left as there are, at most
-pub reads_left : (n : ℕ) (all left : List Inner) (f : Front) (best : Option (code_fault.Fault ProofKind)) → Reads n all left f best → length left ≤ length all
-reads_left n all left f best d = let e = d.count in omega (arith, e)
+pub reads_left : (n : ℕ) (all left : List Inner) (f : Front) (told : Option (Fault ProofKind)) → Reads n all left f told → length left ≤ length all
+reads_left n all left f told d = let e = d.count in omega (arith, e)

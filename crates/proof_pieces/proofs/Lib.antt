@@ -12,3 +12,17 @@ mod WorkedBounds
 -- their pieces, and how these are found again
 pub mod BoundCuts
 pub mod BoundFound
+-- outlines and levels follow what has been read
+pub mod MarkMoves
+pub mod OutlineLaws
+pub mod BracketMarks
+pub mod FollowLaws
+pub mod ItemLaws
+pub mod LeadLaws
+pub mod ListLaws
+pub mod ShallowLaws
+pub mod DeepLaws
+pub mod CarryLaws
+pub mod LevelsLaws
+pub mod FollowerLaws
+pub mod CarriedReading

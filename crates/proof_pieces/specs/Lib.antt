@@ -8,5 +8,11 @@ pub mod Bounds
 pub mod WorkedBounds
 -- the machinery of the functions inside
 pub mod BoundSteps
+-- what steps look at, and how levels change
+pub mod Outlines
+pub mod Levels
+pub mod Following
+pub mod Shadows
+pub mod Carried
 -- the crates below, which callers name through this one
 pub use Rattle.bound_text.specs as bound_text

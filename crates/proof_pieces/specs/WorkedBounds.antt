@@ -1,6 +1,6 @@
 -- Bounds inside proof files at the limit of levels, and the order of refusals, worked out by hand on both sides.
 use Rattle.std.specs.Prelude.{◌≡◌, ℕ, zero, suc, true, false, List, [], ◌∷◌, ◌++◌}
-use Rattle.its_model.specs.model.Bounds.{Bound, Input, PowerOf, Parts, NoParts, Part}
+use Rattle.its_model.specs.model.Bounds.{Bound, Input, PowerOf, NoParts, Part}
 use Rattle.bound_text.specs.Fronts.{Front, Whole, ItemRead}
 use Rattle.bound_text.specs.Steps.{front_at}
 use Rattle.bound_text.specs.Pieces.{Piece as Plain, Blank as PlainBlank}

@@ -7,7 +7,11 @@ ghost use Rattle.bound_text.specs.Printing.{piece_of};
 ghost use Rattle.bound_text.specs.Checks.{caret_next};
 ghost use Rattle.bound_text.specs.Reading.{stands};
 ghost use Rattle.bound_text.specs.Carrying.{early_kinds, first_of};
-ghost use Rattle.bound_text.specs.Views.{front_of, is_settled, is_fresh};
+ghost use Rattle.bound_text.specs.Fronts.{Front};
+ghost use Rattle.bound_text.specs.Steps.{finish};
+ghost use Rattle.bound_text.specs.Views.{front_of, is_settled};
+ghost use Rattle.proof_pieces.specs.Carried.{Carries, IsToldWithout};
+ghost use Rattle.proof_pieces.specs.Shadows.{Shadows};
 ghost use Rattle.bound_expr.specs.Views.{bound_of};
 ghost use Rattle.text_grammar.specs.text_core.Reading.{first_of as first_at, is_before};
 ghost use Rattle.text_grammar.specs.Marks.{fault_of, refusal_of};
@@ -17,8 +21,10 @@ ghost use Rattle.proof_pieces.specs.BoundSteps.{ended_with, or_told, or_syntax a
 ghost use Rattle.proof_pieces.specs.declared.kind.ProofKind.TheVariants.{TooDeep};
 ghost use Rattle.proof_pieces.specs.BoundSteps.{told_from as told_by, with_size as with_size_of};
 
+use crate::follower::Follower;
 use crate::inner::{BoundRead, Inner};
 use crate::kind::ProofKind;
+use crate::reading::Reading;
 use bound_expr::Bound;
 use bound_text::{Fault as BoundFault, Piece as BoundPiece, Reader};
 use std::alloc::{AllocError, Global};
@@ -47,47 +53,57 @@ pub(crate) enum Stepped {
 pub fn read_bound(alloc: Global, names: usize, pieces: &[Inner]) -> Result<BoundRead, AllocError>
     ensures { IfOk result (λ read. answer_of read ≡ bound_answer names pieces.now) }
 {
-    let mut reader = Reader::new(alloc);
+    let mut reading = Reading::new(alloc)?;
     let mut best = None;
     let mut rest = pieces;
     while let Some((inner, behind)) = rest.split_first() {
         let at = pieces.len() - rest.len();
-        match step(alloc, names, &mut reader, inner.piece, behind)? {
+        match reading.step(alloc, names, inner.piece, behind)? {
             Stepped::Led(told) => best = or_told_at(best, told, at as u64),
-            Stepped::Off => return off(alloc, &reader, best, at),
+            Stepped::Off => return Ok(off(&reading.follower, best, at)),
         }
+        reading.settle(best.is_some());
         rest = behind;
     }
-    ended(alloc, reader, best, pieces.len())
+    ended(reading, best, pieces.len())
 }
 
 // The refusal of a bound that breaks off behind so many pieces.
-fn off(
-    alloc: Global,
-    reader: &Reader,
-    best: Option<Fault<ProofKind>>,
-    count: usize,
-) -> Result<BoundRead, AllocError>
-    requires fresh { IsTrue (is_fresh reader.now) }
+fn off(follower: &Follower, best: Option<Fault<ProofKind>>, count: usize) -> BoundRead
     requires before { IsBefore count best }
-    ensures { IfOk result (λ read. BreaksOff (front_of reader.now) best count read) }
+    ensures { (f : Front) → Shadows f follower.now → BreaksOff f best count result }
 {
-    let told = told_at_end(alloc, reader, best, count)?;
-    Ok(BoundRead::Refused(or_syntax(told, count as u64)))
+    let told = told_at_end(follower, best, count);
+    BoundRead::Refused(or_syntax(told, count as u64))
 }
 
 // What comes of a bound that ends behind so many pieces.
 fn ended(
-    alloc: Global,
-    reader: Reader,
+    reading: Reading,
     best: Option<Fault<ProofKind>>,
     count: usize,
 ) -> Result<BoundRead, AllocError>
-    requires settled { IsTrue (is_settled reader) }
     requires before { IsBefore count best }
-    ensures { IfOk result (λ read. Ends (front_of reader) best count read) }
+    ensures { (f : Front) → Carries f reading → IsToldWithout f best count reading
+        → IfOk result (λ read. Ends f best count read) }
 {
-    let told = told_at_end(alloc, &reader, best, count)?;
+    let Reading { reader, follower } = reading;
+    let told = told_at_end(&follower, best, count);
+    match reader {
+        Some(reader) => finished(reader, told, count),
+        None => Ok(BoundRead::Refused(or_syntax(told, count as u64))),
+    }
+}
+
+// The bound of a tree, unless it is refused.
+fn finished(
+    reader: Reader,
+    told: Option<Fault<ProofKind>>,
+    count: usize,
+) -> Result<BoundRead, AllocError>
+    ensures { IfOk result (λ read. answer_of read
+        ≡ ended_with (fault_of told) (finish (front_of reader)) count) }
+{
     match reader.finish() {
         Ok(bound) => Ok(bound_or(told, bound)),
         Err(BoundFault::Syntax) => Ok(BoundRead::Refused(or_syntax(told, count as u64))),
@@ -120,23 +136,17 @@ fn or_syntax(told: Option<Fault<ProofKind>>, at: u64) -> Fault<ProofKind>
 
 // The first of a refusal so far and of the parts that are too deep, behind so many pieces.
 fn told_at_end(
-    alloc: Global,
-    reader: &Reader,
+    follower: &Follower,
     best: Option<Fault<ProofKind>>,
     count: usize,
-) -> Result<Option<Fault<ProofKind>>, AllocError>
-    requires fresh { IsTrue (is_fresh reader.now) }
+) -> Option<Fault<ProofKind>>
     requires before { IsBefore count best }
-    ensures first { IfOk result (TellsDeep (front_of reader.now) best count) }
-    ensures before { IfOk result (IsBefore count) }
+    ensures first { (f : Front) → Shadows f follower.now → TellsDeep f best count result }
+    ensures before { IsBefore count result }
 {
-    let Some(index) = reader.deep_part(alloc, BOUND_LEVELS)? else {
-        return Ok(best);
-    };
-    if index < count {
-        Ok(Some(first_with_deep(best, index as u64)))
-    } else {
-        Ok(best)
+    match follower.deep_part() {
+        Some(index) if index < count => Some(first_with_deep(best, index as u64)),
+        _ => best,
     }
 }
 
@@ -163,8 +173,8 @@ fn comes_behind(fault: Fault<ProofKind>, at: u64) -> bool
     at < fault.at || (at == fault.at && last)
 }
 
-// Where a piece leads, before these.
-fn step(
+/// Where a piece leads the tree, before these.
+pub(crate) fn step(
     alloc: Global,
     names: usize,
     reader: &mut Reader,

@@ -7,14 +7,19 @@
 mod bound_pieces;
 mod bound_reading;
 mod classes;
+mod follower;
 mod grammar;
 mod inner;
 mod kind;
 mod law;
+mod leads;
+mod levels;
 mod lexer;
 mod modes;
 mod names;
+mod outline;
 mod piece;
+mod reading;
 mod words;
 
 pub use bound_reading::{BOUND_LEVELS, read_bound};

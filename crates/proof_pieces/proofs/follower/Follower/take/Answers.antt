@@ -1,0 +1,17 @@
+use Rattle.std.proofs.Common.{sym, ◌∙◌}
+use Rattle.bound_text.specs.Printing.{piece_of}
+use Rattle.proof_pieces.proofs.FollowerLaws.{shadows_on, shadows_off}
+use Rattle.proof_pieces.proofs.follower.Follower.take.Goals as goal
+
+pub returns-in_ok-follow-in-Some : goal.returns-in_ok-follow-in-Some
+returns-in_ok-follow-in-Some c = λ f s.
+    shadows_on f (piece_of c.args.piece) c.args.self.now c.follow.new.self c.take.new.self c.round-round.result c.in-Some.lead s
+    c.round-round.ensures (sym c.in-Some.is ∙ c.lead.ensures) c.in_ok-follow-in-Some.ensures.frames
+    c.in_ok-follow-in-Some.ensures.innermost c.in_ok-take-in-Some.ensures
+
+pub returns-in-None : goal.returns-in-None
+returns-in-None c = λ f s. (
+  shadows_off f (piece_of c.args.piece) c.args.self.now c.round-round.result s c.round-round.ensures
+      (sym c.in-None.is ∙ c.lead.ensures),
+  s,
+)
