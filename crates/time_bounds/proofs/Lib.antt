@@ -37,11 +37,13 @@ pub mod OpenFinds
 pub mod TriedFinds
 pub mod NeedLists
 -- one more rule
-pub mod TriedLists
+pub mod NumberedLists
+pub mod NamedGaps
 pub mod AnswerLaws
 pub mod KeptQuestions
 pub mod TimeRounds
 -- what stands at places
+pub mod PlaceAnswers
 pub mod LocalLists
 pub mod LiveLocals
 pub mod LoneComponents

@@ -15,7 +15,7 @@ use Rattle.proof_tree.specs.proof_setting.Setting.{setting_of}
 use Rattle.rank_search.specs.rule_questions.EmptyAnswers.{SaysEmpty}
 use Rattle.rank_search.specs.rule_questions.RuleAnswers.{AreEmptyAnswers, answer_for}
 use Rattle.size_bounds.specs.declared.table.Table.{Table}
-use Rattle.bound_rounds.specs.Keys.{is_untimed, lacks, time_key, rule_numbers}
+use Rattle.bound_rounds.specs.Keys.{lacks, time_key, rule_numbers}
 use Rattle.bound_rounds.specs.Finds as plain
 use Rattle.bound_rounds.specs.Finds.{bounds_of, bound_found, first_of}
 use Rattle.bound_rounds.specs.Searches.{Searches}
