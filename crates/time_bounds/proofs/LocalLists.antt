@@ -25,7 +25,7 @@ use Rattle.time_bounds.specs.ProgramSizes.{AreLive, IsLocalOf, AreLocals}
 use Rattle.time_bounds.specs.Fates.{AreFates, fate_at, is_empty_fate, is_dead_fate}
 use Rattle.time_bounds.specs.Locals.{is_live_fate, AreAnswersAt, AreAnswersAfter, AreAllAnswers, answer_in}
 use Rattle.time_bounds.proofs.PlaceAnswers.{answer_at}
-use Rattle.time_bounds.proofs.Rules.{rule_below, rule_there}
+use Rattle.time_bounds.proofs.RuleNumbers.{rule_below, rule_there}
 use Rattle.model.proofs.Cases.{slice_get-there as get_below, none_some, some_same}
 
 -- one answer more of a rule

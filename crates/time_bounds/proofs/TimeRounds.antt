@@ -37,7 +37,7 @@ use Rattle.time_bounds.specs.OpenFinds.{AreOpenAfter}
 use Rattle.time_bounds.specs.TriedRules.{AreTried, find_in, finds_in, kept_in, AreAskedOver}
 use Rattle.time_bounds.proofs.FateLaws.{says, shown}
 use Rattle.time_bounds.proofs.OpenFinds.{HasKeysOfRules, open_standing}
-use Rattle.time_bounds.proofs.Rules.{rule_there}
+use Rattle.time_bounds.proofs.RuleNumbers.{rule_there}
 use Rattle.time_bounds.proofs.TriedFinds.{asked_over}
 
 -- what was found of a rule at a position is found of its time

@@ -5,7 +5,8 @@ use Rattle.proof_tree.specs.declared.answer.Question.TheVariants as asked
 use Rattle.proof_tree.specs.proof_setting.WorkedGaps.{looping}
 use Rattle.bound_rounds.specs.Keys.{Bounds}
 use Rattle.time_bounds.specs.SizeWhys.{HasNoSize}
-use Rattle.time_bounds.specs.TimeWhys.{EmptyTripsSo, HasNoTime}
+use Rattle.time_bounds.specs.ProgramRules.{EmptyTripsSo}
+use Rattle.time_bounds.specs.TimeWhys.{HasNoTime}
 use Rattle.time_bounds.specs.WorkedReports.{staying_said}
 use Rattle.why_values.specs.Programs.{tripped_at, squares}
 

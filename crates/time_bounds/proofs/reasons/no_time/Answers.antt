@@ -21,7 +21,7 @@ use Rattle.bound_book.specs.ByKey.{bounds_in}
 use Rattle.time_bounds.specs.ProgramRules.{ranking_of}
 use Rattle.time_bounds.specs.Questions.{HasShape, program_in}
 use Rattle.time_bounds.proofs.AnswerLaws.{large_told, told_time, missing_unfit, gap_holds, untimed_none}
-use Rattle.time_bounds.proofs.Rules.{rule_within}
+use Rattle.time_bounds.proofs.RuleNumbers.{rule_within}
 use Rattle.time_bounds.proofs.TablesOver.{table_over}
 use Rattle.time_bounds.proofs.NamedGaps.{gap_last}
 use Rattle.time_bounds.proofs.reasons.no_time.Goals as goal

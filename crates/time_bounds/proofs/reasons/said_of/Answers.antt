@@ -11,7 +11,7 @@ use Rattle.time_bounds.specs.ProgramSearches.{searches_of_program}
 use Rattle.time_bounds.specs.Questions.{program_in}
 use Rattle.time_bounds.specs.TimesSaid.{AreTimesOver}
 use Rattle.time_bounds.specs.TriedRules.{IsAskedOver}
-use Rattle.time_bounds.proofs.CarriedTimes.{times_carried, gaps_ordered}
+use Rattle.time_bounds.proofs.TimeNumbers.{times_carried, gaps_ordered}
 use Rattle.time_bounds.proofs.NamedGaps.{said_grown, gaps_grown, grown_few}
 use Rattle.time_bounds.proofs.NumberedLists.{each_read}
 use Rattle.time_bounds.proofs.reasons.said_of.Goals as goal

@@ -14,7 +14,7 @@ use Rattle.time_bounds.specs.AnalysisLemmas.{CarriesSizes}
 use Rattle.time_bounds.specs.Numbered.{EachNumbered}
 use Rattle.size_bounds.specs.Tables.{number_at}
 use Rattle.time_bounds.proofs.SaidRows.{whys_more, take_past, there_rows, said_seen}
-use Rattle.time_bounds.proofs.CarriedSizes.{all_carried}
+use Rattle.time_bounds.proofs.SizeNumbers.{all_carried}
 use Rattle.time_bounds.proofs.size_reasons.said_sizes.Goals as goal
 
 pub loop-position-preserved : goal.loop-position-preserved

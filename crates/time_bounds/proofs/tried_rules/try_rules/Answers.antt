@@ -6,7 +6,7 @@ use Rattle.bound_book.specs.ByKey.{bounds_in}
 use Rattle.time_bounds.specs.declared.tried_rules.Tried.{Tried}
 use Rattle.time_bounds.specs.Questions.{program_in}
 use Rattle.time_bounds.specs.TriedRules.{AreTried, IsTried}
-use Rattle.time_bounds.proofs.KeptQuestions.{kept_read}
+use Rattle.time_bounds.proofs.AnsweredQuestions.{kept_read}
 use Rattle.time_bounds.proofs.NumberedLists.{each_pushed}
 use Rattle.time_bounds.proofs.tried_rules.try_rules.Goals as goal
 

@@ -28,7 +28,7 @@ use Rattle.time_bounds.specs.Analysis.{AreTimesOf, AreSizeRowsOf}
 use Rattle.time_bounds.specs.AnalysisLemmas.{CarriesTime, CarriesSizes, AreGapsInOrder, HasLemmas}
 use Rattle.time_bounds.specs.Numbered.{EachNumbered}
 use Rattle.time_bounds.specs.ProgramSearches.{searches_of_program}
-use Rattle.time_bounds.proofs.FoundIsAnalysis.{IsAnalysisWith}
+use Rattle.time_bounds.proofs.AnalysisOfFinds.{IsAnalysisWith}
 use Rattle.bound_rounds.proofs.SizesStand.{all_stand}
 use Rattle.time_bounds.proofs.OneProgram.{program_searches_one}
 use Rattle.time_bounds.proofs.RightSizings.{program_searches_right}
