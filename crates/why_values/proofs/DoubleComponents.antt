@@ -1,6 +1,6 @@
 -- The components of the program that doubles, within 10 pivots.
-use Rattle.std.proofs.Common.{◌≡◌, inl, inr, ℕ, zero, suc, ◌<◌, ◌≤◌, ◌↔◌, true, false, List, [], ◌∷◌, Some, refl, sym, subst}
-use Rattle.std.proofs.Common.{arith, All}
+use Rattle.std.proofs.Common.{◌≡◌, inl, inr, ℕ, zero, suc, ◌<◌, ◌≤◌, ◌↔◌, true, false, [], Some, refl, sym, subst}
+use Rattle.std.proofs.Common.{arith}
 use Rattle.std.proofs.lemmas.List.Elements.{All-nil, All-cons}
 use Rattle.model.specs.Paths.{Here, Onward}
 use Rattle.model.specs.Programs.{arity_of}

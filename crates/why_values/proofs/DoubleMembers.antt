@@ -1,5 +1,5 @@
 -- Which members the component of the place that doubles has, within 10 pivots: that place alone.
-use Rattle.std.proofs.Common.{◌≡◌, inl, inr, ℕ, zero, suc, true, false, List, [], ◌∷◌, map, refl, sym, ◌∙◌, subst, ap, All}
+use Rattle.std.proofs.Common.{◌≡◌, inl, inr, true, false, List, [], ◌∷◌, map, refl, sym, subst, ap, All}
 use Rattle.std.proofs.lemmas.List.Elements.{All-head}
 use Rattle.model.specs.Entries.{is_in}
 use Rattle.model.proofs.Membership.{no_is_not_yes}

@@ -32,7 +32,7 @@ use Rattle.time_bounds.specs.SizeWhys.{PlaceTripsSo}
 use Rattle.time_bounds.proofs.FreeValue.{of_rule}
 use Rattle.why_values.specs.Limits.{at_least, with_free, trip_by, LimitsAreWorkedOut}
 use Rattle.why_values.proofs.DoubleRuns.{asked_of}
-use Rattle.why_values.proofs.Runs.{whole_run, run_whole, tableau_after}
+use Rattle.why_values.proofs.Runs.{whole_run, run_whole}
 
 abbrev huge_rule : Rule
 huge_rule = rule_over 0 0 0 (Variable 0) (Compare (Variable 0) AtLeast (Literal (pos 2147483648)) ∷ [])

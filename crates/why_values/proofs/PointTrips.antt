@@ -1,5 +1,5 @@
 -- Trips of the linear program for a point where no function and no form is found.
-use Rattle.std.proofs.Common.{◌≡◌, inl, inr, ℕ, zero, suc, ◌≤◌, true, false, List, [], ◌∷◌, Some, None, refl, sym, subst, arith}
+use Rattle.std.proofs.Common.{◌≡◌, inl, inr, ℕ, zero, suc, ◌≤◌, true, false, List, [], ◌∷◌, None, refl, sym, subst, arith}
 use Rattle.std.specs.Prelude.{ℤ, pos, negsuc}
 use Rattle.model.specs.Bounds.{Input}
 use Rattle.model.specs.Entries.{is_in}
@@ -28,8 +28,8 @@ use Rattle.rank_search.specs.rule_questions.ProgramQuestions.{ranked_set}
 use Rattle.local_size.specs.LocalAnswers.{SideComesTo}
 use Rattle.local_size.specs.Places.{local_forms, value_on}
 use Rattle.local_size.specs.Sides.{NoneFound, ComesTo}
-use Rattle.bound_rounds.specs.Keys.{Bounds, IsPlace, is_untimed}
-use Rattle.bound_rounds.specs.Sets.{IsSetOfRule, IsShut, AreShutOf}
+use Rattle.bound_rounds.specs.Keys.{IsPlace, is_untimed}
+use Rattle.bound_rounds.specs.Sets.{IsSetOfRule, IsShut}
 use Rattle.bound_rounds.proofs.Cases.{either}
 use Rattle.bound_rounds.proofs.ListMembers.{contains-none}
 use Rattle.bound_rounds.proofs.OneOrder.{sets_one}

@@ -1,6 +1,5 @@
 -- Sizes that grow by a rule without a time, and times that are large, as it was worked out by hand: of k(A) -> l(A)
 -- with l(A) -> l(2 * A); of k(A) -> k(A); and of k(A) -> l(A) with l(A) -> l(A - 1) where A >= 1.
-use Rattle.std.specs.Prelude.{◌≡◌}
 use Rattle.outcome.specs.Reports.{TimeLarge, SizeUntimed}
 use Rattle.proof_tree.specs.proof_nodes.WorkedSettings.{counting, doubling}
 use Rattle.proof_tree.specs.proof_setting.WorkedGaps.{looping}
