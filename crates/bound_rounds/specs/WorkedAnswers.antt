@@ -29,11 +29,13 @@ pub record AnswersAreWorkedOut : Type 0 where
       (Found (RankBy once_node) (time_key 0 ∷ []) (Constant 1)))
   pub not_other_needs : ¬ (Composes counting nothing_known (RankBy once_node) once_time
       (Found (RankBy once_node) [] once_time))
-  pub not_lacking : (n : ℕ) → ¬ (Composes counting nothing_known (RankBy once_node) once_time (Lacks (OfTime (TimeLarge n))))
+  pub not_lacking : (n : ℕ)
+      → ¬ (Composes counting nothing_known (RankBy once_node) once_time (Lacks (OfTime (TimeLarge n))))
   pub large : Composes towering nothing_known (RankBy once_node) once_time (Lacks (OfTime (TimeLarge 201)))
   pub not_small : ¬ (Composes towering nothing_known (RankBy once_node) once_time
       (Found (RankBy once_node) (time_key 0 ∷ []) (towering.rewrite once_time)))
-  pub not_other_count : ¬ (Composes towering nothing_known (RankBy once_node) once_time (Lacks (OfTime (TimeLarge 200))))
+  pub not_other_count :
+      ¬ (Composes towering nothing_known (RankBy once_node) once_time (Lacks (OfTime (TimeLarge 200))))
   pub sized : TellsSizing counting once_known (SizedBy (SpreadBy entered_member))
       (Found (SpreadBy entered_member) (key 0 1 ∷ key 0 1 ∷ []) entered_size)
   pub not_sized_so : ¬ (TellsSizing counting once_known (SizedBy (SpreadBy entered_member))

@@ -29,7 +29,8 @@ origin den = record { parts = []; den = den }
 -- that doubles lacks the time of its rule, and one that squares is bent
 pub record RightCausesAreWorkedOut : Type 0 where
   pub not_its_own : ¬ (IsRightSizing counting entered_known (key 2 1 ∷ []) (Unsized (SizeMissing (key 2 1))))
-  pub loose : IsRightSizing guessing nothing_known (key 1 1 ∷ []) (Unsized (SizeLoose Up (pos 0 ∷ pos 1 ∷ []) (origin 1)))
+  pub loose :
+      IsRightSizing guessing nothing_known (key 1 1 ∷ []) (Unsized (SizeLoose Up (pos 0 ∷ pos 1 ∷ []) (origin 1)))
   pub not_low :
       ¬ (IsRightSizing guessing nothing_known (key 1 1 ∷ []) (Unsized (SizeLoose Low (pos 0 ∷ pos 1 ∷ []) (origin 1))))
   pub not_moving :

@@ -82,7 +82,8 @@ pub record FirstFindsAreWorkedOut : Type 0 where
       (unreached_find [] 2 ∷ never_find apart.program 2 ∷ never_find apart.program 2 ∷ []))
   pub last : IsLast (searches_of all_trips) apart two_finds
   pub reason : IsNoBound (searches_of all_trips) apart two_finds 1 0 (OfTime (TimeTripped (trip (asked.Rank 1))))
-  pub size_reason : IsNoBound (searches_of all_trips) apart two_finds 1 1 (OfSize (SizeTripped (trip (asked.Local 1 1))))
+  pub size_reason : IsNoBound (searches_of all_trips) apart two_finds 1 1
+      (OfSize (SizeTripped (trip (asked.Local 1 1))))
   pub four : AreFirst (searches_of cut_off) counting.program four_finds
   pub not_resting_on_nothing : ¬ (AreFirst (searches_of cut_off) counting.program
       (empty_find 1 [] ∷ unreached_find [] 2 ∷ never_find counting.program 1 ∷ never_find counting.program 2 ∷ []))

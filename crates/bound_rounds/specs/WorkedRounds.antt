@@ -146,10 +146,12 @@ pub record ReasonsAreWorkedOut : Type 0 where
       ((key 0 1 ∷ []) ∷ (key 1 1 ∷ []) ∷ (key 2 1 ∷ []) ∷ []))
   pub last : IsLast (searches_of nothing_ranks) counting []
   pub first_time : IsNoBound (searches_of nothing_ranks) counting [] 1 0 (OfTime (NoFunction (gap_over (1 ∷ []) 1 [])))
-  pub second_time : IsNoBound (searches_of nothing_ranks) counting [] 2 0 (OfTime (NoFunction (gap_over (1 ∷ 2 ∷ []) 2 [])))
+  pub second_time : IsNoBound (searches_of nothing_ranks) counting [] 2 0
+      (OfTime (NoFunction (gap_over (1 ∷ 2 ∷ []) 2 [])))
   pub first_size : IsNoBound (searches_of nothing_ranks) counting [] 1 1 (OfSize (SizeUntimed 1))
   pub second_size : IsNoBound (searches_of nothing_ranks) counting [] 2 1 (OfSize (SizeMissing (key 1 1)))
-  pub not_alone : ¬ (IsNoBound (searches_of nothing_ranks) counting [] 2 0 (OfTime (NoFunction (gap_over (2 ∷ []) 2 []))))
+  pub not_alone : ¬ (IsNoBound (searches_of nothing_ranks) counting [] 2 0
+      (OfTime (NoFunction (gap_over (2 ∷ []) 2 []))))
   pub not_large : ¬ (IsNoBound (searches_of nothing_ranks) counting [] 2 0 (OfTime (TimeLarge 5)))
   pub not_untimed : ¬ (IsNoBound (searches_of nothing_ranks) counting [] 2 1 (OfSize (SizeUntimed 1)))
   pub not_known : ¬ (IsNoBound (searches_of nothing_ranks) counting (once_find ∷ []) 1 0

@@ -125,7 +125,8 @@ AnswersMembers true s tab members answer = AnswersLoop s tab members answer
 
 -- what is answered of a component over a table: that a place of it is loose, or tripped; else the node that gives it a
 -- size, or the first check that fails
-pub record IsJudged (s : Setting) (tab : Table) (local : Locals) (spots : List Spot) (answer : SizeOutcome) : Type 0 where
+pub record IsJudged (s : Setting) (tab : Table) (local : Locals) (spots : List Spot) (answer : SizeOutcome)
+    : Type 0 where
   pub members : List Member
   pub are_members : AreMembers local spots members
   pub sizing : AnswersMembers (loops s local spots) s tab members answer

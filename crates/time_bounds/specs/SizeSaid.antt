@@ -70,7 +70,8 @@ CarriesIfThere n (Some e) = CarriesNumber n (size_stored e)
 
 -- the known sizes of a row carry the numbers of what is stored there
 pub record CarryRow (row : List (Option Stored)) (said : List (Option SizeEntry)) : Type 0 where
-  pub each : (i : ℕ) (e : SizeEntry) → entry_at said i ≡ Some e → CarriesNumber (lemma_stored (entry_at row i)) (size_stored e)
+  pub each : (i : ℕ) (e : SizeEntry) → entry_at said i ≡ Some e
+      → CarriesNumber (lemma_stored (entry_at row i)) (size_stored e)
 
 -- so do those of rows, place by place
 pub record CarryPlaces (tab : Table) (said : List (List (Option SizeEntry))) : Type 0 where

@@ -38,7 +38,8 @@ pub(crate) fn said_sizes(
     requires there { All AreThere (put_whys (said_table table.now) candidates.now attempts.now) }
     ensures sizes { IfOk result (λ rows. map (λ row. map (λ e. Some (size_of e)) row.items) rows.items
         ≡ put_whys (said_table table.now) candidates.now attempts.now) }
-    ensures carried { IfOk result (λ rows. EachNumbered (CarriesSizes (number_at table.now)) 0 (map (λ row. row.items) rows.items)) }
+    ensures carried { IfOk result (λ rows. EachNumbered (CarriesSizes (number_at table.now)) 0
+        (map (λ row. row.items) rows.items)) }
 {
     let mut entries = known_sizes(alloc, table)?;
     for (position, candidate) in candidates.iter().enumerate() {

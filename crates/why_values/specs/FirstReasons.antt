@@ -1,5 +1,5 @@
--- Which of several reasons is told of the place that doubles in k(A) -> l(A) with l(A) -> l(2 * A), as it was worked out
--- by hand.
+-- Which of several reasons is told of the place that doubles in k(A) -> l(A) with l(A) -> l(2 * A), as it was worked
+-- out by hand.
 use Rattle.std.specs.Prelude.{◌≡◌, ℕ, None}
 use Rattle.outcome.specs.Reports.{SizeMissing, SizeUntimed, SizeLarge}
 use Rattle.proof_tree.specs.proof_nodes.WorkedSettings.{doubling}
@@ -15,8 +15,8 @@ abbrev pub timed_tower_said : Bounds
 timed_tower_said = bounds_said doubling.program timed_tower_report
 
 -- while the size after the first rule is missing, that is told, and not the rule that doubles, whether that has a time
--- or not. Where that size has 201 levels, the rule is told while it has no time, and not how large the size is; and once
--- it has one that is told, with 415 nodes and not 414
+-- or not. Where that size has 201 levels, the rule is told while it has no time, and not how large the size is; and
+-- once it has one that is told, with 415 nodes and not 414
 pub record FirstReasonsAreWorkedOut : Type 0 where
   pub missing : (b : Bounds) → b 1 1 ≡ None → HasNoSize doubling.program 10 b 2 1 (SizeMissing (key 1 1))
   pub not_untimed : (b : Bounds) → b 1 1 ≡ None → ¬ (HasNoSize doubling.program 10 b 2 1 (SizeUntimed 2))

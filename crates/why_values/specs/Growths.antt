@@ -24,9 +24,9 @@ deep_said = bounds_said counting.program deep_report
 
 -- within 10 pivots 2 * A and -2 * A bound the doubled value and its negation, so the place after the second rule grows
 -- by it, which has no time; and not by the first rule, which has no time either but isn't in the loop, nor where the
--- second one has a time. The place after k(A) -> k(A) is in a loop, and the rule has no time, but nothing grows. Within 10 pivots the
--- function A ranks the rule that counts down, and the time that it composes of a size of 201 levels is large, with 208
--- nodes and not 207
+-- second one has a time. The place after k(A) -> k(A) is in a loop, and the rule has no time, but nothing
+-- grows. Within 10 pivots the function A ranks the rule that counts down, and the time that it composes of a size of
+-- 201 levels is large, with 208 nodes and not 207
 pub record GrowthsAreWorkedOut : Type 0 where
   pub untimed : HasNoSize doubling.program 10 growing_said 2 1 (SizeUntimed 2)
   pub other_rule : ¬ (HasNoSize doubling.program 10 untimed_said 2 1 (SizeUntimed 1))

@@ -31,7 +31,8 @@ resetting = program_with (resetting_rule ∷ falling_rule ∷ [])
 -- neither rule is told to have a time
 abbrev pub resetting_report : Report
 resetting_report = record {
-  times = Untimed (TimeTripped (tripped_at 2 (asked.Empty 1))) ∷ Untimed (TimeTripped (tripped_at 2 (asked.Empty 1))) ∷ [];
+  times = Untimed (TimeTripped (tripped_at 2 (asked.Empty 1)))
+      ∷ Untimed (TimeTripped (tripped_at 2 (asked.Empty 1))) ∷ [];
   total = None;
   sizes = (Unsized (SizeTripped (tripped_at 2 (asked.Empty 1))) ∷ [])
       ∷ (Unsized (SizeTripped (tripped_at 2 (asked.Empty 1))) ∷ []) ∷ [];
