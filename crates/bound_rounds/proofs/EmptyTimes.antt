@@ -1,5 +1,5 @@
 -- Empty rules have a time with all finds that rounds make.
-use Rattle.std.proofs.Common.{◌≡◌, ℕ, List, ◌++◌, filter, Some, ◌∙◌, ap}
+use Rattle.std.proofs.Common.{◌≡◌, ℕ, List, filter, Some, ◌∙◌, ap}
 use Rattle.rule_questions.specs.model.Bounds.{Constant}
 use Rattle.rule_questions.proofs.model.Membership.{is_in-filter}
 use Rattle.rule_questions.specs.proof_nodes.AcceptsPlain.{IsRule}

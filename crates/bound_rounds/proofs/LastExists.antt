@@ -18,8 +18,8 @@ use Rattle.bound_rounds.specs.Finds.{Node, RankBy, Find, bounds_of}
 use Rattle.bound_rounds.specs.Needs.{needs_of}
 use Rattle.bound_rounds.specs.Standing.{composed_bound}
 use Rattle.bound_rounds.specs.Searches.{Answers, searches_of, Emptiness, NoPoint, HasPoint, EmptyTripped, Ranking}
-use Rattle.bound_rounds.specs.Searches.{Ranked, Unranked, RankTripped, Sizing, SizedBy, Unsized, NoFunction, Tripped}
-use Rattle.bound_rounds.specs.Searches.{TooLarge}
+use Rattle.bound_rounds.specs.Searches.{Ranked, Unranked, RankTripped, SizeOutcome, SizedBy, Unsized, OfTime, OfSize}
+use Rattle.outcome.specs.Reports.{NoFunction, TimeTripped, TimeLarge}
 use Rattle.bound_rounds.specs.Answers.{Target, TimeOf, SizesOf, is_open, Answer, Found, Lacks, finds_by, Composes}
 use Rattle.bound_rounds.specs.Answers.{TellsRanking, TellsSizing, TellsTime, Tells}
 use Rattle.bound_rounds.specs.Components.{IsEmpty, AreComponentsOf}
@@ -38,7 +38,7 @@ composes : (s : Setting) (bs : Bounds) (node : Node) (whole : Bound) → (a : An
 composes s bs node whole = told (is_large whole) (λ e. none (λ h. no_is_not_yes (is_large whole) h.before e)) after
   where
     none : ¬ (IsSmallComposed s.rewrite whole) → (a : Answer) × Composes s bs node whole a
-    none large = (Lacks (TooLarge (large_nodes s.rewrite whole)), (large, refl))
+    none large = (Lacks (OfTime (TimeLarge (large_nodes s.rewrite whole))), (large, refl))
 
     after : is_large whole ≡ false → (a : Answer) × Composes s bs node whole a
     after e =
@@ -51,13 +51,13 @@ composes s bs node whole = told (is_large whole) (λ e. none (λ h. no_is_not_ye
 -- an answer to a rank question tells something
 ranking_tells : (s : Setting) (bs : Bounds) (answer : Ranking) → (a : Answer) × TellsRanking s bs answer a
 ranking_tells s bs (Ranked node) = composes s bs (RankBy node) (rank_time s node (over bs))
-ranking_tells s bs (Unranked g) = (Lacks (NoFunction g), refl)
-ranking_tells s bs (RankTripped t) = (Lacks (Tripped t), refl)
+ranking_tells s bs (Unranked g) = (Lacks (OfTime (NoFunction g)), refl)
+ranking_tells s bs (RankTripped t) = (Lacks (OfTime (TimeTripped t)), refl)
 
 -- and so does one about a component
-sizing_tells : (s : Setting) (bs : Bounds) (answer : Sizing) → (a : Answer) × TellsSizing s bs answer a
+sizing_tells : (s : Setting) (bs : Bounds) (answer : SizeOutcome) → (a : Answer) × TellsSizing s bs answer a
 sizing_tells s bs (SizedBy node) = (Found node (needs_of s bs node) (composed_bound s bs node), refl)
-sizing_tells s bs (Unsized why) = (Lacks why, refl)
+sizing_tells s bs (Unsized why) = (Lacks (OfSize why), refl)
 
 -- whether multipliers show a rule empty
 abbrev says_empty : Emptiness → Bool

@@ -1,5 +1,5 @@
 -- What a lemma rests on by the numbers of what it needs: it is accepted, and at each needed key it says what is known.
-use Rattle.std.proofs.Common.{◌≡◌, ◌≢◌, inl, inr, ℕ, zero, suc, true, List, [], ◌∷◌, map, Some, sym, ◌∙◌, subst}
+use Rattle.std.proofs.Common.{◌≡◌, ◌≢◌, inl, inr, ℕ, zero, suc, true, List, map, Some, sym, ◌∙◌, subst}
 use Rattle.std.proofs.Common.{All}
 use Rattle.std.specs.List.{Contains}
 use Rattle.rule_questions.specs.model.Bounds.{Bound}

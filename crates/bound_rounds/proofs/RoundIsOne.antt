@@ -8,7 +8,7 @@ use Rattle.rule_questions.specs.proof_nodes.AcceptsRank.{rank_time}
 use Rattle.bound_rounds.specs.Keys.{Bounds, over, rule_numbers}
 use Rattle.bound_rounds.specs.Finds.{Node, RankBy, Find, bounds_of}
 use Rattle.bound_rounds.specs.Sets.{AreShutOf}
-use Rattle.bound_rounds.specs.Searches.{Searches, Ranking, Ranked, Unranked, RankTripped, Sizing, SizedBy, Unsized}
+use Rattle.bound_rounds.specs.Searches.{Searches, Ranking, Ranked, Unranked, RankTripped, SizeOutcome, SizedBy, Unsized}
 use Rattle.bound_rounds.specs.Searches.{NoBound}
 use Rattle.bound_rounds.specs.Answers.{Target, TimeOf, SizesOf, is_open, Answer, Found, Lacks, finds_by, Composes}
 use Rattle.bound_rounds.specs.Answers.{TellsRanking, TellsSizing, TellsTime, TellsSize, Tells}
@@ -35,7 +35,7 @@ ranking_one s bs (Unranked g) x y h k = h ∙ sym k
 ranking_one s bs (RankTripped t) x y h k = h ∙ sym k
 
 -- and so does an answer about a component
-sizing_one : (s : Setting) (bs : Bounds) (answer : Sizing) (x y : Answer) → TellsSizing s bs answer x
+sizing_one : (s : Setting) (bs : Bounds) (answer : SizeOutcome) (x y : Answer) → TellsSizing s bs answer x
     → TellsSizing s bs answer y → x ≡ y
 sizing_one s bs (SizedBy node) x y h k = h ∙ sym k
 sizing_one s bs (Unsized why) x y h k = h ∙ sym k
@@ -57,7 +57,7 @@ module _ (q : Searches) (one : AreOne q) (s : Setting) where
       → x ≡ y
   size_one bs keys x y a b =
       let answer = one.sizes bs keys a.answer b.answer a.answered b.answered in
-      sizing_one s bs b.answer x y (subst (λ (r : Sizing). TellsSizing s bs r x) answer a.tells) b.tells
+      sizing_one s bs b.answer x y (subst (λ (r : SizeOutcome). TellsSizing s bs r x) answer a.tells) b.tells
 
   -- what is told of anything that is asked for is one
   pub tells_one : (bs : Bounds) (g : Target) (x y : Answer) → Tells q s bs g x → Tells q s bs g y → x ≡ y

@@ -9,7 +9,7 @@ use Rattle.bound_rounds.specs.Finds.{Node, EmptyBy, UnreachedBy, NeverBy, RankBy
 use Rattle.bound_rounds.specs.Finds.{keys_of}
 use Rattle.bound_rounds.specs.Needs.{needs_of}
 use Rattle.bound_rounds.specs.Standing.{composed_bound, Stands, StandAfter, AllStand}
-use Rattle.bound_rounds.specs.Searches.{Searches, searches_of, Sizing, SizedBy, Unsized}
+use Rattle.bound_rounds.specs.Searches.{Searches, searches_of, SizeOutcome, SizedBy, Unsized}
 use Rattle.bound_rounds.specs.Answers.{SizesOf, are_open, is_open, Answer, Found, Lacks, finds_by, TellsSizing}
 use Rattle.bound_rounds.specs.Answers.{TellsSize}
 use Rattle.bound_rounds.specs.Components.{IsOneOf, AreComponentsOf}
@@ -68,7 +68,7 @@ module _ (q : Searches) (s : Setting) (right : AreRight q s) where
       → TellsSize q s b keys a → All (Stands s b) (finds_by (SizesOf keys) a)
   size_stands b keys open_now a h = go h.answer h.answered h.tells
     where
-      go : (x : Sizing) → q.Sizes b keys x → TellsSizing s b x a → All (Stands s b) (finds_by (SizesOf keys) a)
+      go : (x : SizeOutcome) → q.Sizes b keys x → TellsSizing s b x a → All (Stands s b) (finds_by (SizesOf keys) a)
       go (SizedBy node) answered tells =
           let r = right.sizes b keys (SizedBy node) (open_long b keys open_now) answered in
           subst (λ (y : Answer). All (Stands s b) (finds_by (SizesOf keys) y)) (sym tells)

@@ -15,7 +15,8 @@ use Rattle.bound_rounds.specs.Keys.{Bounds, time_key, at_key, lacks, over, rule_
 use Rattle.bound_rounds.specs.Finds.{Node, RankBy, Find, bounds_of}
 use Rattle.bound_rounds.specs.Needs.{needs_of}
 use Rattle.bound_rounds.specs.Standing.{composed_bound, Stands, StandAfter}
-use Rattle.bound_rounds.specs.Searches.{Searches, Ranking, Ranked, Unranked, RankTripped, NoBound, NoFunction, Tripped}
+use Rattle.bound_rounds.specs.Searches.{Searches, Ranking, Ranked, Unranked, RankTripped, NoBound, OfTime}
+use Rattle.outcome.specs.Reports.{NoFunction, TimeTripped}
 use Rattle.bound_rounds.specs.Answers.{Target, TimeOf, is_open, Answer, Found, Lacks, finds_by, TellsRanking, TellsTime}
 use Rattle.bound_rounds.specs.Answers.{Tells}
 use Rattle.bound_rounds.specs.Rounds.{Tries, TriesAll, Together}
@@ -94,8 +95,8 @@ module _ (q : Searches) (s : Setting) (right : AreRight q s) (fs : List Find) wh
           (accepted_rank s (bounds_of s.program fs) begun t h.asked.set h.asked.shut node r h.asked.is_set
           h.asked.are_shut tells.0)
           tells.1 tells.2 tells.3
-      by (Unranked g) answered tells = absurd (not_both (NoFunction g) tells)
-      by (RankTripped x) answered tells = absurd (not_both (Tripped x) tells)
+      by (Unranked g) answered tells = absurd (not_both (OfTime (NoFunction g)) tells)
+      by (RankTripped x) answered tells = absurd (not_both (OfTime (TimeTripped x)) tells)
 
   -- so does what is found for rules
   times_stand : (ts : List ℕ) → ((t : ℕ) → is_in t ts ≡ true → IsRule s.program t) → (times : List Find)

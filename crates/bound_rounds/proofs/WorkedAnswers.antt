@@ -13,10 +13,11 @@ use Rattle.rule_questions.specs.proof_nodes.Reasons as reasons
 use Rattle.rule_questions.specs.proof_nodes.AcceptsSizes.{AcceptsUp, AcceptsLow, HasSizesBefore}
 use Rattle.rule_questions.specs.proof_nodes.WorkedSettings.{counting}
 use Rattle.rule_questions.specs.proof_nodes.Worked.{once_time, entered_member, entered_size, looped_member}
+use Rattle.outcome.specs.Reports.{NoSize, TimeLarge, SizeLoose, SizeTripped, SizeMissing, SizeBent, SizeUntimed}
+use Rattle.outcome.specs.Reports.{SizeLarge}
 use Rattle.bound_rounds.specs.Keys.{Bounds, key, time_key, has_key, over}
 use Rattle.bound_rounds.specs.Finds.{Node, EmptyBy, UnreachedBy, NeverBy, RankBy, SpreadBy, CycleBy, bounds_of}
-use Rattle.bound_rounds.specs.Searches.{Sizing, SizedBy, Unsized, NoBound, NoFunction, Tripped, Loose, Missing, Bent}
-use Rattle.bound_rounds.specs.Searches.{Untimed, TooLarge}
+use Rattle.bound_rounds.specs.Searches.{SizeOutcome, SizedBy, Unsized, OfTime, OfSize}
 use Rattle.bound_rounds.specs.Answers.{Found, Lacks}
 use Rattle.bound_rounds.specs.Right.{IsSizingOf, IsRightSizing, IsReasonFor, FailsTogether, IsFirstCause}
 use Rattle.bound_rounds.specs.Laws.{AreUniform}
@@ -52,14 +53,14 @@ answers_told = record {
     needs : [] ≡ time_key 0 ∷ [] → ⊥
     needs e = cc
 
-    counts : TooLarge 200 ≡ TooLarge 201 → ⊥
+    counts : OfTime (TimeLarge 200) ≡ OfTime (TimeLarge 201) → ⊥
     counts e = let n : ◌≡◌ {A = ℕ} 200 201 = cc in omega (arith, n)
 
     sizes : Found (SpreadBy entered_member) (key 0 1 ∷ key 0 1 ∷ []) (Constant 7)
         ≡ Found (SpreadBy entered_member) (key 0 1 ∷ key 0 1 ∷ []) entered_size → ⊥
     sizes e = cc
 
-    rules : Lacks (Untimed 2) ≡ Lacks (Untimed 1) → ⊥
+    rules : Lacks (OfSize (SizeUntimed 2)) ≡ Lacks (OfSize (SizeUntimed 1)) → ⊥
     rules e = let n : ◌≡◌ {A = ℕ} 2 1 = cc in omega (arith, n)
 
 -- of no places no node states the size
@@ -79,28 +80,27 @@ no_sizing b (CycleBy (m ∷ ms)) h = none h.same
     none e = cc
 
 -- and the checks of a loop without members fail at its shape, which is no reason
-no_shape : (why : NoBound) → IsReasonFor why Shape → ⊥
-no_shape (NoFunction g) h = h
-no_shape (Tripped t) h = h
-no_shape (Loose side ray kept) h = h
-no_shape (Missing m) h = other h
+no_shape : (why : NoSize) → IsReasonFor why Shape → ⊥
+no_shape (SizeTripped t) h = h
+no_shape (SizeLoose side ray kept) h = h
+no_shape (SizeMissing m) h = other h
   where
     other : Shape ≡ reasons.MissingSize m.rule m.place → ⊥
     other e = cc
-no_shape (Bent m) h = other h
+no_shape (SizeBent m) h = other h
   where
     other : Shape ≡ reasons.Bent m.rule m.place → ⊥
     other e = cc
-no_shape (Untimed t) h = other h
+no_shape (SizeUntimed t) h = other h
   where
     other : Shape ≡ reasons.MissingTime t → ⊥
     other e = cc
-no_shape (TooLarge n) h = other h
+no_shape (SizeLarge n) h = other h
   where
     other : Shape ≡ reasons.Large n → ⊥
     other e = cc
 
-no_cause : (b : Bounds) (why : NoBound) → IsFirstCause counting b [] why → ⊥
+no_cause : (b : Bounds) (why : NoSize) → IsFirstCause counting b [] why → ⊥
 no_cause b why (r, is, inl f) = none f.only
   where
     none : {x : Spot} {xs : List Spot} → [] ≡ x ∷ xs → ⊥
@@ -112,15 +112,14 @@ no_cause b why (r, is, inr f) = go f.all f.spots f.first
     go [] e (inr passes) = let some = passes.0.some in omega (arith, some)
     go (m ∷ ms) e first = let none : ⊥ = cc in none
 
-no_answer : (b : Bounds) (answer : Sizing) → IsRightSizing counting b [] answer → ⊥
+no_answer : (b : Bounds) (answer : SizeOutcome) → IsRightSizing counting b [] answer → ⊥
 no_answer b (SizedBy node) h = no_sizing b node h
-no_answer b (Unsized (NoFunction g)) h = h
-no_answer b (Unsized (Tripped t)) h = has_key-none h.0.rule h.0.place h.1
-no_answer b (Unsized (Loose side ray kept)) h = has_key-none h.0.rule h.0.place h.1
-no_answer b (Unsized (Missing m)) h = no_cause b (Missing m) h
-no_answer b (Unsized (Bent m)) h = no_cause b (Bent m) h
-no_answer b (Unsized (Untimed t)) h = no_cause b (Untimed t) h
-no_answer b (Unsized (TooLarge n)) h = no_cause b (TooLarge n) h
+no_answer b (Unsized (SizeTripped t)) h = has_key-none h.0.rule h.0.place h.1
+no_answer b (Unsized (SizeLoose side ray kept)) h = has_key-none h.0.rule h.0.place h.1
+no_answer b (Unsized (SizeMissing m)) h = no_cause b (SizeMissing m) h
+no_answer b (Unsized (SizeBent m)) h = no_cause b (SizeBent m) h
+no_answer b (Unsized (SizeUntimed t)) h = no_cause b (SizeUntimed t) h
+no_answer b (Unsized (SizeLarge n)) h = no_cause b (SizeLarge n) h
 
 abbrev rule_of_keys : List Spot → ℕ
 rule_of_keys [] = 0

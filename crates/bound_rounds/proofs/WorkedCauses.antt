@@ -25,7 +25,8 @@ use Rattle.rule_questions.specs.proof_nodes.Worked.{doubled, doubled_member}
 use Rattle.rule_questions.specs.proof_nodes.WorkedSizes.{squaring, bent_member}
 use Rattle.rule_questions.proofs.proof_nodes.WorkedSizes.{is_square_too, size_nodes}
 use Rattle.bound_rounds.specs.Keys.{Bounds, key, has_key, over}
-use Rattle.bound_rounds.specs.Searches.{Unsized, Loose, Missing}
+use Rattle.bound_rounds.specs.Searches.{Unsized}
+use Rattle.outcome.specs.Reports.{SizeLoose, SizeMissing}
 use Rattle.bound_rounds.specs.Loops.{do_loop}
 use Rattle.bound_rounds.specs.Right.{IsLooseAt, IsRightSizing, FailsTogether}
 use Rattle.bound_rounds.specs.WorkedSets.{nothing_known, entered_known}
@@ -184,7 +185,7 @@ own_together (m ∷ []) spots first =
     (subst (λ (k : Spot). Fails (cycle_checks counting (over entered_known)
     (record { spot = k; local = m.local } ∷ []))) (sym spot) first)
 
-its_own : IsRightSizing counting entered_known (key 2 1 ∷ []) (Unsized (Missing (key 2 1))) → ⊥
+its_own : IsRightSizing counting entered_known (key 2 1 ∷ []) (Unsized (SizeMissing (key 2 1))) → ⊥
 its_own (r, is, inl f) =
     own_alone f.member f.only f.alone
     (subst (λ (x : Reason). IsFirstAmong (spread_checks counting (over entered_known) f.member) x) is f.first)
@@ -215,7 +216,7 @@ of_only P k t i m h =
     either (has_key-cases k [] t i m) (λ e. subst P (sym e) h) (λ n. absurd (has_key-none t i n))
 
 loose_at : (side : Side) (ray : List ℤ) (kept : ScaledPoint)
-    → IsRightSizing guessing nothing_known (key 1 1 ∷ []) (Unsized (Loose side ray kept))
+    → IsRightSizing guessing nothing_known (key 1 1 ∷ []) (Unsized (SizeLoose side ray kept))
     → IsLooseAt guessing (key 1 1) side ray kept
 loose_at side ray kept h =
     of_only (λ (k : Spot). IsLooseAt guessing k side ray kept) (key 1 1) h.0.rule h.0.place h.1 h.2

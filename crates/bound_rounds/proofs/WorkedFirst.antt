@@ -12,8 +12,8 @@ use Rattle.rule_questions.specs.proof_nodes.WorkedSettings.{apart, counting, cou
 use Rattle.rule_questions.specs.proof_tree.declared.answer.Question.TheVariants as asked
 use Rattle.bound_rounds.specs.Keys.{Bounds, IsPlace, key, time_key, has_key}
 use Rattle.bound_rounds.specs.Finds.{Find, bounds_of}
-use Rattle.bound_rounds.specs.Searches.{Searches, searches_of, NoPoint, HasPoint, RankTripped, Unsized}
-use Rattle.bound_rounds.specs.Searches.{Tripped}
+use Rattle.bound_rounds.specs.Searches.{Searches, searches_of, NoPoint, HasPoint, RankTripped, Unsized, OfTime, OfSize}
+use Rattle.outcome.specs.Reports.{TimeTripped, SizeTripped}
 use Rattle.bound_rounds.specs.Answers.{TimeOf, SizesOf, Lacks, TellsTime, TellsSize}
 use Rattle.bound_rounds.specs.Components.{IsEmpty, IsDead, AreSpotsAscending, IsCovered, AreComponentsOf}
 use Rattle.bound_rounds.specs.Beginning.{empty_find, unreached_find, never_find, AreFirst}
@@ -109,7 +109,7 @@ abbrev two_known : Bounds
 two_known = bounds_of apart.program two_finds
 
 -- the rank question of rule 1 trips, whatever its set, and so does the size after it
-time_tells : TellsTime by_trips apart two_known 1 (Lacks (Tripped (trip (asked.Rank 1))))
+time_tells : TellsTime by_trips apart two_known 1 (Lacks (OfTime (TimeTripped (trip (asked.Rank 1)))))
 time_tells =
     let set = set_there apart.program two_known (Constant 1, refl) 1 rule_1 in
     let shut = shut_there apart.program two_known set.0 in
@@ -125,15 +125,15 @@ time_tells =
       tells = refl;
     }
 
-size_tells : TellsSize by_trips apart two_known (key 1 1 ∷ []) (Lacks (Tripped (trip (asked.Local 1 1))))
-size_tells = record { answer = Unsized (Tripped (trip (asked.Local 1 1))); answered = refl; tells = refl }
+size_tells : TellsSize by_trips apart two_known (key 1 1 ∷ []) (Lacks (OfSize (SizeTripped (trip (asked.Local 1 1)))))
+size_tells = record { answer = Unsized (SizeTripped (trip (asked.Local 1 1))); answered = refl; tells = refl }
 
 closed : IsClosed by_trips apart two_finds
 closed = record {
   times = [];
   timed = (
     [],
-    tells_tries by_trips apart two_finds (TimeOf 1) (Lacks (Tripped (trip (asked.Rank 1)))) refl time_tells,
+    tells_tries by_trips apart two_finds (TimeOf 1) (Lacks (OfTime (TimeTripped (trip (asked.Rank 1))))) refl time_tells,
     ([], refl, ([], known_tries by_trips apart two_finds (TimeOf 2) refl, ([], refl, refl))),
   );
   components = (key 1 1 ∷ []) ∷ [];
@@ -142,7 +142,7 @@ closed = record {
   sizes = [];
   sized = (
     [],
-    tells_tries by_trips apart two_finds (SizesOf (key 1 1 ∷ [])) (Lacks (Tripped (trip (asked.Local 1 1)))) refl
+    tells_tries by_trips apart two_finds (SizesOf (key 1 1 ∷ [])) (Lacks (OfSize (SizeTripped (trip (asked.Local 1 1))))) refl
         size_tells,
     ([], refl, refl),
   );

@@ -13,8 +13,8 @@ use Rattle.bound_rounds.specs.Keys.{key, time_key, has_key}
 use Rattle.bound_rounds.specs.Finds.{RankBy, SpreadBy, CycleBy, Find, bounds_of}
 use Rattle.bound_rounds.specs.Needs.{needs_of}
 use Rattle.bound_rounds.specs.Standing.{composed_bound}
-use Rattle.bound_rounds.specs.Searches.{Searches, searches_of, NoPoint, Ranked, RankTripped, SizedBy, Unsized, Missing}
-use Rattle.bound_rounds.specs.Searches.{Tripped, TooLarge}
+use Rattle.bound_rounds.specs.Searches.{Searches, searches_of, NoPoint, Ranked, RankTripped, SizedBy, Unsized, OfTime, OfSize}
+use Rattle.outcome.specs.Reports.{TimeTripped, TimeLarge, SizeMissing}
 use Rattle.bound_rounds.specs.Answers.{TimeOf, SizesOf, Found, Lacks, TellsTime}
 use Rattle.bound_rounds.specs.Components.{AreSpotsAscending, IsCovered, AreComponentsOf}
 use Rattle.bound_rounds.specs.Rounds.{IsRound, IsClosed, Begun, Made}
@@ -88,8 +88,8 @@ first_round = record {
   sized = (
     [],
     tells_tries by_turned counting (first_time ∷ second_time ∷ []) (SizesOf (key 2 1 ∷ []))
-        (Lacks (Missing (key 1 1))) refl
-        (record { answer = Unsized (Missing (key 1 1)); answered = refl; tells = refl }),
+        (Lacks (OfSize (SizeMissing (key 1 1)))) refl
+        (record { answer = Unsized (SizeMissing (key 1 1)); answered = refl; tells = refl }),
     (
       entered_find ∷ [],
       refl,
@@ -149,7 +149,7 @@ closed = record {
 
 -- a time whose bound is 201 levels deep
 large_tells : TellsTime (searches_of (answers_with once_ranks alone)) towering (bounds_of towering.program []) 1
-    (Lacks (TooLarge 201))
+    (Lacks (OfTime (TimeLarge 201)))
 large_tells =
     let set = set_there towering.program (bounds_of towering.program []) (Constant 1, refl) 1 parts.rule_1 in
     let shut = shut_there towering.program (bounds_of towering.program []) set.0 in
@@ -199,7 +199,7 @@ both_live = record {
 
 -- rank questions trip, whatever their sets
 trips : (t : ℕ) → IsRule counting.program t
-    → TellsTime by_both counting nothing_known t (Lacks (Tripped (trip (asked.Rank t))))
+    → TellsTime by_both counting nothing_known t (Lacks (OfTime (TimeTripped (trip (asked.Rank t)))))
 trips t rule =
     let set = set_there counting.program nothing_known (Constant 1, refl) t rule in
     let shut = shut_there counting.program nothing_known set.0 in
@@ -220,13 +220,13 @@ both = record {
   times = [];
   timed = (
     [],
-    tells_tries by_both counting [] (TimeOf 1) (Lacks (Tripped (trip (asked.Rank 1)))) refl (trips 1 parts.rule_1),
+    tells_tries by_both counting [] (TimeOf 1) (Lacks (OfTime (TimeTripped (trip (asked.Rank 1))))) refl (trips 1 parts.rule_1),
     (
       [],
       refl,
       (
         [],
-        tells_tries by_both counting [] (TimeOf 2) (Lacks (Tripped (trip (asked.Rank 2)))) refl
+        tells_tries by_both counting [] (TimeOf 2) (Lacks (OfTime (TimeTripped (trip (asked.Rank 2))))) refl
             (trips 2 parts.rule_2),
         ([], refl, refl),
       ),

@@ -5,7 +5,8 @@ use Rattle.rule_questions.specs.proof_nodes.WorkedSettings.{counting}
 use Rattle.rule_questions.specs.proof_nodes.Worked.{entered_size, entered_member, looped_member}
 use Rattle.bound_rounds.specs.Keys.{key, time_key}
 use Rattle.bound_rounds.specs.Finds.{RankBy, SpreadBy, CycleBy, Find, bounds_of}
-use Rattle.bound_rounds.specs.Searches.{Searches, searches_of, SizedBy, Unsized, NoFunction, Missing}
+use Rattle.bound_rounds.specs.Searches.{Searches, searches_of, SizedBy, Unsized, OfTime, OfSize}
+use Rattle.outcome.specs.Reports.{NoFunction, SizeMissing}
 use Rattle.bound_rounds.specs.Answers.{TimeOf, SizesOf, Answer, Found, Lacks, TellsTime}
 use Rattle.bound_rounds.specs.Rounds.{TriesAll, Together, IsRound}
 use Rattle.bound_rounds.specs.WorkedFinds.{once_find, entered_find, looped_find, alone_time}
@@ -29,7 +30,7 @@ by_open cs = searches_of (answers_with ranks_open cs)
 
 -- rule 2 alone isn't ranked while its place is shut
 abbrev shut_answer : Answer
-shut_answer = Lacks (NoFunction (gap_over (2 ∷ []) 2 (place 1 1 ∷ [])))
+shut_answer = Lacks (OfTime (NoFunction (gap_over (2 ∷ []) 2 (place 1 1 ∷ []))))
 
 shut_tells : (cs : List (List Spot)) → TellsTime (by_open cs) counting once_known 2 shut_answer
 shut_tells cs =
@@ -91,8 +92,8 @@ in_turn = record {
   sizes = entered_find ∷ [];
   sized = (
     [],
-    tells_tries by_turned counting (once_find ∷ []) (SizesOf (key 2 1 ∷ [])) (Lacks (Missing (key 1 1))) refl
-        (record { answer = Unsized (Missing (key 1 1)); answered = refl; tells = refl }),
+    tells_tries by_turned counting (once_find ∷ []) (SizesOf (key 2 1 ∷ [])) (Lacks (OfSize (SizeMissing (key 1 1)))) refl
+        (record { answer = Unsized (SizeMissing (key 1 1)); answered = refl; tells = refl }),
     (
       entered_find ∷ [],
       refl,

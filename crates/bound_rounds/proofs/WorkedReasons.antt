@@ -6,7 +6,8 @@ use Rattle.rule_questions.specs.proof_nodes.Nodes.{Spot}
 use Rattle.rule_questions.specs.proof_nodes.WorkedSettings.{counting}
 use Rattle.rule_questions.specs.proof_nodes.Worked.{once_time}
 use Rattle.bound_rounds.specs.Keys.{key}
-use Rattle.bound_rounds.specs.Searches.{Searches, searches_of, Unsized, NoBound, NoFunction, Missing, Untimed, TooLarge}
+use Rattle.bound_rounds.specs.Searches.{Searches, searches_of, Unsized, NoBound, OfTime, OfSize}
+use Rattle.outcome.specs.Reports.{NoFunction, TimeLarge, SizeMissing, SizeUntimed}
 use Rattle.bound_rounds.specs.Answers.{Target, TimeOf, SizesOf, Lacks, TellsTime, TellsSize}
 use Rattle.bound_rounds.specs.Components.{IsOneOf}
 use Rattle.bound_rounds.specs.Rounds.{IsClosed, Begun, IsAskedFor, IsNoBound}
@@ -23,37 +24,37 @@ abbrev by_none : Searches
 by_none = searches_of nothing_ranks
 
 -- each rule is asked over its set, and none ranks it
-first_tells : TellsTime by_none counting nothing_known 1 (Lacks (NoFunction (gap_over (1 ∷ []) 1 [])))
+first_tells : TellsTime by_none counting nothing_known 1 (Lacks (OfTime (NoFunction (gap_over (1 ∷ []) 1 []))))
 first_tells =
     told_time never_ranks alone nothing_known 1 (1 ∷ []) [] first_set
     (open_places nothing_known (1 ∷ []) (none_shut_first nothing_known refl))
-    (Lacks (NoFunction (gap_over (1 ∷ []) 1 []))) refl
+    (Lacks (OfTime (NoFunction (gap_over (1 ∷ []) 1 [])))) refl
 
-second_tells : TellsTime by_none counting nothing_known 2 (Lacks (NoFunction (gap_over (1 ∷ 2 ∷ []) 2 [])))
+second_tells : TellsTime by_none counting nothing_known 2 (Lacks (OfTime (NoFunction (gap_over (1 ∷ 2 ∷ []) 2 []))))
 second_tells =
     told_time never_ranks alone nothing_known 2 (1 ∷ 2 ∷ []) [] second_set
     (open_places nothing_known (1 ∷ 2 ∷ []) (none_shut nothing_known refl))
-    (Lacks (NoFunction (gap_over (1 ∷ 2 ∷ []) 2 []))) refl
+    (Lacks (OfTime (NoFunction (gap_over (1 ∷ 2 ∷ []) 2 [])))) refl
 
 -- and neither size is found
-first_size_tells : TellsSize by_none counting nothing_known (key 1 1 ∷ []) (Lacks (Untimed 1))
-first_size_tells = record { answer = Unsized (Untimed 1); answered = refl; tells = refl }
+first_size_tells : TellsSize by_none counting nothing_known (key 1 1 ∷ []) (Lacks (OfSize (SizeUntimed 1)))
+first_size_tells = record { answer = Unsized (SizeUntimed 1); answered = refl; tells = refl }
 
-second_size_tells : TellsSize by_none counting nothing_known (key 2 1 ∷ []) (Lacks (Missing (key 1 1)))
-second_size_tells = record { answer = Unsized (Missing (key 1 1)); answered = refl; tells = refl }
+second_size_tells : TellsSize by_none counting nothing_known (key 2 1 ∷ []) (Lacks (OfSize (SizeMissing (key 1 1))))
+second_size_tells = record { answer = Unsized (SizeMissing (key 1 1)); answered = refl; tells = refl }
 
 closed : IsClosed by_none counting []
 closed = record {
   times = [];
   timed = (
     [],
-    tells_tries by_none counting [] (TimeOf 1) (Lacks (NoFunction (gap_over (1 ∷ []) 1 []))) refl first_tells,
+    tells_tries by_none counting [] (TimeOf 1) (Lacks (OfTime (NoFunction (gap_over (1 ∷ []) 1 [])))) refl first_tells,
     (
       [],
       refl,
       (
         [],
-        tells_tries by_none counting [] (TimeOf 2) (Lacks (NoFunction (gap_over (1 ∷ 2 ∷ []) 2 []))) refl
+        tells_tries by_none counting [] (TimeOf 2) (Lacks (OfTime (NoFunction (gap_over (1 ∷ 2 ∷ []) 2 [])))) refl
             second_tells,
         ([], refl, refl),
       ),
@@ -65,13 +66,13 @@ closed = record {
   sizes = [];
   sized = (
     [],
-    tells_tries by_none counting [] (SizesOf (key 1 1 ∷ [])) (Lacks (Untimed 1)) refl first_size_tells,
+    tells_tries by_none counting [] (SizesOf (key 1 1 ∷ [])) (Lacks (OfSize (SizeUntimed 1))) refl first_size_tells,
     (
       [],
       refl,
       (
         [],
-        tells_tries by_none counting [] (SizesOf (key 2 1 ∷ [])) (Lacks (Missing (key 1 1))) refl second_size_tells,
+        tells_tries by_none counting [] (SizesOf (key 2 1 ∷ [])) (Lacks (OfSize (SizeMissing (key 1 1)))) refl second_size_tells,
         ([], refl, refl),
       ),
     ),
@@ -79,10 +80,10 @@ closed = record {
   all = refl;
 }
 
-second_time : IsNoBound by_none counting [] 2 0 (NoFunction (gap_over (1 ∷ 2 ∷ []) 2 []))
+second_time : IsNoBound by_none counting [] 2 0 (OfTime (NoFunction (gap_over (1 ∷ 2 ∷ []) 2 [])))
 second_time = record { missing = refl; target = TimeOf 2; asked = (parts.rule_2, refl); tells = second_tells }
 
-second_size : IsNoBound by_none counting [] 2 1 (Missing (key 1 1))
+second_size : IsNoBound by_none counting [] 2 1 (OfSize (SizeMissing (key 1 1)))
 second_size = record {
   missing = refl;
   target = SizesOf (key 2 1 ∷ []);
@@ -97,17 +98,18 @@ one_reason t i v w h k =
     reason_one by_none (answers_one nothing_ranks) counting alone refl (parts.components never_ranks alone).apart [] t i
     v w h k
 
-gaps_differ : NoFunction (gap_over (2 ∷ []) 2 []) ≡ NoFunction (gap_over (1 ∷ 2 ∷ []) 2 []) → ⊥
+gaps_differ : OfTime (NoFunction (gap_over (2 ∷ []) 2 []))
+    ≡ OfTime (NoFunction (gap_over (1 ∷ 2 ∷ []) 2 [])) → ⊥
 gaps_differ e =
     let gaps : gap_over (2 ∷ []) 2 [] ≡ gap_over (1 ∷ 2 ∷ []) 2 [] = cc in
     let sets : ◌≡◌ {A = List ℕ} (2 ∷ []) (1 ∷ 2 ∷ []) = ap (λ (g : Gap). g.set) gaps in
     let firsts : ◌≡◌ {A = ℕ} 2 1 = cc in
     omega (arith, firsts)
 
-kinds_differ : TooLarge 5 ≡ NoFunction (gap_over (1 ∷ 2 ∷ []) 2 []) → ⊥
+kinds_differ : OfTime (TimeLarge 5) ≡ OfTime (NoFunction (gap_over (1 ∷ 2 ∷ []) 2 [])) → ⊥
 kinds_differ e = cc
 
-causes_differ : Untimed 1 ≡ Missing (key 1 1) → ⊥
+causes_differ : OfSize (SizeUntimed 1) ≡ OfSize (SizeMissing (key 1 1)) → ⊥
 causes_differ e = cc
 
 -- what is no place has no reason
@@ -138,10 +140,10 @@ reasons_told = record {
     tells = first_size_tells;
   };
   second_size = second_size;
-  not_alone = λ h. gaps_differ (one_reason 2 0 (NoFunction (gap_over (2 ∷ []) 2 []))
-      (NoFunction (gap_over (1 ∷ 2 ∷ []) 2 [])) h second_time);
-  not_large = λ h. kinds_differ (one_reason 2 0 (TooLarge 5) (NoFunction (gap_over (1 ∷ 2 ∷ []) 2 [])) h second_time);
-  not_untimed = λ h. causes_differ (one_reason 2 1 (Untimed 1) (Missing (key 1 1)) h second_size);
+  not_alone = λ h. gaps_differ (one_reason 2 0 (OfTime (NoFunction (gap_over (2 ∷ []) 2 [])))
+      (OfTime (NoFunction (gap_over (1 ∷ 2 ∷ []) 2 []))) h second_time);
+  not_large = λ h. kinds_differ (one_reason 2 0 (OfTime (TimeLarge 5)) (OfTime (NoFunction (gap_over (1 ∷ 2 ∷ []) 2 []))) h second_time);
+  not_untimed = λ h. causes_differ (one_reason 2 1 (OfSize (SizeUntimed 1)) (OfSize (SizeMissing (key 1 1))) h second_size);
   not_known = λ h. some_none once_time h.missing;
-  not_elsewhere = no_place (Missing (key 1 1));
+  not_elsewhere = no_place (OfSize (SizeMissing (key 1 1)));
 }

@@ -18,7 +18,7 @@ use Rattle.rule_questions.specs.proof_tree.declared.answer.Question.TheVariants 
 use Rattle.rule_questions.proofs.proof_nodes.WorkedAccepted.{alone_accepted}
 use Rattle.bound_rounds.specs.Keys.{Bounds}
 use Rattle.bound_rounds.specs.Searches.{searches_of, Emptiness, NoPoint, HasPoint, EmptyTripped, Ranking, RankTripped}
-use Rattle.bound_rounds.specs.Searches.{Sizing}
+use Rattle.bound_rounds.specs.Searches.{SizeOutcome}
 use Rattle.bound_rounds.specs.Components.{AreComponentsOf}
 use Rattle.bound_rounds.specs.Right.{ReadsNoShut, EmptyTrips, IsFirstTrip}
 use Rattle.bound_rounds.specs.Right.{AreRight, IsRightEmptiness, IsRightRanking, IsRightSizing, IsQuestion}
@@ -53,11 +53,11 @@ right = record { empty = empty; rank = rank; components = parts; sizes = sizes }
         subst (λ (ds : List (List Spot)). AreComponentsOf (searches_of all_trips) apart.program ds) same
         (components (λ t. t))
 
-    sizes : (b : Bounds) (keys : List Spot) (answer : Sizing) → 1 ≤ length keys → all_trips.size b keys ≡ answer
+    sizes : (b : Bounds) (keys : List Spot) (answer : SizeOutcome) → 1 ≤ length keys → all_trips.size b keys ≡ answer
         → IsRightSizing apart b keys answer
     sizes b [] answer some same = absurd (omega (arith, some))
     sizes b (m ∷ keys) answer some same =
-        subst (λ (x : Sizing). IsRightSizing apart b (m ∷ keys) x) same (m, has_key-first m keys, inl refl)
+        subst (λ (x : SizeOutcome). IsRightSizing apart b (m ∷ keys) x) same (m, has_key-first m keys, inl refl)
 
 -- a trip of another rule isn't right
 not_another : AreRight (searches_of (trips_as suc)) apart → ⊥

@@ -12,8 +12,9 @@ use Rattle.bound_rounds.specs.Finds.{Node, RankBy, Find}
 use Rattle.bound_rounds.specs.Needs.{needs_of}
 use Rattle.bound_rounds.specs.Standing.{composed_bound}
 use Rattle.bound_rounds.specs.Sets.{IsSetOfRule, AreShutOf}
-use Rattle.bound_rounds.specs.Searches.{Searches, Ranking, Ranked, Unranked, RankTripped, Sizing, SizedBy, Unsized}
-use Rattle.bound_rounds.specs.Searches.{NoBound, NoFunction, Tripped, TooLarge}
+use Rattle.bound_rounds.specs.Searches.{Searches, Ranking, Ranked, Unranked, RankTripped, SizeOutcome, SizedBy, Unsized}
+use Rattle.bound_rounds.specs.Searches.{NoBound, OfTime, OfSize}
+use Rattle.outcome.specs.Reports.{NoFunction, TimeTripped, TimeLarge}
 
 -- what is asked for: the time of a rule, or one size for all these places
 pub data Target : Type 0 where
@@ -50,18 +51,18 @@ abbrev pub Composes : Setting → Bounds → Node → Bound → Answer → Type 
 Composes s b node whole (Found n needs bound) = IsSmallComposed s.rewrite whole × (n ≡ node)
     × (needs ≡ needs_of s b node) × (bound ≡ s.rewrite whole)
 Composes s b node whole (Lacks why) = (¬ (IsSmallComposed s.rewrite whole))
-    × (why ≡ TooLarge (large_nodes s.rewrite whole))
+    × (why ≡ OfTime (TimeLarge (large_nodes s.rewrite whole)))
 
 -- what the answer to a rank question tells
 abbrev pub TellsRanking : Setting → Bounds → Ranking → Answer → Type 0
 TellsRanking s b (Ranked node) a = Composes s b (RankBy node) (rank_time s node (over b)) a
-TellsRanking s b (Unranked g) a = a ≡ Lacks (NoFunction g)
-TellsRanking s b (RankTripped t) a = a ≡ Lacks (Tripped t)
+TellsRanking s b (Unranked g) a = a ≡ Lacks (OfTime (NoFunction g))
+TellsRanking s b (RankTripped t) a = a ≡ Lacks (OfTime (TimeTripped t))
 
 -- and what that for a component tells
-abbrev pub TellsSizing : Setting → Bounds → Sizing → Answer → Type 0
+abbrev pub TellsSizing : Setting → Bounds → SizeOutcome → Answer → Type 0
 TellsSizing s b (SizedBy node) a = a ≡ Found node (needs_of s b node) (composed_bound s b node)
-TellsSizing s b (Unsized why) a = a ≡ Lacks why
+TellsSizing s b (Unsized why) a = a ≡ Lacks (OfSize why)
 
 -- the rank question of rule t over bounds, and its answer
 pub record AnsweredQuestion (q : Searches) (s : Setting) (b : Bounds) (t : ℕ) : Type 0 where
@@ -79,7 +80,7 @@ pub record TellsTime (q : Searches) (s : Setting) (b : Bounds) (t : ℕ) (a : An
 
 -- places were asked over bounds, and this is what the answer tells of their size
 pub record TellsSize (q : Searches) (s : Setting) (b : Bounds) (keys : List Spot) (a : Answer) : Type 0 where
-  pub answer : Sizing
+  pub answer : SizeOutcome
   pub answered : q.Sizes b keys answer
   pub tells : TellsSizing s b answer a
 

@@ -21,11 +21,12 @@ use Rattle.rule_questions.specs.proof_tree.declared.answer.Question.TheVariants 
 use Rattle.rule_questions.specs.proof_nodes.Gaps.{ScaledPoint, SymbolPlace, Gap, is_shut}
 use Rattle.rule_questions.specs.proof_nodes.GapChecks.{GapHolds}
 use Rattle.rule_questions.specs.ProgramQuestions.{forms_at, ranked_set}
+use Rattle.outcome.specs.Reports.{NoSize, SizeLoose, SizeTripped, SizeMissing, SizeBent, SizeUntimed, SizeLarge}
 use Rattle.bound_rounds.specs.Keys.{Bounds, has_key, over}
 use Rattle.bound_rounds.specs.Finds.{Node, EmptyBy, UnreachedBy, NeverBy, RankBy, SpreadBy, CycleBy, keys_of}
-use Rattle.bound_rounds.specs.Searches.{Searches, NoBound, NoFunction, Tripped, Loose, Missing, Bent, Untimed, TooLarge}
+use Rattle.bound_rounds.specs.Searches.{Searches}
 use Rattle.bound_rounds.specs.Searches.{Emptiness, NoPoint, HasPoint, EmptyTripped, Ranking, Ranked, Unranked}
-use Rattle.bound_rounds.specs.Searches.{RankTripped, Sizing, SizedBy, Unsized}
+use Rattle.bound_rounds.specs.Searches.{RankTripped, SizeOutcome, SizedBy, Unsized}
 use Rattle.bound_rounds.specs.Components.{AreComponentsOf}
 use Rattle.bound_rounds.specs.Loops.{do_loop}
 
@@ -115,14 +116,13 @@ pub record IsLooseAt (s : Setting) (m : Spot) (side : Side) (ray : List ℤ) (ke
   pub point : IsPoint (s.rows m.rule) (at kept.parts) (pos kept.den)
 
 -- the reason for which the checks of a node say that there is no size
-abbrev pub IsReasonFor : NoBound → Reason → Type 0
-IsReasonFor (NoFunction g) r = ⊥
-IsReasonFor (Tripped t) r = ⊥
-IsReasonFor (Loose side ray kept) r = ⊥
-IsReasonFor (Missing m) r = r ≡ MissingSize m.rule m.place
-IsReasonFor (Bent m) r = r ≡ reasons.Bent m.rule m.place
-IsReasonFor (Untimed t) r = r ≡ MissingTime t
-IsReasonFor (TooLarge n) r = r ≡ Large n
+abbrev pub IsReasonFor : NoSize → Reason → Type 0
+IsReasonFor (SizeTripped t) r = ⊥
+IsReasonFor (SizeLoose side ray kept) r = ⊥
+IsReasonFor (SizeMissing m) r = r ≡ MissingSize m.rule m.place
+IsReasonFor (SizeBent m) r = r ≡ reasons.Bent m.rule m.place
+IsReasonFor (SizeUntimed t) r = r ≡ MissingTime t
+IsReasonFor (SizeLarge n) r = r ≡ Large n
 
 -- the node of the only member, which doesn't loop, fails at this check first, and so does the node of all, which do
 pub record FailsAlone (s : Setting) (b : Bounds) (keys : List Spot) (r : Reason) : Type 0 where
@@ -139,25 +139,24 @@ pub record FailsTogether (s : Setting) (b : Bounds) (keys : List Spot) (r : Reas
 
 -- with arms for each member that are accepted the checks of the node go wrong, and this is the first of them: a size
 -- from outside is missing, an arm reads a member by a polynomial, a rule has no time, or the bound is large
-abbrev pub IsFirstCause : Setting → Bounds → List Spot → NoBound → Type 0
+abbrev pub IsFirstCause : Setting → Bounds → List Spot → NoSize → Type 0
 IsFirstCause s b keys why =
     (r : Reason) × IsReasonFor why r × (FailsAlone s b keys r ⊎ FailsTogether s b keys r)
 
 -- why members have no size: the place of one of them is loose, as a ray shows, or one of its linear programs, or that
 -- of its rule's emptiness, tripped; or the first cause; which of them comes first the searches say
-abbrev pub IsCause : Setting → Bounds → List Spot → NoBound → Type 0
-IsCause s b keys (NoFunction g) = ⊥
-IsCause s b keys (Tripped t) = (m : Spot) × (has_key keys m.rule m.place ≡ true)
+abbrev pub IsCause : Setting → Bounds → List Spot → NoSize → Type 0
+IsCause s b keys (SizeTripped t) = (m : Spot) × (has_key keys m.rule m.place ≡ true)
     × ((t.question ≡ asked.Local m.rule m.place) ⊎ (t.question ≡ asked.Empty m.rule))
-IsCause s b keys (Loose side ray kept) =
+IsCause s b keys (SizeLoose side ray kept) =
     (m : Spot) × (has_key keys m.rule m.place ≡ true) × IsLooseAt s m side ray kept
-IsCause s b keys (Missing m) = IsFirstCause s b keys (Missing m)
-IsCause s b keys (Bent m) = IsFirstCause s b keys (Bent m)
-IsCause s b keys (Untimed t) = IsFirstCause s b keys (Untimed t)
-IsCause s b keys (TooLarge n) = IsFirstCause s b keys (TooLarge n)
+IsCause s b keys (SizeMissing m) = IsFirstCause s b keys (SizeMissing m)
+IsCause s b keys (SizeBent m) = IsFirstCause s b keys (SizeBent m)
+IsCause s b keys (SizeUntimed t) = IsFirstCause s b keys (SizeUntimed t)
+IsCause s b keys (SizeLarge n) = IsFirstCause s b keys (SizeLarge n)
 
 -- what is right of an answer about a component
-abbrev pub IsRightSizing : Setting → Bounds → List Spot → Sizing → Type 0
+abbrev pub IsRightSizing : Setting → Bounds → List Spot → SizeOutcome → Type 0
 IsRightSizing s b keys (SizedBy node) = IsSizingOf s b keys node
 IsRightSizing s b keys (Unsized why) = IsCause s b keys why
 
@@ -169,7 +168,7 @@ pub record AreRight (q : Searches) (s : Setting) : Type 0 where
   pub rank : (set : List ℕ) (t : ℕ) (shut : List SymbolPlace) (r : Ranking) → IsQuestion s.program set t
       → q.Ranks set t shut r → IsRightRanking q s set t shut r
   pub components : (cs : List (List Spot)) → q.AreComponents cs → AreComponentsOf q s.program cs
-  pub sizes : (b : Bounds) (keys : List Spot) (answer : Sizing) → 1 ≤ length keys → q.Sizes b keys answer
+  pub sizes : (b : Bounds) (keys : List Spot) (answer : SizeOutcome) → 1 ≤ length keys → q.Sizes b keys answer
       → IsRightSizing s b keys answer
 
 -- each question has one answer: whether a rule is empty, each rank question, the components, and each component where
@@ -179,4 +178,4 @@ pub record AreOne (q : Searches) : Type 0 where
   pub ranks : (set : List ℕ) (t : ℕ) (shut : List SymbolPlace) (x y : Ranking) → q.Ranks set t shut x
       → q.Ranks set t shut y → x ≡ y
   pub components : (cs ds : List (List Spot)) → q.AreComponents cs → q.AreComponents ds → cs ≡ ds
-  pub sizes : (b : Bounds) (keys : List Spot) (x y : Sizing) → q.Sizes b keys x → q.Sizes b keys y → x ≡ y
+  pub sizes : (b : Bounds) (keys : List Spot) (x y : SizeOutcome) → q.Sizes b keys x → q.Sizes b keys y → x ≡ y

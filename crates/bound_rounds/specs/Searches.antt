@@ -1,23 +1,16 @@
 -- What searches answer of a program: relations, so that each search says itself when an answer is its own.
-use Rattle.std.specs.Prelude.{◌≡◌, ℕ, List, ℤ}
+use Rattle.std.specs.Prelude.{◌≡◌, ℕ, List}
 use Rattle.rule_questions.specs.proof_nodes.Nodes.{Spot, RankNode}
-use Rattle.rule_questions.specs.proof_nodes.AcceptsSizes.{Side}
 use Rattle.rule_questions.specs.proof_nodes.Gaps.{ScaledPoint, SymbolPlace, Gap}
 use Rattle.rule_questions.specs.proof_tree.declared.answer.Trip.{Trip}
+use Rattle.outcome.specs.Reports.{NoTime, NoSize}
 use Rattle.bound_rounds.specs.Keys.{Bounds}
 use Rattle.bound_rounds.specs.Finds.{Node}
 
--- why there is no bound: no function ranks the rule; a side of a place is loose, along a ray and from a point; a linear
--- program passed a limit; a size from outside is missing; a polynomial arm reads a member; a rule has no time; or the
--- bound is too large, with so many nodes
+-- why a key has no bound: why a rule has no time, or why a place has no size
 pub data NoBound : Type 0 where
-  NoFunction : Gap → NoBound
-  Loose : Side → List ℤ → ScaledPoint → NoBound
-  Tripped : Trip → NoBound
-  Missing : Spot → NoBound
-  Bent : Spot → NoBound
-  Untimed : ℕ → NoBound
-  TooLarge : ℕ → NoBound
+  OfTime : NoTime → NoBound
+  OfSize : NoSize → NoBound
 
 -- whether the rows of a rule have a rational point: multipliers show that they have none, or one is given, or the
 -- linear program passed a limit
@@ -33,9 +26,9 @@ pub data Ranking : Type 0 where
   RankTripped : Trip → Ranking
 
 -- which node gives all members of a component their size, or why they have none
-pub data Sizing : Type 0 where
-  SizedBy : Node → Sizing
-  Unsized : NoBound → Sizing
+pub data SizeOutcome : Type 0 where
+  SizedBy : Node → SizeOutcome
+  Unsized : NoSize → SizeOutcome
 
 -- the answers of the searches: of a rule's emptiness; of a rank question of a set, a rule of it and shut places; the
 -- components of the places of live rules; and of a component where these bounds are known
@@ -43,14 +36,14 @@ pub record Searches : Type 1 where
   pub Empties : ℕ → Emptiness → Type 0
   pub Ranks : List ℕ → ℕ → List SymbolPlace → Ranking → Type 0
   pub AreComponents : List (List Spot) → Type 0
-  pub Sizes : Bounds → List Spot → Sizing → Type 0
+  pub Sizes : Bounds → List Spot → SizeOutcome → Type 0
 
 -- searches that are functions of their questions
 pub record Answers : Type 0 where
   pub empty : ℕ → Emptiness
   pub rank : List ℕ → ℕ → List SymbolPlace → Ranking
   pub components : List (List Spot)
-  pub size : Bounds → List Spot → Sizing
+  pub size : Bounds → List Spot → SizeOutcome
 
 -- as relations
 abbrev pub searches_of : Answers → Searches

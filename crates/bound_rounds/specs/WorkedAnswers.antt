@@ -7,7 +7,8 @@ use Rattle.rule_questions.specs.proof_nodes.WorkedReasons.{towering}
 use Rattle.rule_questions.specs.proof_nodes.Worked.{once_node, once_time, entered_member, entered_size, looped_member}
 use Rattle.bound_rounds.specs.Keys.{Bounds, key, time_key}
 use Rattle.bound_rounds.specs.Finds.{RankBy, SpreadBy, CycleBy, bounds_of}
-use Rattle.bound_rounds.specs.Searches.{Sizing, SizedBy, Unsized, Missing, Untimed, TooLarge}
+use Rattle.bound_rounds.specs.Searches.{SizeOutcome, SizedBy, Unsized, OfTime, OfSize}
+use Rattle.outcome.specs.Reports.{TimeLarge, SizeMissing, SizeUntimed}
 use Rattle.bound_rounds.specs.Answers.{TimeOf, SizesOf, is_open, Found, Lacks, Composes, TellsSizing}
 use Rattle.bound_rounds.specs.Right.{IsRightSizing}
 use Rattle.bound_rounds.specs.Laws.{missing, AreUniform}
@@ -28,17 +29,19 @@ pub record AnswersAreWorkedOut : Type 0 where
       (Found (RankBy once_node) (time_key 0 ∷ []) (Constant 1)))
   pub not_other_needs : ¬ (Composes counting nothing_known (RankBy once_node) once_time
       (Found (RankBy once_node) [] once_time))
-  pub not_lacking : (n : ℕ) → ¬ (Composes counting nothing_known (RankBy once_node) once_time (Lacks (TooLarge n)))
-  pub large : Composes towering nothing_known (RankBy once_node) once_time (Lacks (TooLarge 201))
+  pub not_lacking : (n : ℕ)
+      → ¬ (Composes counting nothing_known (RankBy once_node) once_time (Lacks (OfTime (TimeLarge n))))
+  pub large : Composes towering nothing_known (RankBy once_node) once_time (Lacks (OfTime (TimeLarge 201)))
   pub not_small : ¬ (Composes towering nothing_known (RankBy once_node) once_time
       (Found (RankBy once_node) (time_key 0 ∷ []) (towering.rewrite once_time)))
-  pub not_other_count : ¬ (Composes towering nothing_known (RankBy once_node) once_time (Lacks (TooLarge 200)))
+  pub not_other_count :
+      ¬ (Composes towering nothing_known (RankBy once_node) once_time (Lacks (OfTime (TimeLarge 200))))
   pub sized : TellsSizing counting once_known (SizedBy (SpreadBy entered_member))
       (Found (SpreadBy entered_member) (key 0 1 ∷ key 0 1 ∷ []) entered_size)
   pub not_sized_so : ¬ (TellsSizing counting once_known (SizedBy (SpreadBy entered_member))
       (Found (SpreadBy entered_member) (key 0 1 ∷ key 0 1 ∷ []) (Constant 7)))
-  pub unsized : TellsSizing counting once_known (Unsized (Untimed 1)) (Lacks (Untimed 1))
-  pub not_for_another : ¬ (TellsSizing counting once_known (Unsized (Untimed 1)) (Lacks (Untimed 2)))
+  pub unsized : TellsSizing counting once_known (Unsized (SizeUntimed 1)) (Lacks (OfSize (SizeUntimed 1)))
+  pub not_for_another : ¬ (TellsSizing counting once_known (Unsized (SizeUntimed 1)) (Lacks (OfSize (SizeUntimed 2))))
 
 -- a node is right of the places whose size it states, where it is accepted over what is known, and a cycle only where
 -- they loop; the first size that is missing for it is the right reason. Of no places no answer is right
@@ -48,9 +51,9 @@ pub record RightSizesAreWorkedOut : Type 0 where
   pub not_of_another : ¬ (IsRightSizing counting nothing_known (key 2 1 ∷ []) (SizedBy (SpreadBy entered_member)))
   pub not_too_early : ¬ (IsRightSizing counting once_known (key 2 1 ∷ []) (SizedBy (CycleBy (looped_member ∷ []))))
   pub no_time : ¬ (IsRightSizing counting once_known (time_key 1 ∷ []) (SizedBy (RankBy once_node)))
-  pub reason : IsRightSizing counting once_known (key 2 1 ∷ []) (Unsized (Missing (key 1 1)))
+  pub reason : IsRightSizing counting once_known (key 2 1 ∷ []) (Unsized (SizeMissing (key 1 1)))
   pub not_a_loop : ¬ (IsRightSizing counting nothing_known (key 1 1 ∷ []) (SizedBy (CycleBy (entered_member ∷ []))))
-  pub of_nothing : (b : Bounds) (answer : Sizing) → ¬ (IsRightSizing counting b [] answer)
+  pub of_nothing : (b : Bounds) (answer : SizeOutcome) → ¬ (IsRightSizing counting b [] answer)
 
 -- at first both times and both sizes are missing, and each find takes its own away. Places are uniform where all have
 -- one bound, or none has one

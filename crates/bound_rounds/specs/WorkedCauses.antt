@@ -8,7 +8,8 @@ use Rattle.rule_questions.specs.proof_nodes.AcceptsSizes.{Side, Up, Low}
 use Rattle.rule_questions.specs.proof_nodes.WorkedSettings.{counting, guessing, doubling}
 use Rattle.rule_questions.specs.proof_nodes.WorkedSizes.{squaring}
 use Rattle.bound_rounds.specs.Keys.{Bounds, key}
-use Rattle.bound_rounds.specs.Searches.{searches_of, Unsized, Unranked, Loose, Missing, Bent, Untimed}
+use Rattle.bound_rounds.specs.Searches.{searches_of, Unsized, Unranked}
+use Rattle.outcome.specs.Reports.{SizeLoose, SizeMissing, SizeBent, SizeUntimed}
 use Rattle.bound_rounds.specs.Right.{IsRightSizing, IsRightRanking}
 use Rattle.bound_rounds.specs.WorkedSets.{nothing_known, entered_known}
 use Rattle.bound_rounds.specs.WorkedRounds.{gap_over}
@@ -27,18 +28,19 @@ origin den = record { parts = []; den = den }
 -- not down, nor along A, nor from a point without a denominator; a square of what comes before is never loose. A loop
 -- that doubles lacks the time of its rule, and one that squares is bent
 pub record RightCausesAreWorkedOut : Type 0 where
-  pub not_its_own : ¬ (IsRightSizing counting entered_known (key 2 1 ∷ []) (Unsized (Missing (key 2 1))))
-  pub loose : IsRightSizing guessing nothing_known (key 1 1 ∷ []) (Unsized (Loose Up (pos 0 ∷ pos 1 ∷ []) (origin 1)))
+  pub not_its_own : ¬ (IsRightSizing counting entered_known (key 2 1 ∷ []) (Unsized (SizeMissing (key 2 1))))
+  pub loose :
+      IsRightSizing guessing nothing_known (key 1 1 ∷ []) (Unsized (SizeLoose Up (pos 0 ∷ pos 1 ∷ []) (origin 1)))
   pub not_low :
-      ¬ (IsRightSizing guessing nothing_known (key 1 1 ∷ []) (Unsized (Loose Low (pos 0 ∷ pos 1 ∷ []) (origin 1))))
+      ¬ (IsRightSizing guessing nothing_known (key 1 1 ∷ []) (Unsized (SizeLoose Low (pos 0 ∷ pos 1 ∷ []) (origin 1))))
   pub not_moving :
-      ¬ (IsRightSizing guessing nothing_known (key 1 1 ∷ []) (Unsized (Loose Up (pos 1 ∷ pos 1 ∷ []) (origin 1))))
+      ¬ (IsRightSizing guessing nothing_known (key 1 1 ∷ []) (Unsized (SizeLoose Up (pos 1 ∷ pos 1 ∷ []) (origin 1))))
   pub no_denominator :
-      ¬ (IsRightSizing guessing nothing_known (key 1 1 ∷ []) (Unsized (Loose Up (pos 0 ∷ pos 1 ∷ []) (origin 0))))
+      ¬ (IsRightSizing guessing nothing_known (key 1 1 ∷ []) (Unsized (SizeLoose Up (pos 0 ∷ pos 1 ∷ []) (origin 0))))
   pub not_square : (side : Side) (ray : List ℤ) (kept : ScaledPoint)
-      → ¬ (IsRightSizing squaring nothing_known (key 2 1 ∷ []) (Unsized (Loose side ray kept)))
-  pub untimed : IsRightSizing doubling sizes_alone (key 2 1 ∷ []) (Unsized (Untimed 2))
-  pub bent : IsRightSizing squaring sizes_alone (key 2 1 ∷ []) (Unsized (Bent (key 2 1)))
+      → ¬ (IsRightSizing squaring nothing_known (key 2 1 ∷ []) (Unsized (SizeLoose side ray kept)))
+  pub untimed : IsRightSizing doubling sizes_alone (key 2 1 ∷ []) (Unsized (SizeUntimed 2))
+  pub bent : IsRightSizing squaring sizes_alone (key 2 1 ∷ []) (Unsized (SizeBent (key 2 1)))
 
 -- a gap of another set than the one that was asked of isn't right, and neither is one without points
 pub record WrongGapsAreWorkedOut : Type 0 where

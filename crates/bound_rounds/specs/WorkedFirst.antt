@@ -13,7 +13,8 @@ use Rattle.rule_questions.specs.linear_forms.declared.trip_cause.TripCause.TheVa
 use Rattle.bound_rounds.specs.Keys.{key, time_key}
 use Rattle.bound_rounds.specs.Finds.{Find, bounds_of}
 use Rattle.bound_rounds.specs.Searches.{Answers, Emptiness, NoPoint, HasPoint, EmptyTripped, Ranked, RankTripped}
-use Rattle.bound_rounds.specs.Searches.{Sizing, Unsized, Tripped}
+use Rattle.bound_rounds.specs.Searches.{SizeOutcome, Unsized, OfTime, OfSize}
+use Rattle.outcome.specs.Reports.{TimeTripped, SizeTripped}
 use Rattle.bound_rounds.specs.Searches.{searches_of}
 use Rattle.bound_rounds.specs.Beginning.{empty_find, unreached_find, never_find, AreFirst}
 use Rattle.bound_rounds.specs.Rounds.{IsLast, IsNoBound}
@@ -25,9 +26,9 @@ trip question = record { question = question; cause = causes.Scale }
 
 -- each rule has a point; the rank question of a rule trips as that of this one, and the size of places as that of the
 -- first of them
-abbrev pub trips_at : List Spot → Sizing
-trips_at [] = Unsized (Tripped (trip (asked.Local 0 0)))
-trips_at (m ∷ keys) = Unsized (Tripped (trip (asked.Local m.rule m.place)))
+abbrev pub trips_at : List Spot → SizeOutcome
+trips_at [] = Unsized (SizeTripped (trip (asked.Local 0 0)))
+trips_at (m ∷ keys) = Unsized (SizeTripped (trip (asked.Local m.rule m.place)))
 
 abbrev pub trips_as : (ℕ → ℕ) → Answers
 trips_as other = record {
@@ -80,8 +81,9 @@ pub record FirstFindsAreWorkedOut : Type 0 where
   pub not_twice : ¬ (AreFirst (searches_of all_trips) apart.program
       (unreached_find [] 2 ∷ never_find apart.program 2 ∷ never_find apart.program 2 ∷ []))
   pub last : IsLast (searches_of all_trips) apart two_finds
-  pub reason : IsNoBound (searches_of all_trips) apart two_finds 1 0 (Tripped (trip (asked.Rank 1)))
-  pub size_reason : IsNoBound (searches_of all_trips) apart two_finds 1 1 (Tripped (trip (asked.Local 1 1)))
+  pub reason : IsNoBound (searches_of all_trips) apart two_finds 1 0 (OfTime (TimeTripped (trip (asked.Rank 1))))
+  pub size_reason : IsNoBound (searches_of all_trips) apart two_finds 1 1
+      (OfSize (SizeTripped (trip (asked.Local 1 1))))
   pub four : AreFirst (searches_of cut_off) counting.program four_finds
   pub not_resting_on_nothing : ¬ (AreFirst (searches_of cut_off) counting.program
       (empty_find 1 [] ∷ unreached_find [] 2 ∷ never_find counting.program 1 ∷ never_find counting.program 2 ∷ []))

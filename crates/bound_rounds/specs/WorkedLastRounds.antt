@@ -10,7 +10,8 @@ use Rattle.bound_rounds.specs.Keys.{key}
 use Rattle.bound_rounds.specs.Finds.{Node, CycleBy, Find}
 use Rattle.bound_rounds.specs.Needs.{needs_of}
 use Rattle.bound_rounds.specs.Standing.{composed_bound}
-use Rattle.bound_rounds.specs.Searches.{Answers, HasPoint, Ranking, Ranked, SizedBy, TooLarge, searches_of}
+use Rattle.bound_rounds.specs.Searches.{Answers, HasPoint, Ranking, Ranked, SizedBy, OfTime, searches_of}
+use Rattle.outcome.specs.Reports.{TimeLarge}
 use Rattle.bound_rounds.specs.Rounds.{IsRound, IsLast, IsNoBound}
 use Rattle.bound_rounds.specs.WorkedFinds.{entered_find, looped_find}
 use Rattle.bound_rounds.specs.WorkedFirst.{all_trips}
@@ -53,7 +54,7 @@ pub record LastRoundsAreWorkedOut : Type 0 where
       (first_time ∷ second_time ∷ entered_find ∷ looped_find ∷ [])
   pub not_in_one : ¬ (IsRound (searches_of value_turned) counting []
       (first_time ∷ second_time ∷ entered_find ∷ looped_find ∷ []))
-  pub large : IsNoBound (searches_of (answers_with once_ranks alone)) towering [] 1 0 (TooLarge 201)
+  pub large : IsNoBound (searches_of (answers_with once_ranks alone)) towering [] 1 0 (OfTime (TimeLarge 201))
   pub both : IsRound (searches_of sized_together) counting [] (sized_find together ∷ [])
   pub not_each : ¬ (IsRound (searches_of sized_together) counting []
       (sized_find (key 1 1 ∷ []) ∷ sized_find (key 2 1 ∷ []) ∷ []))

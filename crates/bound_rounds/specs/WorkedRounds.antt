@@ -7,8 +7,9 @@ use Rattle.rule_questions.specs.proof_nodes.WorkedSettings.{counting, form}
 use Rattle.rule_questions.specs.proof_nodes.Worked.{down_time, entered_member, looped_member}
 use Rattle.bound_rounds.specs.Keys.{Bounds, key, time_key, lacks}
 use Rattle.bound_rounds.specs.Finds.{SpreadBy, CycleBy, Find}
-use Rattle.bound_rounds.specs.Searches.{Answers, HasPoint, Ranking, Ranked, Unranked, Sizing, SizedBy, Unsized}
-use Rattle.bound_rounds.specs.Searches.{NoFunction, Missing, Untimed, TooLarge, searches_of}
+use Rattle.bound_rounds.specs.Searches.{Answers, HasPoint, Ranking, Ranked, Unranked, SizeOutcome, SizedBy, Unsized}
+use Rattle.bound_rounds.specs.Searches.{OfTime, OfSize, searches_of}
+use Rattle.outcome.specs.Reports.{NoFunction, TimeLarge, SizeMissing, SizeUntimed}
 use Rattle.bound_rounds.specs.Components.{AreComponentsOf}
 use Rattle.bound_rounds.specs.Beginning.{AreFirst}
 use Rattle.bound_rounds.specs.Rounds.{IsRound, IsMade, IsClosed, IsLast, IsNoBound}
@@ -55,14 +56,14 @@ abbrev pub turned : List (List Spot)
 turned = (key 2 1 ∷ []) ∷ (key 1 1 ∷ []) ∷ []
 
 -- the size after rule 1 is found where its time is known, and that after rule 2 where that after rule 1 is
-abbrev pub after_first : Bounds → Sizing
-after_first b = cond (lacks (b 1 0)) (Unsized (Untimed 1)) (SizedBy (SpreadBy entered_member))
+abbrev pub after_first : Bounds → SizeOutcome
+after_first b = cond (lacks (b 1 0)) (Unsized (SizeUntimed 1)) (SizedBy (SpreadBy entered_member))
 
-abbrev pub after_second : Bounds → Sizing
-after_second b = cond (lacks (b 1 1)) (Unsized (Missing (key 1 1))) (SizedBy (CycleBy (looped_member ∷ [])))
+abbrev pub after_second : Bounds → SizeOutcome
+after_second b = cond (lacks (b 1 1)) (Unsized (SizeMissing (key 1 1))) (SizedBy (CycleBy (looped_member ∷ [])))
 
-abbrev pub size_in_turn : Bounds → List Spot → Sizing
-size_in_turn b [] = Unsized (Untimed 1)
+abbrev pub size_in_turn : Bounds → List Spot → SizeOutcome
+size_in_turn b [] = Unsized (SizeUntimed 1)
 size_in_turn b (m ∷ keys) = cond (m.rule == 1) (after_first b) (after_second b)
 
 -- each rule has a point; rules are ranked so, and these are the components
@@ -144,13 +145,15 @@ pub record ReasonsAreWorkedOut : Type 0 where
   pub not_of_entry : ¬ (AreComponentsOf (searches_of nothing_ranks) counting.program
       ((key 0 1 ∷ []) ∷ (key 1 1 ∷ []) ∷ (key 2 1 ∷ []) ∷ []))
   pub last : IsLast (searches_of nothing_ranks) counting []
-  pub first_time : IsNoBound (searches_of nothing_ranks) counting [] 1 0 (NoFunction (gap_over (1 ∷ []) 1 []))
-  pub second_time : IsNoBound (searches_of nothing_ranks) counting [] 2 0 (NoFunction (gap_over (1 ∷ 2 ∷ []) 2 []))
-  pub first_size : IsNoBound (searches_of nothing_ranks) counting [] 1 1 (Untimed 1)
-  pub second_size : IsNoBound (searches_of nothing_ranks) counting [] 2 1 (Missing (key 1 1))
-  pub not_alone : ¬ (IsNoBound (searches_of nothing_ranks) counting [] 2 0 (NoFunction (gap_over (2 ∷ []) 2 [])))
-  pub not_large : ¬ (IsNoBound (searches_of nothing_ranks) counting [] 2 0 (TooLarge 5))
-  pub not_untimed : ¬ (IsNoBound (searches_of nothing_ranks) counting [] 2 1 (Untimed 1))
+  pub first_time : IsNoBound (searches_of nothing_ranks) counting [] 1 0 (OfTime (NoFunction (gap_over (1 ∷ []) 1 [])))
+  pub second_time : IsNoBound (searches_of nothing_ranks) counting [] 2 0
+      (OfTime (NoFunction (gap_over (1 ∷ 2 ∷ []) 2 [])))
+  pub first_size : IsNoBound (searches_of nothing_ranks) counting [] 1 1 (OfSize (SizeUntimed 1))
+  pub second_size : IsNoBound (searches_of nothing_ranks) counting [] 2 1 (OfSize (SizeMissing (key 1 1)))
+  pub not_alone : ¬ (IsNoBound (searches_of nothing_ranks) counting [] 2 0
+      (OfTime (NoFunction (gap_over (2 ∷ []) 2 []))))
+  pub not_large : ¬ (IsNoBound (searches_of nothing_ranks) counting [] 2 0 (OfTime (TimeLarge 5)))
+  pub not_untimed : ¬ (IsNoBound (searches_of nothing_ranks) counting [] 2 1 (OfSize (SizeUntimed 1)))
   pub not_known : ¬ (IsNoBound (searches_of nothing_ranks) counting (once_find ∷ []) 1 0
-      (NoFunction (gap_over (1 ∷ []) 1 [])))
-  pub not_elsewhere : ¬ (IsNoBound (searches_of nothing_ranks) counting [] 2 2 (Missing (key 1 1)))
+      (OfTime (NoFunction (gap_over (1 ∷ []) 1 []))))
+  pub not_elsewhere : ¬ (IsNoBound (searches_of nothing_ranks) counting [] 2 2 (OfSize (SizeMissing (key 1 1))))

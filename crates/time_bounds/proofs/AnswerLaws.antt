@@ -32,7 +32,8 @@ use Rattle.rank_search.proofs.Accepted.{nodes-accepted}
 use Rattle.bound_rounds.specs.Keys.{Bounds, is_untimed, lacks, over}
 use Rattle.bound_rounds.specs.Finds.{RankBy}
 use Rattle.bound_rounds.specs.Needs.{rank_needs}
-use Rattle.bound_rounds.specs.Searches.{Ranked, Unranked, NoBound, TooLarge}
+use Rattle.outcome.specs.Reports.{TimeLarge}
+use Rattle.bound_rounds.specs.Searches.{Ranked, Unranked, NoBound, OfTime}
 use Rattle.bound_rounds.specs.Answers.{Answer, Found, Lacks, AnsweredQuestion, TellsRanking, TellsTime}
 use Rattle.bound_rounds.specs.Right.{IsRightRanking}
 use Rattle.bound_rounds.proofs.AcceptedRanks.{is_question}
@@ -54,9 +55,9 @@ found_told p b node needs x e same =
 -- one that is too large gives none
 pub large_told : (p : Program) (b : Bounds) (node : RankNode) (n : ℕ)
     → within.TooLarge n ≡ rewritten_within (time_of p node (over b).time (over b).size)
-    → TellsRanking (setting_of p) b (Ranked node) (Lacks (TooLarge n))
+    → TellsRanking (setting_of p) b (Ranked node) (Lacks (OfTime (TimeLarge n)))
 large_told p b node n e =
-    let h = (small-bounds.large (time_of p node (over b).time (over b).size) n).0 (sym e) in (h.0, ap TooLarge h.1)
+    let h = (small-bounds.large (time_of p node (over b).time (over b).size) n).0 (sym e) in (h.0, ap (λ (n : ℕ). OfTime (TimeLarge n)) h.1)
 
 -- a question that was answered is one of the relation
 pub asked_of : (p : Program) (b : Bounds) (pivots : ℕ) (empties : List EmptyAnswer) (t : ℕ) (a : Asked) → AreEmptyAnswers p pivots empties

@@ -35,6 +35,7 @@ use Rattle.time_bounds.specs.Locals.{AreAnswered}
 use Rattle.time_bounds.specs.Candidates.{spots_in, IsAnswered, AreArms, IsArmed, AreArmed, IsAccepted, AreAccepted}
 use Rattle.time_bounds.specs.Candidates.{HasAccepted, IsCandidate, AreCandidatesOf}
 use Rattle.time_bounds.proofs.LoneComponents.{lone}
+use Rattle.time_bounds.proofs.PlaceAnswers.{any_answer}
 use Rattle.time_bounds.proofs.RightComponents.{components_of}
 
 -- what holds of each member holds of all places of a list
@@ -91,9 +92,9 @@ module _ (p : Program) (pivots : ℕ) (valid : IsValid p) (is_live : ℕ → Boo
           most = subst (λ (n : ℕ). m.spot.place ≤ n) (ap (arity_of p) (sym (target m.spot.rule h.numbered h.place.target))) h.place.last;
         };
       } in record {
-        shape = bounds-accepted.shape p h.rule m.spot pivots h.empty m.local valid is h.local;
-        up = bounds-accepted.up p h.rule m.spot pivots h.empty m.local valid is h.local;
-        low = bounds-accepted.low p h.rule m.spot pivots h.empty m.local valid is h.local;
+        shape = bounds-accepted.shape p h.rule m.spot pivots any_answer m.local valid is h.local;
+        up = bounds-accepted.up p h.rule m.spot pivots any_answer m.local valid is h.local;
+        low = bounds-accepted.low p h.rule m.spot pivots any_answer m.local valid is h.local;
       }
     where
       target : (t : ℕ) → rule_at p t ≡ Some h.rule → target_of p t ≡ Some h.place.symbol → h.rule.target ≡ h.place.symbol

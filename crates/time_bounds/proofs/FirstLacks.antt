@@ -22,12 +22,10 @@ use Rattle.proof_tree.proofs.proof_nodes.CheckLists.{in-each}
 use Rattle.bound_rounds.specs.Keys.{Bounds, has_key, over}
 use Rattle.bound_rounds.specs.Loops.{do_loop}
 use Rattle.bound_rounds.specs.Right.{IsReasonFor}
-use Rattle.bound_rounds.specs.Searches as searches
-use Rattle.bound_rounds.specs.Searches.{NoBound, Unsized}
+use Rattle.bound_rounds.specs.Searches.{Unsized}
 use Rattle.bound_rounds.proofs.Cases.{either}
 use Rattle.bound_rounds.proofs.ListMembers.{contains-cases, contains-none}
-use Rattle.time_bounds.specs.ProgramSizes.{IsSizingBy}
-use Rattle.time_bounds.specs.Reasons.{size_reason}
+use Rattle.time_bounds.specs.ProgramSizes.{AnswersMembers}
 use Rattle.time_bounds.specs.SizeWhys.{IsComponentOf, LacksFirst, RestsOnSize}
 use Rattle.time_bounds.specs.SizeWhys.{TakesFrom, BendsAt, GrowsUntimed, composed_size, SizeIsLarge}
 use Rattle.time_bounds.specs.SizeWhys.{HasNoSize}
@@ -56,7 +54,7 @@ module _ (p : Program) (pivots : ℕ) where
   module _ (b : Bounds) (t i : ℕ) where
     -- a size that is needed and isn't known, where the places that are needed are no members
     module _ (m : Spot) (members : List Member) (component : IsComponentOf p pivots t i members)
-        (first : LacksFirst s b members (searches.Missing m)) (inside : List Member)
+        (first : LacksFirst s b members (SizeMissing m)) (inside : List Member)
         (outer : (x : Spot) → IsNeeded s inside members x → has_key (map (λ k. k.spot) members) x.rule x.place ≡ false) where
       rests : (x : Spot) → IsNeeded s inside members x → (IsKnown ((over b).size x.rule x.place) → ⊥)
           → reasons.MissingSize x.rule x.place ≡ reasons.MissingSize m.rule m.place → RestsOnSize p pivots b t i m
@@ -84,13 +82,13 @@ module _ (p : Program) (pivots : ℕ) where
 
     -- a size that is the first to be missing
     size_so : (m : Spot) (members : List Member) → IsComponentOf p pivots t i members → (v : Bool) → do_loop s members ≡ v
-        → IsSizingBy v s (over b) members (Unsized (searches.Missing m)) → RestsOnSize p pivots b t i m
+        → AnswersMembers v s (over b) members (Unsized (SizeMissing m)) → RestsOnSize p pivots b t i m
     size_so m [] component false e h = absurd h
     size_so m (n ∷ []) component false e (r, is, failed) =
         spread_gives (reasons.MissingSize m.rule m.place) (RestsOnSize p pivots b t i m) s (over b)
         (λ k. let none : ⊥ = cc in none) (λ a c k. let none : ⊥ = cc in none) (λ a c k. let none : ⊥ = cc in none) n
         (all_rest m (n ∷ []) component
-        (subst (λ (w : Bool). IsSizingBy w s (over b) (n ∷ []) (Unsized (searches.Missing m))) (sym e) (r, is, failed)) []
+        (subst (λ (w : Bool). AnswersMembers w s (over b) (n ∷ []) (Unsized (SizeMissing m))) (sym e) (r, is, failed)) []
         alone (needed_into s [] (n ∷ []))
         (into_needed s [] (n ∷ []) (n ∷ []) (recursion_from_All (Contains (n ∷ [])) (n ∷ []) (All-contains_itself (n ∷ [])))))
         (λ fails k. absurd (let none : ⊥ = cc in none))
@@ -106,7 +104,7 @@ module _ (p : Program) (pivots : ℕ) where
         cycle_gives (reasons.MissingSize m.rule m.place) (RestsOnSize p pivots b t i m) s (over b)
         (λ k. let none : ⊥ = cc in none) (λ a c k. let none : ⊥ = cc in none) (λ a c k. let none : ⊥ = cc in none) members
         (all_rest m members component
-        (subst (λ (w : Bool). IsSizingBy w s (over b) members (Unsized (searches.Missing m))) (sym e) (r, is, failed)) members
+        (subst (λ (w : Bool). AnswersMembers w s (over b) members (Unsized (SizeMissing m))) (sym e) (r, is, failed)) members
         (λ x needed. outside_keys members x.rule x.place needed.takes.place needed.outside) (needed_into s members members)
         (into_needed s members members members
         (recursion_from_All (Contains members) members (All-contains_itself members))))
@@ -120,7 +118,7 @@ module _ (p : Program) (pivots : ℕ) where
 
     -- a member that bends first
     bent_so : (m : Spot) (members : List Member) → IsComponentOf p pivots t i members → (v : Bool) → do_loop s members ≡ v
-        → IsSizingBy v s (over b) members (Unsized (searches.Bent m)) → BendsAt p pivots b t i m
+        → AnswersMembers v s (over b) members (Unsized (SizeBent m)) → BendsAt p pivots b t i m
     bent_so m [] component false e h = absurd h
     bent_so m (n ∷ []) component false e (r, is, failed) =
         spread_gives (reasons.Bent m.rule m.place) (BendsAt p pivots b t i m) s (over b)
@@ -152,7 +150,7 @@ module _ (p : Program) (pivots : ℕ) where
               same = same_spot n.spot m rule place;
               loop = e;
               bent = fails;
-              first = subst (λ (w : Bool). IsSizingBy w s (over b) members (Unsized (searches.Bent m))) (sym e) (r, is, failed);
+              first = subst (λ (w : Bool). AnswersMembers w s (over b) members (Unsized (SizeBent m))) (sym e) (r, is, failed);
             }
 
         bends : (n : Member) → Contains members n
@@ -166,7 +164,7 @@ module _ (p : Program) (pivots : ℕ) where
 
     -- a time that is the first to be missing
     untimed_so : (u : ℕ) (members : List Member) → IsComponentOf p pivots t i members → (v : Bool) → do_loop s members ≡ v
-        → IsSizingBy v s (over b) members (Unsized (searches.Untimed u)) → GrowsUntimed p pivots b t i u
+        → AnswersMembers v s (over b) members (Unsized (SizeUntimed u)) → GrowsUntimed p pivots b t i u
     untimed_so u [] component false e h = absurd h
     untimed_so u (n ∷ []) component false e (r, is, failed) =
         spread_gives (reasons.MissingTime u) (GrowsUntimed p pivots b t i u) s (over b)
@@ -201,12 +199,12 @@ module _ (p : Program) (pivots : ℕ) where
               uses = listed.0;
               grows = listed.1;
               missing = subst (λ (j : ℕ). b j 0 ≡ None) rule (time_missing b w fails);
-              first = subst (λ (x : Bool). IsSizingBy x s (over b) members (Unsized (searches.Untimed u))) (sym e) (r, is, failed);
+              first = subst (λ (x : Bool). AnswersMembers x s (over b) members (Unsized (SizeUntimed u))) (sym e) (r, is, failed);
             }
 
     -- a composed size that is large
     large_so : (n : ℕ) (members : List Member) → IsComponentOf p pivots t i members → (v : Bool) → do_loop s members ≡ v
-        → IsSizingBy v s (over b) members (Unsized (searches.TooLarge n)) → SizeIsLarge p pivots b t i n
+        → AnswersMembers v s (over b) members (Unsized (SizeLarge n)) → SizeIsLarge p pivots b t i n
     large_so n [] component false e h = absurd h
     large_so n (m ∷ []) component false e (r, is, failed) =
         spread_gives (reasons.Large n) (SizeIsLarge p pivots b t i n) s (over b)
@@ -225,7 +223,7 @@ module _ (p : Program) (pivots : ℕ) where
               composed = ap (λ (x : Bool). composed_size x s (over b) (m ∷ [])) (sym e);
               large = fails;
               nodes = sym nodes;
-              first = subst (λ (x : Bool). IsSizingBy x s (over b) (m ∷ []) (Unsized (searches.TooLarge n))) (sym e) (r, is, failed);
+              first = subst (λ (x : Bool). AnswersMembers x s (over b) (m ∷ []) (Unsized (SizeLarge n))) (sym e) (r, is, failed);
             }
     large_so n (m ∷ k ∷ members) component false e h = absurd h
     large_so n members component true e (r, is, failed) =
@@ -250,12 +248,12 @@ module _ (p : Program) (pivots : ℕ) where
               composed = ap (λ (x : Bool). composed_size x s (over b) members) (sym e);
               large = fails;
               nodes = sym nodes;
-              first = subst (λ (x : Bool). IsSizingBy x s (over b) members (Unsized (searches.TooLarge n))) (sym e) (r, is, failed);
+              first = subst (λ (x : Bool). AnswersMembers x s (over b) members (Unsized (SizeLarge n))) (sym e) (r, is, failed);
             }
 
     -- checks fail for no other reason
-    never : (w : NoBound) → ((r : Reason) → IsReasonFor w r → ⊥) → (members : List Member) (v : Bool)
-        → IsSizingBy v s (over b) members (Unsized w) → ⊥
+    never : (w : NoSize) → ((r : Reason) → IsReasonFor w r → ⊥) → (members : List Member) (v : Bool)
+        → AnswersMembers v s (over b) members (Unsized w) → ⊥
     never w fails [] false h = h
     never w fails (n ∷ []) false (r, is, failed) = fails r is
     never w fails (n ∷ k ∷ members) false h = h
@@ -263,11 +261,11 @@ module _ (p : Program) (pivots : ℕ) where
 
     -- what is judged of members with local bounds
     pub judged_so : (why : NoSize) (members : List Member) → IsComponentOf p pivots t i members
-        → IsSizingBy (do_loop s members) s (over b) members (Unsized (size_reason why)) → HasNoSize p pivots b t i why
+        → AnswersMembers (do_loop s members) s (over b) members (Unsized why) → HasNoSize p pivots b t i why
     judged_so (SizeLoose side ray kept) members component h =
-        absurd (never (searches.Loose side ray kept) (λ r k. k) members (do_loop s members) h)
+        absurd (never (SizeLoose side ray kept) (λ r k. k) members (do_loop s members) h)
     judged_so (SizeTripped x) members component h =
-        absurd (never (searches.Tripped x) (λ r k. k) members (do_loop s members) h)
+        absurd (never (SizeTripped x) (λ r k. k) members (do_loop s members) h)
     judged_so (SizeMissing m) members component h = size_so m members component (do_loop s members) refl h
     judged_so (SizeBent m) members component h = bent_so m members component (do_loop s members) refl h
     judged_so (SizeUntimed u) members component h = untimed_so u members component (do_loop s members) refl h

@@ -28,7 +28,7 @@ use Rattle.time_bounds.specs.Beginning.{never_here, never_finds, sized_find}
 use Rattle.time_bounds.specs.Fates.{says_empty, fate_at, is_empty_fate, is_dead_fate, AreFates}
 use Rattle.time_bounds.specs.ProgramSearches.{searches_of_program}
 use Rattle.time_bounds.proofs.FateLaws.{bool_same, says, shown, shown_says}
-use Rattle.time_bounds.proofs.Rules.{rule_there}
+use Rattle.time_bounds.proofs.RuleNumbers.{rule_there}
 
 abbrev pub is_unreached_fate : Fate → Bool
 is_unreached_fate Empty = false

@@ -1,18 +1,18 @@
 -- the steps of a run are at most the sum of all times
 pub mod KnownTimes
-pub mod Sums
+pub mod TotalSteps
 -- the set of a rule, and its shut places
 pub mod SetLaws
 pub mod ShutBySymbol
 pub mod PartSets
 pub mod ShutByPlace
 -- rules, their ends and their fates
-pub mod Rules
+pub mod RuleNumbers
 pub mod RuleSymbols
 pub mod FateLaws
 pub mod FateLists
 pub mod RowLaws
-pub mod Flags
+pub mod UntimedRules
 -- the searches of a program are right
 pub mod RightSearches
 pub mod SpotLists
@@ -37,23 +37,25 @@ pub mod OpenFinds
 pub mod TriedFinds
 pub mod NeedLists
 -- one more rule
-pub mod TriedLists
+pub mod NumberedLists
+pub mod NamedGaps
 pub mod AnswerLaws
-pub mod KeptQuestions
+pub mod AnsweredQuestions
 pub mod TimeRounds
 -- what stands at places
+pub mod PlaceAnswers
 pub mod LocalLists
 pub mod LiveLocals
 pub mod LoneComponents
 pub mod CandidateLaws
 pub mod ArmLists
-pub mod FoundComponents
+pub mod ComponentArms
 pub mod PlacedLaws
 -- what components answer
 pub mod MemberLoops
 pub mod PolynomialUpdates
 pub mod CandidateComponents
-pub mod TakenAnswers
+pub mod ComponentTries
 -- answers of earlier rounds stand
 pub mod GrownBounds
 pub mod GrownChecks
@@ -66,13 +68,13 @@ pub mod SizeReasons
 pub mod SaidSizes
 pub mod SaidRows
 -- entries carry the numbers of their lemmas
-pub mod CarriedTimes
-pub mod CarriedSizes
+pub mod TimeNumbers
+pub mod SizeNumbers
 -- what is found of a program is its analysis
 pub mod ReportEntries
-pub mod FoundIsAnalysis
+pub mod AnalysisOfFinds
 pub mod WholeAnalysis
-pub mod FoundLemmas
+pub mod OutcomeLemmas
 -- each reason in a report is so of the program
 pub mod FindKeys
 pub mod SaidKnown

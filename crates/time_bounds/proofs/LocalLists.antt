@@ -24,7 +24,8 @@ use Rattle.bound_rounds.specs.Keys.{key as spot}
 use Rattle.time_bounds.specs.ProgramSizes.{AreLive, IsLocalOf, AreLocals}
 use Rattle.time_bounds.specs.Fates.{AreFates, fate_at, is_empty_fate, is_dead_fate}
 use Rattle.time_bounds.specs.Locals.{is_live_fate, AreAnswersAt, AreAnswersAfter, AreAllAnswers, answer_in}
-use Rattle.time_bounds.proofs.Rules.{rule_below, rule_there}
+use Rattle.time_bounds.proofs.PlaceAnswers.{answer_at}
+use Rattle.time_bounds.proofs.RuleNumbers.{rule_below, rule_there}
 use Rattle.model.proofs.Cases.{slice_get-there as get_below, none_some, some_same}
 
 -- one answer more of a rule
@@ -63,11 +64,9 @@ answers_after p pivots i r f e answers numbered is long h = record {
       least = omega arith;
       last = let l = below_get answers j a g in omega (arith, l, long);
     };
-    empty = e;
-    is_empty_answer = is;
-    local =
-        subst (λ (n : ℕ). IsLocal (prepared r) (spot (suc i) n) pivots e (local_answer_of a)) (let z : 1 + j ≡ suc j = omega arith in z)
-        (answer_of_place (prepared r) (suc i) pivots e 1 answers j a h g);
+    local = answer_at p pivots r (suc i) numbered (suc j) e (local_answer_of a) is
+        (subst (λ (n : ℕ). IsLocal (prepared r) (spot (suc i) n) pivots e (local_answer_of a)) (let z : 1 + j ≡ suc j = omega arith in z)
+        (answer_of_place (prepared r) (suc i) pivots e 1 answers j a h g));
   };
 }
 

@@ -1,19 +1,17 @@
 -- Where each question has one answer, each program has one analysis.
-use Rattle.std.proofs.Common.{◌≡◌, ℕ, suc, List, [], ◌∷◌, length, map, Option, Some, None, refl, sym, ◌∙◌, ap, subst, arith}
+use Rattle.std.proofs.Common.{◌≡◌, ℕ, suc, List, [], ◌∷◌, length, map, Some, None, refl, sym, ◌∙◌, ap, subst, arith}
 use Rattle.model.specs.Programs.{Program}
 use Rattle.model.specs.Bounds.{Bound}
-use Rattle.outcome.specs.Reports.{Time, Timed, Untimed, NoTime, NoFunction, TimeTripped, TimeLarge, Size, Sized, Unsized}
-use Rattle.outcome.specs.Reports.{NoSize, SizeLoose, SizeTripped, SizeMissing, SizeBent, SizeUntimed, SizeLarge, Report}
+use Rattle.outcome.specs.Reports.{Time, Timed, Untimed, NoTime, Size, Sized, Unsized, NoSize, Report}
 use Rattle.proof_tree.specs.proof_nodes.Nodes.{Spot}
 use Rattle.proof_tree.specs.proof_setting.Setting.{setting_of}
 use Rattle.bound_rounds.specs.Components.{AreApart}
 use Rattle.bound_rounds.specs.Right.{AreOne}
 use Rattle.bound_rounds.specs.Finds.{Find}
 use Rattle.bound_rounds.specs.Searches as searches
-use Rattle.bound_rounds.specs.Searches.{NoBound}
+use Rattle.bound_rounds.specs.Searches.{OfTime, OfSize}
 use Rattle.bound_rounds.proofs.FindsAreOne.{last_one, time_reason, reason_one}
 use Rattle.time_bounds.specs.ProgramSearches.{searches_of_program}
-use Rattle.time_bounds.specs.Reasons as reasons
 use Rattle.time_bounds.specs.Analysis.{bound_in, IsTimeOf, AreTimesOf, IsSizeOf, AreSizesOf, AreSizeRowsOf, IsAnalysis}
 use Rattle.time_bounds.specs.Totals.{total_of}
 use Rattle.model.proofs.Cases.{some_same as same_bound}
@@ -29,45 +27,12 @@ joined {A} x y xs ys e h = ap (λ (z : A). z ∷ xs) e ∙ ap (λ (zs : List A).
 same_report : (r q : Report) → r.times ≡ q.times → r.total ≡ q.total → r.sizes ≡ q.sizes → r ≡ q
 same_report r q times total sizes = λ i. record { times = times i; total = total i; sizes = sizes i }
 
--- one reason of a time is told in one way
-pub time_reason_back : NoBound → Option NoTime
-time_reason_back (searches.NoFunction g) = Some (NoFunction g)
-time_reason_back (searches.Loose side ray kept) = None
-time_reason_back (searches.Tripped t) = Some (TimeTripped t)
-time_reason_back (searches.Missing m) = None
-time_reason_back (searches.Bent m) = None
-time_reason_back (searches.Untimed t) = None
-time_reason_back (searches.TooLarge n) = Some (TimeLarge n)
+-- one reason of a time is told in one way, and so is one of a size
+one_time : (v w : NoTime) → OfTime v ≡ OfTime w → v ≡ w
+one_time v w e = cc
 
-pub time_back : (why : NoTime) → time_reason_back (reasons.time_reason why) ≡ Some why
-unfolding time_reason_back
-time_back (NoFunction g) = refl
-time_back (TimeTripped t) = refl
-time_back (TimeLarge n) = refl
-
--- and so is one of a size
-pub size_reason_back : NoBound → Option NoSize
-size_reason_back (searches.NoFunction g) = None
-size_reason_back (searches.Loose side ray kept) = Some (SizeLoose side ray kept)
-size_reason_back (searches.Tripped t) = Some (SizeTripped t)
-size_reason_back (searches.Missing m) = Some (SizeMissing m)
-size_reason_back (searches.Bent m) = Some (SizeBent m)
-size_reason_back (searches.Untimed t) = Some (SizeUntimed t)
-size_reason_back (searches.TooLarge n) = Some (SizeLarge n)
-
-pub size_back : (why : NoSize) → size_reason_back (reasons.size_reason why) ≡ Some why
-unfolding size_reason_back
-size_back (SizeLoose side ray kept) = refl
-size_back (SizeTripped t) = refl
-size_back (SizeMissing m) = refl
-size_back (SizeBent m) = refl
-size_back (SizeUntimed t) = refl
-size_back (SizeLarge n) = refl
-
--- what is read back as one is one
-pub read_back : {A : Type 0} (back : NoBound → Option A) (forth : A → NoBound) → ((a : A) → back (forth a) ≡ Some a)
-    → (v w : A) → forth v ≡ forth w → v ≡ w
-read_back back forth h v w e = same_bound v w (sym (h v) ∙ (ap back e ∙ h w))
+one_size : (v w : NoSize) → OfSize v ≡ OfSize w → v ≡ w
+one_size v w e = cc
 
 module _ (p : Program) (pivots : ℕ) (one : AreOne (searches_of_program p pivots)) where
   abbrev q : searches.Searches
@@ -79,8 +44,8 @@ module _ (p : Program) (pivots : ℕ) (one : AreOne (searches_of_program p pivot
   said_one fs t (Timed b) (Untimed w) h k = absurd (some_none b (sym h ∙ k.missing))
   said_one fs t (Untimed v) (Timed c) h k = absurd (some_none c (sym k ∙ h.missing))
   said_one fs t (Untimed v) (Untimed w) h k =
-      ap (λ (n : NoTime). Untimed n) (read_back time_reason_back reasons.time_reason time_back v w
-      (time_reason q one (setting_of p) fs t (reasons.time_reason v) (reasons.time_reason w) h k))
+      ap (λ (n : NoTime). Untimed n)
+      (one_time v w (time_reason q one (setting_of p) fs t (OfTime v) (OfTime w) h k))
 
   all_one : (fs : List Find) (k : ℕ) (xs ys : List Time) → length xs ≡ length ys → AreTimesOf q p fs k xs
       → AreTimesOf q p fs k ys → xs ≡ ys
@@ -99,8 +64,8 @@ module _ (p : Program) (pivots : ℕ) (one : AreOne (searches_of_program p pivot
     size_one t i (Sized b) (Unsized w) h k = absurd (some_none b (sym h ∙ k.missing))
     size_one t i (Unsized v) (Sized c) h k = absurd (some_none c (sym k ∙ h.missing))
     size_one t i (Unsized v) (Unsized w) h k =
-        ap (λ (n : NoSize). Unsized n) (read_back size_reason_back reasons.size_reason size_back v w
-        (reason_one q one (setting_of p) cs are apart fs t i (reasons.size_reason v) (reasons.size_reason w) h k))
+        ap (λ (n : NoSize). Unsized n)
+        (one_size v w (reason_one q one (setting_of p) cs are apart fs t i (OfSize v) (OfSize w) h k))
 
     places_one : (t i : ℕ) (xs ys : List Size) → length xs ≡ length ys → AreSizesOf q p fs t i xs
         → AreSizesOf q p fs t i ys → xs ≡ ys

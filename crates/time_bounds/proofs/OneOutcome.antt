@@ -20,7 +20,8 @@ use Rattle.bound_rounds.specs.Right.{AreOne}
 use Rattle.bound_rounds.proofs.FindsAreOne.{last_one}
 use Rattle.time_bounds.specs.Analysis.{IsAnalysis}
 use Rattle.time_bounds.specs.AnalysisLaws.{number_of_time, number_of_size, AreOneOutcome}
-use Rattle.time_bounds.specs.AnalysisLemmas.{CarryTimes, CarrySizes, CarryRows, AreGapsInOrder, HasLemmas}
+use Rattle.time_bounds.specs.AnalysisLemmas.{CarriesTime, CarriesSize, CarriesSizes, AreGapsInOrder, HasLemmas}
+use Rattle.time_bounds.specs.Numbered.{EachNumbered}
 use Rattle.time_bounds.specs.ProgramSearches.{searches_of_program}
 use Rattle.time_bounds.proofs.OneAnalysis.{analysis_one, joined}
 
@@ -34,7 +35,7 @@ time_numbers number t n (Untimed (TimeLarge k) ∷ told) = 0 ∷ time_numbers nu
 
 -- entries that carry numbers carry those
 times_told : (number : ℕ → ℕ → ℕ) (gaps : List code.Gap) (t n : ℕ) (entries : List TimeEntry) (count : ℕ)
-    → CarryTimes number t entries → AreGapsInOrder n entries count
+    → EachNumbered (CarriesTime number) t entries → AreGapsInOrder n entries count
     → map number_of_time entries ≡ time_numbers number t n (map (time_of gaps) entries)
 times_told number gaps t n [] count h g = refl
 times_told number gaps t n (times.Known s ∷ entries) count h g =
@@ -109,7 +110,7 @@ row_numbers number t [] = []
 row_numbers number t (row ∷ rows) = size_numbers number t 1 row ∷ row_numbers number (suc t) rows
 
 -- entries that carry numbers carry those
-sizes_told : (number : ℕ → ℕ → ℕ) (t i : ℕ) (entries : List SizeEntry) → CarrySizes number t i entries
+sizes_told : (number : ℕ → ℕ → ℕ) (t i : ℕ) (entries : List SizeEntry) → EachNumbered (CarriesSize number t) i entries
     → map number_of_size entries ≡ size_numbers number t i (map size_of entries)
 sizes_told number t i [] h = refl
 sizes_told number t i (sizes.Known s ∷ entries) h =
@@ -128,7 +129,7 @@ sizes_told number t i (sizes.Untimed r ∷ entries) h =
 sizes_told number t i (sizes.Large n ∷ entries) h =
     ap (λ (ks : List ℕ). 0 ∷ ks) (sizes_told number t (suc i) entries h.1)
 
-rows_told : (number : ℕ → ℕ → ℕ) (t : ℕ) (rows : List (Vec SizeEntry Global)) → CarryRows number t (map (λ row. row.items) rows)
+rows_told : (number : ℕ → ℕ → ℕ) (t : ℕ) (rows : List (Vec SizeEntry Global)) → EachNumbered (CarriesSizes number) t (map (λ row. row.items) rows)
     → map (λ row. map number_of_size row.items) rows ≡ row_numbers number t (map (λ row. map size_of row.items) rows)
 rows_told number t [] h = refl
 rows_told number t (row ∷ rows) h =

@@ -1,5 +1,5 @@
 -- The searches of a program have one answer to each question.
-use Rattle.std.proofs.Common.{◌≡◌, ℕ, Bool, true, List, [], ◌∷◌, length, map}
+use Rattle.std.proofs.Common.{◌≡◌, ◌⊎◌, inl, inr, ℕ, Bool, true, List, [], ◌∷◌, length, map}
 use Rattle.std.proofs.Common.{refl, sym, ◌∙◌, ap, subst}
 use Rattle.std.specs.List.{AllByRecursion, range_with_len}
 use Rattle.std.proofs.lemmas.List.Elements.{recursion_from_All}
@@ -10,19 +10,21 @@ use Rattle.its_graph.proofs.Uniqueness.{one_listing}
 use Rattle.proof_tree.specs.proof_nodes.Nodes.{Spot}
 use Rattle.proof_tree.specs.proof_setting.Setting.{setting_of}
 use Rattle.rank_search.specs.rule_questions.EmptyAnswers.{IsEmptyAnswer}
-use Rattle.rank_search.specs.rule_questions.OneEmptyAnswer.{EmptyAnswersAreOne}
-use Rattle.local_size.specs.LocalAnswers.{Local, IsLocal}
+use Rattle.proof_tree.specs.declared.answer.EmptyAnswer.{EmptyAnswer}
+use Rattle.rank_search.specs.rule_questions.OneEmptyAnswer.{IsSameEmptyAnswer, EmptyAnswersAreOne}
+use Rattle.local_size.specs.LocalAnswers.{Local}
 use Rattle.local_size.specs.LocalLaws.{LocalAnswersAreOne}
 use Rattle.rvg_components.specs.Flows.{Locals, live_spots}
 use Rattle.rvg_components.specs.Listing.{spot_at, HasFlow, AreComponents}
 use Rattle.bound_rounds.specs.Keys.{Bounds, has_key, key, over}
-use Rattle.bound_rounds.specs.Searches.{Sizing}
+use Rattle.bound_rounds.specs.Searches.{SizeOutcome}
 use Rattle.bound_rounds.specs.Right.{AreOne}
 use Rattle.bound_rounds.proofs.Cases.{some_same}
 use Rattle.rank_search.specs.OneAnswer.{RankAnswersAreOne}
 use Rattle.time_bounds.proofs.OneSearches.{emptiness_one, ranking_question_one}
 use Rattle.bound_rounds.proofs.DeadRules.{dead_by}
-use Rattle.time_bounds.specs.ProgramSizes.{AreLive, IsLocalOf, AreLocals}
+use Rattle.time_bounds.specs.ProgramSizes.{AreLive, IsAnswerAt, IsLocalOf, AreLocals}
+use Rattle.time_bounds.proofs.PlaceAnswers.{any_answer, AnyAnswers, OneAnswers, code_answered}
 use Rattle.time_bounds.specs.ProgramSearches.{searches_of_program}
 use Rattle.time_bounds.proofs.SpotLists.{at-member}
 use Rattle.time_bounds.proofs.LiveSpots.{listed-live, live_spots-same}
@@ -48,13 +50,25 @@ module _ (p : Program) (pivots : ℕ) where
     -- what is answered of a place is one
     pub local_one : (t i : ℕ) (x y : Local) → IsLocalOf p pivots t i x → IsLocalOf p pivots t i y → x ≡ y
     local_one t i x y h k =
-        locals_one.each (prepared k.rule) (key t i) pivots h.empty k.empty x y
-        (empties_one.each (prepared k.rule) t pivots h.empty k.empty
-        (subst (λ (r : Rule). IsEmptyAnswer (prepared r) t pivots h.empty) same h.is_empty_answer) k.is_empty_answer)
-        (subst (λ (r : Rule). IsLocal (prepared r) (key t i) pivots h.empty x) same h.local) k.local
+        by (code_answered p pivots k.rule t k.numbered i x
+        (subst (λ (r : Rule). IsAnswerAt p pivots (prepared r) (key t i) x) same h.local))
+        (code_answered p pivots k.rule t k.numbered i y k.local)
       where
         same : h.rule ≡ k.rule
         same = some_same h.rule k.rule (sym h.numbered ∙ k.numbered)
+
+        self : (a : EmptyAnswer) → IsEmptyAnswer (prepared k.rule) t pivots a → IsSameEmptyAnswer a a
+        self a is = empties_one.each (prepared k.rule) t pivots a a is is
+
+        by : AnyAnswers pivots t i k.rule x ⊎ OneAnswers pivots t i k.rule x
+            → AnyAnswers pivots t i k.rule y ⊎ OneAnswers pivots t i k.rule y → x ≡ y
+        by (inl f) (inl g) =
+            locals_one.each (prepared k.rule) (key t i) pivots any_answer any_answer x y (refl, refl) (f any_answer) (g any_answer)
+        by (inl f) (inr (a, is, g)) = locals_one.each (prepared k.rule) (key t i) pivots a a x y (self a is) (f a) g
+        by (inr (a, is, f)) (inl g) = locals_one.each (prepared k.rule) (key t i) pivots a a x y (self a is) f (g a)
+        by (inr (a, is, f)) (inr (c, is_too, g)) =
+            locals_one.each (prepared k.rule) (key t i) pivots a c x y
+            (empties_one.each (prepared k.rule) t pivots a c is is_too) f g
 
     -- so it is of each of these places
     all_one : (f g : Locals) (spots : List Spot)
@@ -66,7 +80,7 @@ module _ (p : Program) (pivots : ℕ) where
         (local_one m.rule m.place (f m.rule m.place) (g m.rule m.place) h.0 k.0, all_one f g spots h.1 k.1)
 
     -- the answer about a component is one
-    sizes_one : (b : Bounds) (spots : List Spot) (x y : Sizing) → (searches_of_program p pivots).Sizes b spots x
+    sizes_one : (b : Bounds) (spots : List Spot) (x y : SizeOutcome) → (searches_of_program p pivots).Sizes b spots x
         → (searches_of_program p pivots).Sizes b spots y → x ≡ y
     sizes_one b spots x y (f, fs, is) (g, gs, is_too) =
         sizing_one (setting_of p) (over b) f g spots

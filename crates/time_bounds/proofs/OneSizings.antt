@@ -14,16 +14,15 @@ use Rattle.proof_tree.specs.proof_nodes.Reasons.{MissingTime, MissingSize, Bent,
 use Rattle.proof_tree.specs.proof_nodes.Checks.{spread_checks, cycle_checks}
 use Rattle.proof_tree.proofs.proof_nodes.CheckLists.{passed_has_none, first_is_one}
 use Rattle.proof_tree.proofs.proof_nodes.SizeReasons.{spread-passes, cycle-passes}
-use Rattle.outcome.specs.Reports.{NoSize}
+use Rattle.outcome.specs.Reports.{NoSize, SizeLoose, SizeTripped, SizeMissing, SizeBent, SizeUntimed, SizeLarge}
 use Rattle.local_size.specs.LocalAnswers.{Local, HasBound}
 use Rattle.rvg_components.specs.Flows.{Locals, local_reads, value_flows, loops}
 use Rattle.bound_rounds.specs.Finds.{Node}
-use Rattle.bound_rounds.specs.Searches as searches
-use Rattle.bound_rounds.specs.Searches.{NoBound, Sizing, SizedBy, Unsized}
+use Rattle.bound_rounds.specs.Searches.{SizeOutcome, SizedBy, Unsized}
 use Rattle.bound_rounds.specs.Right.{IsReasonFor}
 use Rattle.bound_rounds.proofs.Cases.{some_same}
 use Rattle.time_bounds.specs.ProgramSizes.{loose_reason, trip_reason, or_else, first_reason, lacks_arms}
-use Rattle.time_bounds.specs.ProgramSizes.{IsSpreadSizing, IsCycleSizing, IsSizingBy, IsJudged, IsSizingOf}
+use Rattle.time_bounds.specs.ProgramSizes.{AnswersAlone, AnswersLoop, AnswersMembers, IsJudged, AnswersPlaces}
 
 -- a test that is the same for each element
 any_same : (f g : Spot → Bool) (ms : List Spot) → AllByRecursion (λ m. f m ≡ g m) ms → list_any f ms ≡ list_any g ms
@@ -32,7 +31,7 @@ any_same f g (m ∷ ms) h =
     ap (λ (v : Bool). v || list_any f ms) h.0 ∙ ap (λ (v : Bool). g m || v) (any_same f g ms h.1)
 
 -- how a reason of a node is told
-abbrev told_as : Reason → Option NoBound
+abbrev told_as : Reason → Option NoSize
 told_as Shape = None
 told_as NotEmpty = None
 told_as Reached = None
@@ -41,23 +40,22 @@ told_as (Move t) = None
 told_as Floor = None
 told_as (ArmUp t i) = None
 told_as (ArmLow t i) = None
-told_as (MissingTime t) = Some (searches.Untimed t)
-told_as (MissingSize t i) = Some (searches.Missing (record { rule = t; place = i }))
-told_as (Bent t i) = Some (searches.Bent (record { rule = t; place = i }))
-told_as (Large n) = Some (searches.TooLarge n)
+told_as (MissingTime t) = Some (SizeUntimed t)
+told_as (MissingSize t i) = Some (SizeMissing (record { rule = t; place = i }))
+told_as (Bent t i) = Some (SizeBent (record { rule = t; place = i }))
+told_as (Large n) = Some (SizeLarge n)
 told_as NotWeaker = None
 
-is_told : (why : NoBound) (r : Reason) → IsReasonFor why r → told_as r ≡ Some why
-is_told (searches.NoFunction g) r h = absurd h
-is_told (searches.Loose side ray kept) r h = absurd h
-is_told (searches.Tripped t) r h = absurd h
-is_told (searches.Missing m) r h = ap told_as h
-is_told (searches.Bent m) r h = ap told_as h
-is_told (searches.Untimed t) r h = ap told_as h
-is_told (searches.TooLarge n) r h = ap told_as h
+is_told : (why : NoSize) (r : Reason) → IsReasonFor why r → told_as r ≡ Some why
+is_told (SizeLoose side ray kept) r h = absurd h
+is_told (SizeTripped t) r h = absurd h
+is_told (SizeMissing m) r h = ap told_as h
+is_told (SizeBent m) r h = ap told_as h
+is_told (SizeUntimed t) r h = ap told_as h
+is_told (SizeLarge n) r h = ap told_as h
 
 -- one reason is told in one way
-told_one : (v w : NoBound) (q r : Reason) → IsReasonFor v q → IsReasonFor w r → q ≡ r → v ≡ w
+told_one : (v w : NoSize) (q r : Reason) → IsReasonFor v q → IsReasonFor w r → q ≡ r → v ≡ w
 told_one v w q r h k e = some_same v w (sym (is_told v q h) ∙ (ap told_as e ∙ is_told w r k))
 
 same_arms : (l k : LocalBound) → HasBound l ≡ HasBound k → l ≡ k
@@ -71,7 +69,7 @@ flow_same s f g m n e =
 
 module _ (s : Setting) (tab : Table) where
   -- what is judged of the same members is one
-  spread_one : (members : List Member) (x y : Sizing) → IsSpreadSizing s tab members x → IsSpreadSizing s tab members y
+  spread_one : (members : List Member) (x y : SizeOutcome) → AnswersAlone s tab members x → AnswersAlone s tab members y
       → x ≡ y
   spread_one [] x y h k = absurd h
   spread_one (m ∷ []) (SizedBy b) (SizedBy c) h k = ap (λ (d : Node). SizedBy d) (h.0 ∙ sym k.0)
@@ -80,11 +78,11 @@ module _ (s : Setting) (tab : Table) where
   spread_one (m ∷ []) (Unsized v) (SizedBy c) h k =
       absurd (passed_has_none (spread_checks s tab m) (spread-passes s tab m k.1) h.0 h.2)
   spread_one (m ∷ []) (Unsized v) (Unsized w) h k =
-      ap (λ (n : NoBound). Unsized n)
+      ap (λ (n : NoSize). Unsized n)
       (told_one v w h.0 k.0 h.1 k.1 (first_is_one (spread_checks s tab m) h.0 k.0 h.2 k.2))
   spread_one (m ∷ n ∷ members) x y h k = absurd h
 
-  cycle_one : (members : List Member) (x y : Sizing) → IsCycleSizing s tab members x → IsCycleSizing s tab members y
+  cycle_one : (members : List Member) (x y : SizeOutcome) → AnswersLoop s tab members x → AnswersLoop s tab members y
       → x ≡ y
   cycle_one members (SizedBy b) (SizedBy c) h k = ap (λ (d : Node). SizedBy d) (h.0 ∙ sym k.0)
   cycle_one members (SizedBy b) (Unsized w) h k =
@@ -92,10 +90,10 @@ module _ (s : Setting) (tab : Table) where
   cycle_one members (Unsized v) (SizedBy c) h k =
       absurd (passed_has_none (cycle_checks s tab members) (cycle-passes s tab members k.1) h.0 h.2)
   cycle_one members (Unsized v) (Unsized w) h k =
-      ap (λ (n : NoBound). Unsized n)
+      ap (λ (n : NoSize). Unsized n)
       (told_one v w h.0 k.0 h.1 k.1 (first_is_one (cycle_checks s tab members) h.0 k.0 h.2 k.2))
 
-  by_one : (v : Bool) (members : List Member) (x y : Sizing) → IsSizingBy v s tab members x → IsSizingBy v s tab members y
+  by_one : (v : Bool) (members : List Member) (x y : SizeOutcome) → AnswersMembers v s tab members x → AnswersMembers v s tab members y
       → x ≡ y
   by_one false members x y h k = spread_one members x y h k
   by_one true members x y h k = cycle_one members x y h k
@@ -160,7 +158,7 @@ module _ (s : Setting) (tab : Table) where
         joined p q = ap (λ (z : Member). z ∷ ms) p ∙ ap (λ (zs : List Member). n ∷ zs) q
 
     -- so the answer is one
-    judged_one : (spots : List Spot) → AllByRecursion IsSameAt spots → (x y : Sizing) → IsJudged s tab f spots x
+    judged_one : (spots : List Spot) → AllByRecursion IsSameAt spots → (x y : SizeOutcome) → IsJudged s tab f spots x
         → IsJudged s tab g spots y → x ≡ y
     judged_one spots same x y h k =
         let members = members_one spots h.members k.members h.are_members.spots_are k.are_members.spots_are same
@@ -168,17 +166,17 @@ module _ (s : Setting) (tab : Table) where
         h.are_members.bounds_are)
         (recursion_from_All (λ (n : Member). g n.spot.rule n.spot.place ≡ HasBound n.local) k.members
         k.are_members.bounds_are) in
-        let moved = subst (λ (v : Bool). IsSizingBy v s tab h.members x) (loops_same spots same) h.sizing in
+        let moved = subst (λ (v : Bool). AnswersMembers v s tab h.members x) (loops_same spots same) h.sizing in
         by_one (loops s g spots) k.members x y
-        (subst (λ (ms : List Member). IsSizingBy (loops s g spots) s tab ms x) members moved) k.sizing
+        (subst (λ (ms : List Member). AnswersMembers (loops s g spots) s tab ms x) members moved) k.sizing
 
-    of_one : (spots : List Spot) → AllByRecursion IsSameAt spots → (o : Option NoSize) (x y : Sizing)
-        → IsSizingOf s tab f spots o x → IsSizingOf s tab g spots o y → x ≡ y
+    of_one : (spots : List Spot) → AllByRecursion IsSameAt spots → (o : Option NoSize) (x y : SizeOutcome)
+        → AnswersPlaces s tab f spots o x → AnswersPlaces s tab g spots o y → x ≡ y
     of_one spots same (Some why) x y h k = h ∙ sym k
     of_one spots same None x y h k = judged_one spots same x y h k
 
-    pub sizing_one : (spots : List Spot) → AllByRecursion IsSameAt spots → (x y : Sizing)
-        → IsSizingOf s tab f spots (lacks_arms f spots) x → IsSizingOf s tab g spots (lacks_arms g spots) y → x ≡ y
+    pub sizing_one : (spots : List Spot) → AllByRecursion IsSameAt spots → (x y : SizeOutcome)
+        → AnswersPlaces s tab f spots (lacks_arms f spots) x → AnswersPlaces s tab g spots (lacks_arms g spots) y → x ≡ y
     sizing_one spots same x y h k =
         of_one spots same (lacks_arms g spots) x y
-        (subst (λ (o : Option NoSize). IsSizingOf s tab f spots o x) (lacks_same spots same) h) k
+        (subst (λ (o : Option NoSize). AnswersPlaces s tab f spots o x) (lacks_same spots same) h) k

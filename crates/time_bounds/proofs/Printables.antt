@@ -29,7 +29,7 @@ use Rattle.time_bounds.specs.PrintableLaws.{IsPrintableBound, ArePrintableBounds
 use Rattle.bound_rounds.proofs.SizesStand.{all_stand}
 use Rattle.time_bounds.proofs.OneProgram.{program_searches_one}
 use Rattle.time_bounds.proofs.RightSizings.{program_searches_right}
-use Rattle.time_bounds.proofs.Sums.{first_known, total_is}
+use Rattle.time_bounds.proofs.TotalSteps.{first_known, total_is}
 use Rattle.model.proofs.Cases.{some_same as same_bound, missing_some as no_bound}
 
 -- a bound with tidy numbers over the first n inputs is printable once it is rewritten

@@ -29,8 +29,8 @@ use Rattle.time_bounds.specs.Analysis.{IsTimeOf, AreTimesOf, IsSizeOf, AreSizesO
 use Rattle.bound_rounds.proofs.SizesStand.{all_stand}
 use Rattle.time_bounds.proofs.OneProgram.{program_searches_one}
 use Rattle.time_bounds.proofs.RightSizings.{program_searches_right}
-use Rattle.time_bounds.proofs.Rules.{rule_there}
-use Rattle.time_bounds.proofs.Sums.{totals_hold}
+use Rattle.time_bounds.proofs.RuleNumbers.{rule_there}
+use Rattle.time_bounds.proofs.TotalSteps.{totals_hold}
 
 -- an entry's time is that of its report
 pub times_alike : (gaps : List Gap) (times : List TimeEntry) → map bound_in (map (time_of gaps) times) ≡ map time_in times

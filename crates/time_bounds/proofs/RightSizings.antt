@@ -22,15 +22,10 @@ use Rattle.proof_tree.specs.proof_nodes.Gaps.{ScaledPoint}
 use Rattle.proof_tree.specs.proof_nodes.Combined.{form_at}
 use Rattle.proof_tree.specs.proof_nodes.AcceptsSizes.{Side, Up, Low, left_in, new_value}
 use Rattle.proof_tree.specs.proof_setting.Setting.{setting_of, rows_in, news_in}
-use Rattle.proof_tree.specs.declared.answer.EmptyAnswer.{EmptyAnswer}
-use Rattle.proof_tree.specs.declared.answer.EmptyAnswer.TheVariants as empties
 use Rattle.proof_tree.specs.declared.answer.Question.TheVariants as asked
-use Rattle.proof_tree.specs.declared.answer.Trip.{Trip}
-use Rattle.outcome.specs.Reports.{NoSize, SizeLoose, SizeTripped}
-use Rattle.rank_search.specs.rule_questions.EmptyAnswers.{IsEmptyAnswer}
-use Rattle.rank_search.specs.rule_questions.RuleAnswers.{trip_in}
+use Rattle.outcome.specs.Reports.{NoSize, SizeLoose, SizeTripped, SizeMissing, SizeBent, SizeUntimed, SizeLarge}
 use Rattle.local_size.specs.Places.{is_polynomial_at, local_forms, value_on}
-use Rattle.local_size.specs.LocalAnswers.{Local, HasBound, IsLooseOn, HasTripped, IsOwnTrip, IsEmptyTrip}
+use Rattle.local_size.specs.LocalAnswers.{Local, HasBound, IsLooseOn, HasTripped}
 use Rattle.local_size.specs.LocalLaws.{IsSpotOf, LooseAnswersAreLoose}
 use Rattle.local_size.proofs.LooseAnswers.{loose-answers}
 use Rattle.rvg_components.specs.Flows.{Locals, loops}
@@ -38,17 +33,16 @@ use Rattle.bound_rounds.specs.Keys.{IsPlace}
 use Rattle.bound_rounds.specs.Keys.{Bounds, over}
 use Rattle.bound_rounds.specs.Finds.{Node, SpreadBy, CycleBy}
 use Rattle.bound_rounds.specs.Loops.{do_loop}
-use Rattle.bound_rounds.specs.Searches as searches
-use Rattle.bound_rounds.specs.Searches.{NoBound, Sizing, SizedBy, Unsized}
+use Rattle.bound_rounds.specs.Searches.{SizeOutcome, SizedBy, Unsized}
 use Rattle.bound_rounds.specs.Keys.{has_key}
-use Rattle.bound_rounds.specs.Right.{MovesTo, IsLooseAt, IsCause, IsFirstCause, IsSizingOf as IsRightNode}
+use Rattle.bound_rounds.specs.Right.{MovesTo, IsLooseAt, IsCause, IsFirstCause, IsSizingOf}
 use Rattle.bound_rounds.specs.Right.{IsRightSizing, AreRight}
 use Rattle.bound_rounds.proofs.Cases.{some_same, none_some}
 use Rattle.time_bounds.specs.ProgramSearches.{searches_of_program}
 use Rattle.time_bounds.specs.ProgramSizes.{IsLocalOf, AreLocalsOf, loose_reason, trip_reason, or_else}
-use Rattle.time_bounds.specs.ProgramSizes.{first_reason, lacks_arms, IsSpreadSizing, IsCycleSizing, IsSizingBy}
-use Rattle.time_bounds.specs.ProgramSizes.{IsSizingOf}
-use Rattle.time_bounds.specs.Reasons.{size_reason}
+use Rattle.time_bounds.specs.ProgramSizes.{first_reason, lacks_arms, AnswersAlone, AnswersLoop, AnswersMembers}
+use Rattle.time_bounds.specs.ProgramSizes.{AnswersPlaces, TripsAt}
+use Rattle.time_bounds.proofs.PlaceAnswers.{loose_answered}
 use Rattle.time_bounds.specs.SearchLaws.{ProgramSearchesAreRight}
 use Rattle.time_bounds.proofs.MemberLoops.{loop_told}
 use Rattle.time_bounds.proofs.PolynomialUpdates.{polynomial-told}
@@ -152,54 +146,48 @@ module _ (loose : LooseAnswersAreLoose) (p : Program) (pivots : ℕ) (valid : Is
 
     -- a place that is loose is why there is no size
     loose_cause : (m : Spot) → has_key spots m.rule m.place ≡ true → (x : Local) → Answered m x → (why : NoSize)
-        → loose_reason x ≡ Some why → IsCause (setting_of p) b spots (size_reason why)
+        → loose_reason x ≡ Some why → IsCause (setting_of p) b spots why
     loose_cause m has (HasBound l) is why e = absurd (none_some why e)
     loose_cause m has (IsLooseOn side ray kept) is why e =
         let r = is.rule in
         let here = spot_of_rule p m r is.numbered is.place in
-        let shown = loose.ray p r m pivots is.empty side ray kept valid here is.is_empty_answer is.local in
-        subst (λ (w : NoSize). IsCause (setting_of p) b spots (size_reason w)) (some_same (SizeLoose side ray kept) why e)
-        (m, has, loose_at m r is.numbered is.place side ray kept shown.0 shown.1 is.local.asked)
+        let found = loose_answered p pivots r m.rule is.numbered m.place side ray kept is.local in
+        let shown = loose.ray p r m pivots found.0 side ray kept valid here found.1 found.2 in
+        subst (λ (w : NoSize). IsCause (setting_of p) b spots w) (some_same (SizeLoose side ray kept) why e)
+        (m, has, loose_at m r is.numbered is.place side ray kept shown.0 shown.1 is.local.0.straight)
     loose_cause m has (HasTripped t) is why e = absurd (none_some why e)
 
     -- and so is one that tripped
     trip_cause : (m : Spot) → has_key spots m.rule m.place ≡ true → (x : Local) → Answered m x → (why : NoSize)
-        → trip_reason x ≡ Some why → IsCause (setting_of p) b spots (size_reason why)
+        → trip_reason x ≡ Some why → IsCause (setting_of p) b spots why
     trip_cause m has (HasBound l) is why e = absurd (none_some why e)
     trip_cause m has (IsLooseOn side ray kept) is why e = absurd (none_some why e)
     trip_cause m has (HasTripped t) is why e =
-        subst (λ (w : NoSize). IsCause (setting_of p) b spots (size_reason w)) (some_same (SizeTripped t) why e)
+        subst (λ (w : NoSize). IsCause (setting_of p) b spots w) (some_same (SizeTripped t) why e)
         (m, has, question is.local)
       where
-        emptiness : (a : EmptyAnswer) → IsEmptyAnswer (prepared is.rule) m.rule pivots a → trip_in (Some a) ≡ Some t
-            → t.question ≡ asked.Empty m.rule
-        emptiness (empties.Empty n) h k = absurd (none_some t k)
-        emptiness (empties.Point z) h k = absurd (none_some t k)
-        emptiness (empties.Tripped u) h k = ap (λ (v : Trip). v.question) (sym (some_same u t k)) ∙ h.0
-
-        question : IsOwnTrip (prepared is.rule) m pivots t ⊎ IsEmptyTrip (prepared is.rule) m.place pivots is.empty t
+        question : TripsAt p pivots (prepared is.rule) m t
             → (t.question ≡ asked.Local m.rule m.place) ⊎ (t.question ≡ asked.Empty m.rule)
         question (inl own) = inl own.question
-        question (inr none) = inr (emptiness is.empty is.is_empty_answer none.trip)
+        question (inr point) = inr point.trips.trips.0
 
     -- the first check that fails
-    first_cause : (why : NoBound) → IsFirstCause (setting_of p) b spots why → IsCause (setting_of p) b spots why
-    first_cause (searches.NoFunction g) h = absurd h.1
-    first_cause (searches.Loose side ray kept) h = absurd h.1
-    first_cause (searches.Tripped t) h = absurd h.1
-    first_cause (searches.Missing m) h = h
-    first_cause (searches.Bent m) h = h
-    first_cause (searches.Untimed t) h = h
-    first_cause (searches.TooLarge n) h = h
+    first_cause : (why : NoSize) → IsFirstCause (setting_of p) b spots why → IsCause (setting_of p) b spots why
+    first_cause (SizeLoose side ray kept) h = absurd h.1
+    first_cause (SizeTripped t) h = absurd h.1
+    first_cause (SizeMissing m) h = h
+    first_cause (SizeBent m) h = h
+    first_cause (SizeUntimed t) h = h
+    first_cause (SizeLarge n) h = h
 
     -- a node that is accepted and loops as it says is right
-    node_right : (node other : Node) → other ≡ node → IsRightNode (setting_of p) b spots node
+    node_right : (node other : Node) → other ≡ node → IsSizingOf (setting_of p) b spots node
         → IsRightSizing (setting_of p) b spots (SizedBy other)
-    node_right node other e h = subst (λ (n : Node). IsRightNode (setting_of p) b spots n) (sym e) h
+    node_right node other e h = subst (λ (n : Node). IsSizingOf (setting_of p) b spots n) (sym e) h
 
     -- what is judged of members with arms is right
     spread_right : (ms : List Member) → spots ≡ map (λ m. m.spot) ms → do_loop (setting_of p) ms ≡ false
-        → (answer : Sizing) → IsSpreadSizing (setting_of p) (over b) ms answer
+        → (answer : SizeOutcome) → AnswersAlone (setting_of p) (over b) ms answer
         → IsRightSizing (setting_of p) b spots answer
     spread_right [] e alone answer h = absurd h
     spread_right (m ∷ []) e alone (SizedBy node) h =
@@ -209,7 +197,7 @@ module _ (loose : LooseAnswersAreLoose) (p : Program) (pivots : ℕ) (valid : Is
     spread_right (m ∷ n ∷ ms) e alone answer h = absurd h
 
     cycle_right : (ms : List Member) → spots ≡ map (λ m. m.spot) ms → do_loop (setting_of p) ms ≡ true
-        → (answer : Sizing) → IsCycleSizing (setting_of p) (over b) ms answer
+        → (answer : SizeOutcome) → AnswersLoop (setting_of p) (over b) ms answer
         → IsRightSizing (setting_of p) b spots answer
     cycle_right ms e loop (SizedBy node) h =
         node_right (CycleBy ms) node h.0 (record { same = e; accepted = (h.1, loop) })
@@ -217,7 +205,7 @@ module _ (loose : LooseAnswersAreLoose) (p : Program) (pivots : ℕ) (valid : Is
         first_cause why (h.0, h.1, inr record { all = ms; spots = e; loop = loop; first = h.2 })
 
     judged_right : (ms : List Member) → spots ≡ map (λ m. m.spot) ms → (v : Bool) → do_loop (setting_of p) ms ≡ v
-        → (answer : Sizing) → IsSizingBy v (setting_of p) (over b) ms answer
+        → (answer : SizeOutcome) → AnswersMembers v (setting_of p) (over b) ms answer
         → IsRightSizing (setting_of p) b spots answer
     judged_right ms e false alone answer h = spread_right ms e alone answer h
     judged_right ms e true loop answer h = cycle_right ms e loop answer h
@@ -227,14 +215,14 @@ module _ (loose : LooseAnswersAreLoose) (p : Program) (pivots : ℕ) (valid : Is
       abbrev Place : Spot → Type 0
       Place m = IsLocalOf p pivots m.rule m.place (local m.rule m.place)
 
-      lacking : (why : NoSize) → lacks_arms local spots ≡ Some why → IsCause (setting_of p) b spots (size_reason why)
+      lacking : (why : NoSize) → lacks_arms local spots ≡ Some why → IsCause (setting_of p) b spots why
       lacking why e = go (one_of (first_reason loose_reason local spots) (first_reason trip_reason local spots) why e)
         where
           each : AllByRecursion Place spots
           each = recursion_from_All Place spots locals
 
           go : (first_reason loose_reason local spots ≡ Some why) ⊎ (first_reason trip_reason local spots ≡ Some why)
-              → IsCause (setting_of p) b spots (size_reason why)
+              → IsCause (setting_of p) b spots why
           go (inl h) =
               let x = reason_told Place loose_reason local spots why each h in
               loose_cause x.0 x.1 (local x.0.rule x.0.place) x.2 why x.3
@@ -242,10 +230,10 @@ module _ (loose : LooseAnswersAreLoose) (p : Program) (pivots : ℕ) (valid : Is
               let x = reason_told Place trip_reason local spots why each h in
               trip_cause x.0 x.1 (local x.0.rule x.0.place) x.2 why x.3
 
-      sizing_right : (o : Option NoSize) → lacks_arms local spots ≡ o → (answer : Sizing)
-          → IsSizingOf (setting_of p) (over b) local spots o answer → IsRightSizing (setting_of p) b spots answer
+      sizing_right : (o : Option NoSize) → lacks_arms local spots ≡ o → (answer : SizeOutcome)
+          → AnswersPlaces (setting_of p) (over b) local spots o answer → IsRightSizing (setting_of p) b spots answer
       sizing_right (Some why) e answer h =
-          subst (λ (a : Sizing). IsRightSizing (setting_of p) b spots a) (sym h) (lacking why e)
+          subst (λ (a : SizeOutcome). IsRightSizing (setting_of p) b spots a) (sym h) (lacking why e)
       sizing_right None e answer h =
           judged_right h.members h.are_members.spots_are (loops (setting_of p) local spots)
           (loop_told (setting_of p) local spots h.members h.are_members) answer h.sizing
@@ -259,7 +247,7 @@ module _ (loose : LooseAnswersAreLoose) (p : Program) (pivots : ℕ) (valid : Is
     sizes = sizes;
   }
     where
-      sizes : (b : Bounds) (keys : List Spot) (answer : Sizing) → 1 ≤ length keys
+      sizes : (b : Bounds) (keys : List Spot) (answer : SizeOutcome) → 1 ≤ length keys
           → (searches_of_program p pivots).Sizes b keys answer → IsRightSizing (setting_of p) b keys answer
       sizes b keys answer some (local, locals, is) =
           sizing_right b keys local locals (lacks_arms local keys) refl answer is

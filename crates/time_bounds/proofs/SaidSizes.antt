@@ -38,7 +38,7 @@ use Rattle.time_bounds.specs.Attempts.{AreAttempts, is_sized}
 use Rattle.time_bounds.specs.SizeSaid.{placed, said_stored, said_table, put_whys, AreThere}
 use Rattle.time_bounds.proofs.CandidateComponents.{live_components}
 use Rattle.time_bounds.proofs.PlacedLaws.{row_long}
-use Rattle.time_bounds.proofs.Rules.{rule_there}
+use Rattle.time_bounds.proofs.RuleNumbers.{rule_there}
 use Rattle.time_bounds.proofs.SizeReasons.{said_fair, listed_there, whys_long}
 use Rattle.model.proofs.Cases.{none_some}
 

@@ -26,7 +26,6 @@ use Rattle.size_bounds.specs.Tables.{entry_at, row_at, bound_stored}
 use Rattle.time_bounds.specs.declared.candidates.Candidate.{Candidate}
 use Rattle.time_bounds.specs.declared.sizing.Attempt.{Attempt}
 use Rattle.time_bounds.specs.declared.sizing.Attempt.TheVariants as attempts
-use Rattle.time_bounds.specs.Reasons.{size_reason}
 use Rattle.time_bounds.specs.ProgramSearches.{searches_of_program}
 use Rattle.time_bounds.specs.Candidates.{spots_in, AreCandidatesOf}
 use Rattle.time_bounds.specs.Analysis.{IsSizeOf}
@@ -182,8 +181,8 @@ module _ (p : Program) (pivots : ℕ) (tab : Table) (finds : List Find) (book : 
                 target = SizesOf (spots_in c);
                 asked = (map spots_in all, are_components p pivots all found, listed, g.member);
                 tells = record {
-                  answer = searches.Unsized (size_reason why);
-                  answered = subst (λ (w : NoSize). q.Sizes (bounds_of p (finds_of finds)) (spots_in c) (searches.Unsized (size_reason w)))
+                  answer = searches.Unsized why;
+                  answered = subst (λ (w : NoSize). q.Sizes (bounds_of p (finds_of finds)) (spots_in c) (searches.Unsized w))
                       (same_why h.why why (sym h.says ∙ e)) h.answered;
                   tells = refl;
                 };

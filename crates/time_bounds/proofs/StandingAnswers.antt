@@ -24,10 +24,9 @@ use Rattle.time_bounds.specs.declared.asking.Asked.{Asked}
 use Rattle.time_bounds.specs.declared.candidates.Candidate.{Candidate}
 use Rattle.time_bounds.specs.declared.sizing.Attempt.{Attempt}
 use Rattle.time_bounds.specs.declared.sizing.Attempt.TheVariants as attempts
-use Rattle.time_bounds.specs.Reasons.{size_reason}
 use Rattle.time_bounds.specs.Attempts.{why_by, IsAttempt}
 use Rattle.time_bounds.specs.Candidates.{spots_in}
-use Rattle.time_bounds.specs.ProgramSizes.{IsSizingBy, IsSizingOf, lacks_arms}
+use Rattle.time_bounds.specs.ProgramSizes.{AnswersMembers, AnswersPlaces, lacks_arms}
 use Rattle.time_bounds.specs.EarlierAnswers.{HasGrown, ReasonStands, StandsAt, WasAttempt, WereAttempts, IsStanding}
 use Rattle.time_bounds.specs.TriedRules.{AreAskedOver}
 use Rattle.time_bounds.proofs.GrownBounds.{table_grown}
@@ -37,23 +36,23 @@ some-same : {A : Type 0} (x y : A) → Some x ≡ Some y → x ≡ y
 some-same x y e = cc
 
 -- the reason of a check stands where that of the answer does
-reason-stands : (tab : Table) (a : Sizing) (why : NoSize) (r : Reason) → ReasonStands tab a → why_by a ≡ Some why → IsReasonFor (size_reason why) r
+reason-stands : (tab : Table) (a : Sizing) (why : NoSize) (r : Reason) → ReasonStands tab a → why_by a ≡ Some why → IsReasonFor why r
     → StandsFor tab r
 reason-stands tab (answers.Found needs bound) why r stands says told = absurd stands
 reason-stands tab (answers.Missing m) why r stands says told =
-    subst (StandsFor tab) (sym (subst (λ (w : NoSize). IsReasonFor (size_reason w) r) (sym (some-same (SizeMissing (spot_of m)) why says)) told)) stands
+    subst (StandsFor tab) (sym (subst (λ (w : NoSize). IsReasonFor w r) (sym (some-same (SizeMissing (spot_of m)) why says)) told)) stands
 reason-stands tab (answers.Bent m) why r stands says told =
-    subst (StandsFor tab) (sym (subst (λ (w : NoSize). IsReasonFor (size_reason w) r) (sym (some-same (SizeBent (spot_of m)) why says)) told)) tt
+    subst (StandsFor tab) (sym (subst (λ (w : NoSize). IsReasonFor w r) (sym (some-same (SizeBent (spot_of m)) why says)) told)) tt
 reason-stands tab (answers.Untimed t) why r stands says told =
-    subst (StandsFor tab) (sym (subst (λ (w : NoSize). IsReasonFor (size_reason w) r) (sym (some-same (SizeUntimed t) why says)) told)) stands
+    subst (StandsFor tab) (sym (subst (λ (w : NoSize). IsReasonFor w r) (sym (some-same (SizeUntimed t) why says)) told)) stands
 reason-stands tab (answers.Large n) why r stands says told =
-    subst (StandsFor tab) (sym (subst (λ (w : NoSize). IsReasonFor (size_reason w) r) (sym (some-same (SizeLarge n) why says)) told)) tt
+    subst (StandsFor tab) (sym (subst (λ (w : NoSize). IsReasonFor w r) (sym (some-same (SizeLarge n) why says)) told)) tt
 
 module _ (p : Program) (pivots : ℕ) (old new : Bounds) (grown : HasGrown old new) where
   -- so members have no size for the same reason
   sizing-stands : (looping : Bool) (members : List Member) (a : Sizing) (why : NoSize) → ReasonStands (over new) a → why_by a ≡ Some why
-      → IsSizingBy looping (setting_of p) (over old) members (Unsized (size_reason why))
-      → IsSizingBy looping (setting_of p) (over new) members (Unsized (size_reason why))
+      → AnswersMembers looping (setting_of p) (over old) members (Unsized why)
+      → AnswersMembers looping (setting_of p) (over new) members (Unsized why)
   sizing-stands false [] a why stands says h = absurd h
   sizing-stands false (m ∷ []) a why stands says (r, told, first) = (
     r,
@@ -70,8 +69,8 @@ module _ (p : Program) (pivots : ℕ) (old new : Bounds) (grown : HasGrown old n
   )
 
   sizing-of-stands : (local : Locals) (spots : List Spot) (lacking : Option NoSize) (a : Sizing) (why : NoSize) → ReasonStands (over new) a
-      → why_by a ≡ Some why → IsSizingOf (setting_of p) (over old) local spots lacking (Unsized (size_reason why))
-      → IsSizingOf (setting_of p) (over new) local spots lacking (Unsized (size_reason why))
+      → why_by a ≡ Some why → AnswersPlaces (setting_of p) (over old) local spots lacking (Unsized why)
+      → AnswersPlaces (setting_of p) (over new) local spots lacking (Unsized why)
   sizing-of-stands local spots (Some other) a why stands says h = h
   sizing-of-stands local spots None a why stands says h = record {
     members = h.members;

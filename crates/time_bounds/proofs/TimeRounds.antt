@@ -15,7 +15,7 @@ use Rattle.proof_tree.specs.proof_setting.Setting.{setting_of}
 use Rattle.rank_search.specs.rule_questions.EmptyAnswers.{SaysEmpty}
 use Rattle.rank_search.specs.rule_questions.RuleAnswers.{AreEmptyAnswers, answer_for}
 use Rattle.size_bounds.specs.declared.table.Table.{Table}
-use Rattle.bound_rounds.specs.Keys.{is_untimed, lacks, time_key, rule_numbers}
+use Rattle.bound_rounds.specs.Keys.{lacks, time_key, rule_numbers}
 use Rattle.bound_rounds.specs.Finds as plain
 use Rattle.bound_rounds.specs.Finds.{bounds_of, bound_found, first_of}
 use Rattle.bound_rounds.specs.Searches.{Searches}
@@ -37,7 +37,7 @@ use Rattle.time_bounds.specs.OpenFinds.{AreOpenAfter}
 use Rattle.time_bounds.specs.TriedRules.{AreTried, find_in, finds_in, kept_in, AreAskedOver}
 use Rattle.time_bounds.proofs.FateLaws.{says, shown}
 use Rattle.time_bounds.proofs.OpenFinds.{HasKeysOfRules, open_standing}
-use Rattle.time_bounds.proofs.Rules.{rule_there}
+use Rattle.time_bounds.proofs.RuleNumbers.{rule_there}
 use Rattle.time_bounds.proofs.TriedFinds.{asked_over}
 
 -- what was found of a rule at a position is found of its time

@@ -1,5 +1,5 @@
 -- What is told of a place without a size is so of the program.
-use Rattle.std.proofs.Common.{◌≡◌, ◌⊎◌, inl, inr, ℕ, Bool, true, List, [], length, Option, Some, None, refl}
+use Rattle.std.proofs.Common.{◌≡◌, ℕ, Bool, true, List, [], length, Option, Some, None, refl}
 use Rattle.std.proofs.Common.{sym, subst}
 use Rattle.std.specs.List.{AllByRecursion}
 use Rattle.std.proofs.lemmas.List.Elements.{All-from_recursion, recursion_from_All}
@@ -15,32 +15,30 @@ use Rattle.proof_tree.specs.proof_nodes.Setting.{Setting}
 use Rattle.proof_tree.specs.proof_setting.Setting.{setting_of}
 use Rattle.proof_tree.specs.declared.answer.EmptyAnswer.{EmptyAnswer}
 use Rattle.proof_tree.specs.declared.answer.EmptyAnswer.TheVariants as empties
-use Rattle.proof_tree.specs.declared.answer.Trip.{Trip}
 use Rattle.proof_tree.proofs.proof_nodes.CheckLists.{map-each}
 use Rattle.guard_prep.specs.Prepared.{prepared}
 use Rattle.rank_search.specs.rule_questions.EmptyAnswers.{IsEmptyAnswer}
-use Rattle.rank_search.specs.rule_questions.RuleAnswers.{point_in, trip_in}
+use Rattle.rank_search.specs.rule_questions.RuleAnswers.{point_in}
 use Rattle.local_size.specs.Places.{value_on}
-use Rattle.local_size.specs.LocalAnswers.{Local, HasBound, IsLooseOn, HasTripped, IsOwnTrip, IsEmptyTrip}
+use Rattle.local_size.specs.LocalAnswers.{Local, HasBound, IsLooseOn, HasTripped}
 use Rattle.local_size.proofs.LooseAnswers.{loose-answers}
 use Rattle.rvg_components.specs.Flows.{Locals}
 use Rattle.bound_rounds.specs.Answers.{Lacks, TellsSizing, TellsSize}
 use Rattle.bound_rounds.specs.Components.{IsOneOf}
 use Rattle.bound_rounds.specs.Keys.{Bounds, key, has_key, over}
-use Rattle.bound_rounds.specs.Searches.{NoBound, Sizing, SizedBy, Unsized}
+use Rattle.bound_rounds.specs.Searches.{OfSize, SizeOutcome, SizedBy, Unsized}
 use Rattle.bound_rounds.proofs.Cases.{either}
 use Rattle.bound_rounds.proofs.Keys.{has_key-cases, has_key-none}
 use Rattle.time_bounds.specs.ProgramSearches.{searches_of_program}
 use Rattle.time_bounds.specs.ProgramSizes.{IsLocalOf, AreLocalsOf, loose_reason, trip_reason, first_reason, lacks_arms}
-use Rattle.time_bounds.specs.ProgramSizes.{IsSizingBy, IsJudged, IsSizingOf}
-use Rattle.time_bounds.specs.Reasons.{size_reason}
-use Rattle.time_bounds.specs.SizeWhys.{PointTripsSo, IsComponentOf}
+use Rattle.time_bounds.specs.ProgramSizes.{AnswersMembers, IsJudged, AnswersPlaces}
+use Rattle.time_bounds.specs.SizeWhys.{IsComponentOf}
 use Rattle.time_bounds.specs.SizeWhys.{HasNoSize}
 use Rattle.time_bounds.proofs.ArmlessPlaces.{ReadsNothing, armless_alone}
 use Rattle.time_bounds.proofs.FirstLacks.{from_both, judged_so}
 use Rattle.time_bounds.proofs.MemberLoops.{loop_told}
-use Rattle.time_bounds.proofs.OneAnalysis.{size_reason_back, size_back, read_back}
 use Rattle.time_bounds.proofs.PassedForms.{loose_passes}
+use Rattle.time_bounds.proofs.PlaceAnswers.{loose_answered}
 use Rattle.time_bounds.proofs.RightSizings.{one_of, reason_told, spot_of_rule}
 
 module _ (p : Program) (pivots : ℕ) (valid : IsValid p) where
@@ -62,20 +60,21 @@ module _ (p : Program) (pivots : ℕ) (valid : IsValid p) where
   loose_so m (HasTripped t) is why e = absurd (none_some why e)
   loose_so m (IsLooseOn side ray kept) is why e =
       let here = spot_of_rule p m is.rule is.numbered is.place in
-      let shown = loose-answers.ray p is.rule m pivots is.empty side ray kept valid here is.is_empty_answer is.local in (
+      let found = loose_answered p pivots is.rule m.rule is.numbered m.place side ray kept is.local in
+      let shown = loose-answers.ray p is.rule m pivots found.0 side ray kept valid here found.1 found.2 in (
         (λ j. refl),
         λ b. subst (λ (w : NoSize). HasNoSize p pivots b m.rule m.place w) (some_same (SizeLoose side ray kept) why e)
             record {
               rule = is.rule;
               numbered = is.numbered;
-              straight = is.local.asked;
-              long_ray = (loose-answers.limits p is.rule m pivots is.empty side ray kept valid here is.local).0;
-              long_kept = kept_long is.rule m.rule is.empty kept is.is_empty_answer is.local.point;
+              straight = is.local.0.straight;
+              long_ray = (loose-answers.limits p is.rule m pivots found.0 side ray kept valid here found.2).0;
+              long_kept = kept_long is.rule m.rule found.0 kept found.1 found.2.point;
               from = shown.1;
               along = shown.0;
               passes = loose_passes (prepared is.rule).rows (prepared is.rule).left (value_on side (prepared is.rule) m.place) kept ray
                   shown.1 shown.0;
-              none = loose-answers.none p is.rule m pivots is.empty side ray kept valid here is.is_empty_answer is.local;
+              none = loose-answers.none p is.rule m pivots found.0 side ray kept valid here found.1 found.2;
             },
       )
 
@@ -87,31 +86,8 @@ module _ (p : Program) (pivots : ℕ) (valid : IsValid p) where
   trip_so m (HasTripped x) is why e = (
     (λ j. refl),
     λ b. subst (λ (w : NoSize). HasNoSize p pivots b m.rule m.place w) (some_same (SizeTripped x) why e)
-        record { rule = is.rule; numbered = is.numbered; trips = cases is.local },
+        record { rule = is.rule; numbered = is.numbered; trips = is.local },
   )
-    where
-      emptiness : (a : EmptyAnswer) → IsEmptyAnswer (prepared is.rule) m.rule pivots a → trip_in (Some a) ≡ Some x
-          → IsEmptyAnswer (prepared is.rule) m.rule pivots (empties.Tripped x)
-      emptiness (empties.Empty n) h k = absurd (none_some x k)
-      emptiness (empties.Point z) h k = absurd (none_some x k)
-      emptiness (empties.Tripped u) h k =
-          subst (λ (v : Trip). IsEmptyAnswer (prepared is.rule) m.rule pivots (empties.Tripped v)) (some_same u x k) h
-
-      cases : IsOwnTrip (prepared is.rule) m pivots x ⊎ IsEmptyTrip (prepared is.rule) m.place pivots is.empty x
-          → IsOwnTrip (prepared is.rule) (key m.rule m.place) pivots x
-          ⊎ PointTripsSo p pivots m.rule m.place is.rule x
-      cases (inl own) = inl own
-      cases (inr h) = inr record {
-        straight = h.asked;
-        side = h.lacks.0;
-        ray = h.lacks.1.0;
-        lacks = h.lacks.1.1;
-        trips = record {
-          rule = is.rule;
-          numbered = is.numbered;
-          trips = emptiness is.empty is.is_empty_answer h.trip;
-        };
-      }
 
   module _ (b : Bounds) (t i : ℕ) where
     module _ (cs : List (List Spot)) (are : (searches_of_program p pivots).AreComponents cs) (keys : List Spot)
@@ -123,7 +99,7 @@ module _ (p : Program) (pivots : ℕ) (valid : IsValid p) where
       places = recursion_from_All Place keys locals
 
       -- the members of the place's component
-      component_of : (tab : Table) (answer : Sizing) (h : IsJudged s tab local keys answer) → IsComponentOf p pivots t i h.members
+      component_of : (tab : Table) (answer : SizeOutcome) (h : IsJudged s tab local keys answer) → IsComponentOf p pivots t i h.members
       component_of tab answer h = record {
         components = cs;
         are_components = are;
@@ -166,26 +142,25 @@ module _ (p : Program) (pivots : ℕ) (valid : IsValid p) where
               lacking_so x.0 x.1 (local x.0.rule x.0.place) x.2 why (trip_so x.0 (local x.0.rule x.0.place) x.2 why x.3)
 
       sizing_so : (why : NoSize) (o : Option NoSize) → lacks_arms local keys ≡ o
-          → IsSizingOf s (over b) local keys o (Unsized (size_reason why)) → HasNoSize p pivots b t i why
+          → AnswersPlaces s (over b) local keys o (Unsized why) → HasNoSize p pivots b t i why
       sizing_so why (Some w) e h =
-          let same : size_reason why ≡ size_reason w = cc in
-          subst (λ (v : NoSize). HasNoSize p pivots b t i v) (sym (read_back size_reason_back size_reason size_back why w same))
-          (lacks_so w e)
+          let same : why ≡ w = cc in
+          subst (λ (v : NoSize). HasNoSize p pivots b t i v) (sym same) (lacks_so w e)
       sizing_so why None e h =
-          judged_so p pivots b t i why h.members (component_of (over b) (Unsized (size_reason why)) h)
-          (subst (λ (v : Bool). IsSizingBy v s (over b) h.members (Unsized (size_reason why)))
+          judged_so p pivots b t i why h.members (component_of (over b) (Unsized why) h)
+          (subst (λ (v : Bool). AnswersMembers v s (over b) h.members (Unsized why))
           (sym (loop_told s local keys h.members h.are_members)) h.sizing)
 
     -- so it is with what is told of a component of the place
     pub place_so : (cs : List (List Spot)) → (searches_of_program p pivots).AreComponents cs → (keys : List Spot) → IsOneOf cs keys
         → has_key keys t i ≡ true → (why : NoSize)
-        → TellsSize (searches_of_program p pivots) s b keys (Lacks (size_reason why)) → HasNoSize p pivots b t i why
+        → TellsSize (searches_of_program p pivots) s b keys (Lacks (OfSize why)) → HasNoSize p pivots b t i why
     place_so cs are keys one has why h = go h.answer h.answered h.tells
       where
-        go : (answer : Sizing) → (searches_of_program p pivots).Sizes b keys answer
-            → TellsSizing s b answer (Lacks (size_reason why)) → HasNoSize p pivots b t i why
+        go : (answer : SizeOutcome) → (searches_of_program p pivots).Sizes b keys answer
+            → TellsSizing s b answer (Lacks (OfSize why)) → HasNoSize p pivots b t i why
         go (SizedBy node) answered told = absurd (let none : ⊥ = cc in none)
         go (Unsized v) (local, locals, is) told =
-            let same : size_reason why ≡ v = cc in
+            let same : why ≡ v = cc in
             sizing_so cs are keys one has local locals why (lacks_arms local keys) refl
-            (subst (λ (w : NoBound). IsSizingOf s (over b) local keys (lacks_arms local keys) (Unsized w)) (sym same) is)
+            (subst (λ (w : NoSize). AnswersPlaces s (over b) local keys (lacks_arms local keys) (Unsized w)) (sym same) is)

@@ -29,16 +29,18 @@ use Rattle.bound_rounds.specs.Answers.{Lacks, TellsRanking, TellsTime}
 use Rattle.bound_rounds.specs.Keys.{Bounds, over}
 use Rattle.bound_rounds.specs.Right.{IsFirstTrip, IsGapOf, IsQuestion}
 use Rattle.bound_rounds.specs.Searches.{EmptyTripped, Ranking, Ranked, Unranked}
-use Rattle.bound_rounds.specs.Searches.{RankTripped}
-use Rattle.bound_rounds.specs.Searches as searches
+use Rattle.bound_rounds.specs.Searches.{RankTripped, OfTime}
 use Rattle.bound_rounds.specs.Sets.{IsSetOfRule, AreShutOf}
 use Rattle.bound_rounds.proofs.AcceptedRanks.{is_question}
-use Rattle.time_bounds.specs.ProgramRules.{emptiness_of, ranking_of}
+use Rattle.time_bounds.specs.ProgramRules.{emptiness_of, ranking_of, EmptyTripsSo}
 use Rattle.time_bounds.specs.ProgramSearches.{searches_of_program}
-use Rattle.time_bounds.specs.Reasons.{time_reason}
-use Rattle.time_bounds.specs.TimeWhys.{EmptyTripsSo, FirstTripsSo, IsSought, NoFunctionRanks, PointsTripSo, RankTripsSo}
+use Rattle.time_bounds.specs.TimeWhys.{FirstTripsSo, IsSought, NoFunctionRanks, PointsTripSo, RankTripsSo}
 use Rattle.time_bounds.specs.TimeWhys.{HasNoTime}
 use Rattle.time_bounds.proofs.RightSearches.{first_told, ranking_right}
+
+-- one reason of a time is told in one way
+one_time : (v w : NoTime) → Lacks (OfTime v) ≡ Lacks (OfTime w) → v ≡ w
+one_time v w e = cc
 
 module _ (p : Program) (pivots : ℕ) where
   -- an answer of emptiness that trips is the trip of the rule's own linear program
@@ -128,16 +130,16 @@ module _ (p : Program) (pivots : ℕ) where
 
     -- what each answer tells
     told_so : (answer : Ranking) → (searches_of_program p pivots).Ranks set t shut answer → (why : NoTime)
-        → TellsRanking (setting_of p) b answer (Lacks (time_reason why)) → HasNoTime p pivots b t why
+        → TellsRanking (setting_of p) b answer (Lacks (OfTime why)) → HasNoTime p pivots b t why
     told_so (Ranked node) h (NoFunction g) told =
-        let e : searches.NoFunction g ≡ searches.TooLarge (large_nodes (setting_of p).rewrite
-        (rank_time (setting_of p) node (over b))) = told.1 in absurd (let none : ⊥ = cc in none)
+        let e : OfTime (NoFunction g) ≡ OfTime (TimeLarge (large_nodes (setting_of p).rewrite
+        (rank_time (setting_of p) node (over b)))) = told.1 in absurd (let none : ⊥ = cc in none)
     told_so (Ranked node) h (TimeTripped x) told =
-        let e : searches.Tripped x ≡ searches.TooLarge (large_nodes (setting_of p).rewrite
-        (rank_time (setting_of p) node (over b))) = told.1 in absurd (let none : ⊥ = cc in none)
+        let e : OfTime (TimeTripped x) ≡ OfTime (TimeLarge (large_nodes (setting_of p).rewrite
+        (rank_time (setting_of p) node (over b)))) = told.1 in absurd (let none : ⊥ = cc in none)
     told_so (Ranked node) h (TimeLarge n) told =
-        let e : searches.TooLarge n ≡ searches.TooLarge (large_nodes (setting_of p).rewrite
-        (rank_time (setting_of p) node (over b))) = told.1 in
+        let e : OfTime (TimeLarge n) ≡ OfTime (TimeLarge (large_nodes (setting_of p).rewrite
+        (rank_time (setting_of p) node (over b)))) = told.1 in
         record {
           set = set;
           shut = shut;
@@ -149,41 +151,17 @@ module _ (p : Program) (pivots : ℕ) where
           nodes = same_number n _ e;
         }
       where
-        same_number : (k m : ℕ) → searches.TooLarge k ≡ searches.TooLarge m → k ≡ m
+        same_number : (k m : ℕ) → OfTime (TimeLarge k) ≡ OfTime (TimeLarge m) → k ≡ m
         same_number k m e = cc
-    told_so (Unranked g) h why told = by why lacking
-      where
-        one : (v w : searches.NoBound) → Lacks v ≡ Lacks w → v ≡ w
-        one v w e = cc
-
-        lacking : time_reason why ≡ searches.NoFunction g
-        lacking = one (time_reason why) (searches.NoFunction g) told
-
-        by : (v : NoTime) → time_reason v ≡ searches.NoFunction g → HasNoTime p pivots b t v
-        by (NoFunction f) e =
-            let same : f ≡ g = cc in
-            subst (λ (k : Gap). NoFunctionRanks p b t k) (sym same)
-            (none_ranks g (ranking_right p pivots valid set t shut (Unranked g) question h).0)
-        by (TimeTripped x) e = absurd (let none : ⊥ = cc in none)
-        by (TimeLarge n) e = absurd (let none : ⊥ = cc in none)
-    told_so (RankTripped x) h why told = by why lacking
-      where
-        one : (v w : searches.NoBound) → Lacks v ≡ Lacks w → v ≡ w
-        one v w e = cc
-
-        lacking : time_reason why ≡ searches.Tripped x
-        lacking = one (time_reason why) (searches.Tripped x) told
-
-        by : (v : NoTime) → time_reason v ≡ searches.Tripped x → HasNoTime p pivots b t v
-        by (NoFunction f) e = absurd (let none : ⊥ = cc in none)
-        by (TimeTripped y) e =
-            let same : y ≡ x = cc in
-            subst (λ (z : Trip). RankTripsSo p pivots b t z) (sym same) (trip_so x h)
-        by (TimeLarge n) e = absurd (let none : ⊥ = cc in none)
+    told_so (Unranked g) h why told =
+        subst (λ (v : NoTime). HasNoTime p pivots b t v) (sym (one_time why (NoFunction g) told))
+        (none_ranks g (ranking_right p pivots valid set t shut (Unranked g) question h).0)
+    told_so (RankTripped x) h why told =
+        subst (λ (v : NoTime). HasNoTime p pivots b t v) (sym (one_time why (TimeTripped x) told)) (trip_so x h)
 
   -- so it is with what is told of a rule
   pub time_so : IsValid p → (b : Bounds) → IsKnown (b 0 0) → (t : ℕ) → IsRule p t → (why : NoTime)
-      → TellsTime (searches_of_program p pivots) (setting_of p) b t (Lacks (time_reason why)) → HasNoTime p pivots b t why
+      → TellsTime (searches_of_program p pivots) (setting_of p) b t (Lacks (OfTime why)) → HasNoTime p pivots b t why
   time_so valid b begun t rule why h =
       told_so valid b begun t rule h.asked.set h.asked.shut
       (record { is_set = h.asked.is_set; are_shut = h.asked.are_shut }) h.asked.answer h.asked.answered why h.tells

@@ -14,7 +14,7 @@ use Rattle.bound_rounds.specs.Keys.{Bounds}
 use Rattle.bound_rounds.specs.Rounds.{IsAskedFor, IsNoBound}
 use Rattle.time_bounds.specs.Analysis.{IsAnalysis}
 use Rattle.time_bounds.specs.ProgramSearches.{searches_of_program}
-use Rattle.time_bounds.specs.Reasons.{time_reason, size_reason}
+use Rattle.bound_rounds.specs.Searches.{OfTime, OfSize}
 use Rattle.time_bounds.specs.SaidBounds.{bounds_said}
 use Rattle.time_bounds.specs.SizeWhys.{HasNoSize}
 use Rattle.time_bounds.specs.TimeWhys.{HasNoTime}
@@ -29,27 +29,27 @@ module _ (p : Program) (pivots : ℕ) (valid : IsValid p) (fs : List Find) where
   begun = (Constant 1, refl)
 
   -- why a rule has no time with the finds
-  no_time_so : (t : ℕ) (why : NoTime) → IsNoBound (searches_of_program p pivots) (setting_of p) fs t 0 (time_reason why)
+  no_time_so : (t : ℕ) (why : NoTime) → IsNoBound (searches_of_program p pivots) (setting_of p) fs t 0 (OfTime why)
       → HasNoTime p pivots (bounds_of p fs) t why
   no_time_so t why h = go h.target h.asked h.tells
     where
       go : (g : Target) → IsAskedFor (searches_of_program p pivots) (setting_of p) t 0 g
-          → Tells (searches_of_program p pivots) (setting_of p) (bounds_of p fs) g (Lacks (time_reason why))
+          → Tells (searches_of_program p pivots) (setting_of p) (bounds_of p fs) g (Lacks (OfTime why))
           → HasNoTime p pivots (bounds_of p fs) t why
       go (TimeOf u) asked tells =
           time_so p pivots valid (bounds_of p fs) begun t asked.0 why
-          (subst (λ (n : ℕ). TellsTime (searches_of_program p pivots) (setting_of p) (bounds_of p fs) n (Lacks (time_reason why)))
+          (subst (λ (n : ℕ). TellsTime (searches_of_program p pivots) (setting_of p) (bounds_of p fs) n (Lacks (OfTime why)))
           asked.1 tells)
       go (SizesOf keys) asked tells = absurd asked
 
   -- why a place has no size with them
   no_size_so : (t j : ℕ) (why : NoSize)
-      → IsNoBound (searches_of_program p pivots) (setting_of p) fs t (suc j) (size_reason why)
+      → IsNoBound (searches_of_program p pivots) (setting_of p) fs t (suc j) (OfSize why)
       → HasNoSize p pivots (bounds_of p fs) t (suc j) why
   no_size_so t j why h = go h.target h.asked h.tells
     where
       go : (g : Target) → IsAskedFor (searches_of_program p pivots) (setting_of p) t (suc j) g
-          → Tells (searches_of_program p pivots) (setting_of p) (bounds_of p fs) g (Lacks (size_reason why))
+          → Tells (searches_of_program p pivots) (setting_of p) (bounds_of p fs) g (Lacks (OfSize why))
           → HasNoSize p pivots (bounds_of p fs) t (suc j) why
       go (TimeOf u) asked tells = absurd asked
       go (SizesOf keys) (cs, are, one, has) tells =

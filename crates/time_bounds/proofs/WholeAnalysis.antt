@@ -33,7 +33,7 @@ use Rattle.time_bounds.specs.Candidates.{spots_in, AreCandidatesOf}
 use Rattle.time_bounds.specs.SizeSaid.{placed, said_table, put_whys}
 use Rattle.time_bounds.specs.EarlierAnswers.{HasGrown, WasAttempt, WereAttempts}
 use Rattle.time_bounds.specs.TimesSaid.{AreTimesOver}
-use Rattle.time_bounds.proofs.FoundIsAnalysis.{IsAnalysisWith, analysis_of}
+use Rattle.time_bounds.proofs.AnalysisOfFinds.{IsAnalysisWith, analysis_of}
 use Rattle.time_bounds.proofs.SaidSizes.{rows_said, said_right, said_places, many}
 use Rattle.model.proofs.Cases.{none_some}
 

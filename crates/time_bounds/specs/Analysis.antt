@@ -1,42 +1,39 @@
 -- What an analysis says of a program.
-use Rattle.std.specs.Prelude.{◌≡◌, ℕ, suc, List, [], ◌∷◌, length, map, Option, Some, None, ⊤}
+use Rattle.std.specs.Prelude.{◌≡◌, ℕ, List, length, map, Option, Some, None}
 use Rattle.model.specs.Bounds.{Bound}
 use Rattle.model.specs.Programs.{Program, arity_of}
 use Rattle.outcome.specs.Reports.{Time, Timed, Untimed, Size, Sized, Unsized, Report}
 use Rattle.proof_tree.specs.proof_setting.Setting.{setting_of}
 use Rattle.bound_rounds.specs.Finds.{Find, bounds_of}
-use Rattle.bound_rounds.specs.Searches.{Searches}
+use Rattle.bound_rounds.specs.Searches.{Searches, OfTime, OfSize}
 use Rattle.bound_rounds.specs.Rounds.{IsLast, IsNoBound}
+use Rattle.time_bounds.specs.Numbered.{EachNumbered}
 use Rattle.time_bounds.specs.ProgramSearches.{searches_of_program}
-use Rattle.time_bounds.specs.Reasons.{time_reason, size_reason}
 use Rattle.time_bounds.specs.Totals.{total_of}
 
 -- what is said of the time of rule t is what these finds of the program say: a time that is known with them, or why
 -- none is
 abbrev pub IsTimeOf : Searches → Program → List Find → ℕ → Time → Type 0
 IsTimeOf q p fs t (Timed b) = bounds_of p fs t 0 ≡ Some b
-IsTimeOf q p fs t (Untimed why) = IsNoBound q (setting_of p) fs t 0 (time_reason why)
+IsTimeOf q p fs t (Untimed why) = IsNoBound q (setting_of p) fs t 0 (OfTime why)
 
 -- so it is of each rule from k on, in order
 abbrev pub AreTimesOf : Searches → Program → List Find → ℕ → List Time → Type 0
-AreTimesOf q p fs k [] = ⊤
-AreTimesOf q p fs k (x ∷ times) = IsTimeOf q p fs k x × AreTimesOf q p fs (suc k) times
+AreTimesOf q p fs k times = EachNumbered (IsTimeOf q p fs) k times
 
 -- what is said of the size of a place after a rule is what these finds say: a size that is known with them, or why none
 -- is
 abbrev pub IsSizeOf : Searches → Program → List Find → ℕ → ℕ → Size → Type 0
 IsSizeOf q p fs t i (Sized b) = bounds_of p fs t i ≡ Some b
-IsSizeOf q p fs t i (Unsized why) = IsNoBound q (setting_of p) fs t i (size_reason why)
+IsSizeOf q p fs t i (Unsized why) = IsNoBound q (setting_of p) fs t i (OfSize why)
 
 -- so it is of each place of rule t from i on, in order
 abbrev pub AreSizesOf : Searches → Program → List Find → ℕ → ℕ → List Size → Type 0
-AreSizesOf q p fs t i [] = ⊤
-AreSizesOf q p fs t i (x ∷ sizes) = IsSizeOf q p fs t i x × AreSizesOf q p fs t (suc i) sizes
+AreSizesOf q p fs t i sizes = EachNumbered (IsSizeOf q p fs t) i sizes
 
 -- and of the places of each rule from t on, in order
 abbrev pub AreSizeRowsOf : Searches → Program → List Find → ℕ → List (List Size) → Type 0
-AreSizeRowsOf q p fs t [] = ⊤
-AreSizeRowsOf q p fs t (row ∷ rows) = AreSizesOf q p fs t 1 row × AreSizeRowsOf q p fs (suc t) rows
+AreSizeRowsOf q p fs t rows = EachNumbered (λ u row. AreSizesOf q p fs u 1 row) t rows
 
 -- the bound, where there is one
 abbrev pub bound_in : Time → Option Bound

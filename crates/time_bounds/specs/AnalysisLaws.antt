@@ -6,10 +6,11 @@ use Rattle.outcome.specs.Views.{report_of}
 use Rattle.outcome.specs.declared.entry.TimeEntry.{TimeEntry}
 use Rattle.outcome.specs.declared.entry.TimeEntry.TheVariants as times
 use Rattle.outcome.specs.declared.entry.SizeEntry.{SizeEntry}
-use Rattle.outcome.specs.declared.entry.SizeEntry.TheVariants as sizes
 use Rattle.outcome.specs.declared.outcome_of.Outcome.{Outcome}
 use Rattle.proof_tree.specs.AnswerViews.{gap_of}
 use Rattle.proof_tree.specs.Views.{proof_of}
+use Rattle.size_bounds.specs.Tables.{lemma_stored}
+use Rattle.time_bounds.specs.Numbered.{size_stored}
 use Rattle.time_bounds.specs.Analysis.{IsAnalysis}
 use Rattle.time_bounds.specs.AnalysisLemmas.{HasLemmas}
 
@@ -22,13 +23,7 @@ number_of_time (times.Large n) = 0
 
 -- the number that what is said of a size carries: that of its lemma; 0 where it carries none
 abbrev pub number_of_size : SizeEntry → ℕ
-number_of_size (sizes.Known s) = s.lemma
-number_of_size (sizes.Loose l) = 0
-number_of_size (sizes.Tripped x) = 0
-number_of_size (sizes.Missing m) = 0
-number_of_size (sizes.Bent m) = 0
-number_of_size (sizes.Untimed r) = 0
-number_of_size (sizes.Large n) = 0
+number_of_size x = lemma_stored (size_stored x)
 
 -- two outcomes are one as plain data: they have the same report, the same lemmas and the same gaps, in order, and what
 -- they say of each time and of each size carries the same number

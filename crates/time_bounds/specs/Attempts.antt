@@ -25,7 +25,6 @@ use Rattle.time_bounds.specs.declared.sizing.Attempt.{Attempt}
 use Rattle.time_bounds.specs.declared.sizing.Attempt.TheVariants.{Known, Found, Armless, Failed}
 use Rattle.time_bounds.specs.Candidates.{spots_in}
 use Rattle.time_bounds.specs.ProgramSearches.{searches_of_program}
-use Rattle.time_bounds.specs.Reasons.{size_reason}
 
 -- why there is no size, where there is none
 abbrev pub why_in : Size → Option NoSize
@@ -58,7 +57,7 @@ pub record LacksSize (p : Program) (pivots : ℕ) (b : Bounds) (c : Candidate) (
   pub unsized : are_open b (spots_in c) ≡ true
   pub why : NoSize
   pub says : why_of c x ≡ Some why
-  pub answered : (searches_of_program p pivots).Sizes b (spots_in c) (searches.Unsized (size_reason why))
+  pub answered : (searches_of_program p pivots).Sizes b (spots_in c) (searches.Unsized why)
 
 -- what a round made of a candidate over bounds is right: its places had sizes; or it has one now, or none
 abbrev pub IsAttempt : Program → ℕ → Bounds → Candidate → Attempt → Type 0

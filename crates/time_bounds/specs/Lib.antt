@@ -1,8 +1,9 @@
 -- the total of all times, and what it is worth
 pub mod Totals
 pub mod Laws
+-- what is said in order, and the numbers of lemmas
+pub mod Numbered
 -- what is answered of a program, and the searches that it makes
-pub mod Reasons
 pub mod ProgramRules
 pub mod ProgramSizes
 pub mod ProgramSearches

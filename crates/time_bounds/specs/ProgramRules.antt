@@ -5,6 +5,7 @@ use Rattle.guard_prep.specs.Prepared.{prepared}
 use Rattle.proof_tree.specs.proof_nodes.Gaps.{SymbolPlace}
 use Rattle.proof_tree.specs.declared.answer.EmptyAnswer.{EmptyAnswer}
 use Rattle.proof_tree.specs.declared.answer.EmptyAnswer.TheVariants as empties
+use Rattle.proof_tree.specs.declared.answer.Trip.{Trip}
 use Rattle.proof_tree.specs.Views.{rank_of}
 use Rattle.proof_tree.specs.AnswerViews.{scaled_of, gap_of}
 use Rattle.rank_search.specs.declared.answer.RankAnswer.{RankAnswer}
@@ -36,6 +37,12 @@ IsEmptinessOf p pivots t e = (r : Rule) × (rule_at p t ≡ Some r)
 -- the rule is empty: its rows have no point, as these multipliers show
 abbrev pub IsEmptyRule : Program → ℕ → ℕ → Type 0
 IsEmptyRule p pivots t = (multipliers : List ℕ) × IsEmptinessOf p pivots t (NoPoint multipliers)
+
+-- the linear program which asks whether the rows of a rule have a point passes this limit
+pub record EmptyTripsSo (p : Program) (pivots t : ℕ) (x : Trip) : Type 0 where
+  pub rule : Rule
+  pub numbered : rule_at p t ≡ Some rule
+  pub trips : IsEmptyAnswer (prepared rule) t pivots (empties.Tripped x)
 
 -- this is answered to the rank question of a set, a rule of it and shut places
 abbrev pub IsRankingOf : Program → ℕ → List ℕ → ℕ → List SymbolPlace → Ranking → Type 0

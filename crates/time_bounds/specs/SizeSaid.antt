@@ -6,7 +6,6 @@ use Rattle.outcome.specs.Reports.{NoSize, Size, Sized, Unsized}
 use Rattle.outcome.specs.Views.{size_of}
 use Rattle.outcome.specs.declared.entry.Stored.{Stored}
 use Rattle.outcome.specs.declared.entry.SizeEntry.{SizeEntry}
-use Rattle.outcome.specs.declared.entry.SizeEntry.TheVariants as entries
 use Rattle.proof_tree.specs.proof_nodes.Nodes.{Spot}
 use Rattle.size_bounds.specs.declared.table.Table.{Table}
 use Rattle.size_bounds.specs.Tables.{entry_at, row_at, lemma_stored, number_at}
@@ -14,6 +13,7 @@ use Rattle.time_bounds.specs.declared.candidates.Candidate.{Candidate}
 use Rattle.time_bounds.specs.declared.sizing.Attempt.{Attempt}
 use Rattle.time_bounds.specs.Candidates.{spots_in}
 use Rattle.time_bounds.specs.Attempts.{why_of}
+use Rattle.time_bounds.specs.Numbered.{size_stored, CarriesNumber}
 use Rattle.bound_book.specs.ByKey.{rows_of, put_place}
 
 -- what stands at a place after a rule; places count from 1
@@ -63,27 +63,19 @@ AreThere [] = ⊤
 AreThere (None ∷ os) = ⊥
 AreThere (Some a ∷ os) = AreThere os
 
--- an entry that is a known size carries this number
-abbrev pub CarriesNumber : ℕ → SizeEntry → Type 0
-CarriesNumber n (entries.Known s) = s.lemma ≡ n
-CarriesNumber n (entries.Loose l) = ⊤
-CarriesNumber n (entries.Tripped t) = ⊤
-CarriesNumber n (entries.Missing m) = ⊤
-CarriesNumber n (entries.Bent m) = ⊤
-CarriesNumber n (entries.Untimed r) = ⊤
-CarriesNumber n (entries.Large k) = ⊤
-
+-- an entry carries this number, where it is there
 abbrev pub CarriesIfThere : ℕ → Option SizeEntry → Type 0
 CarriesIfThere n None = ⊤
-CarriesIfThere n (Some e) = CarriesNumber n e
+CarriesIfThere n (Some e) = CarriesNumber n (size_stored e)
 
 -- the known sizes of a row carry the numbers of what is stored there
 pub record CarryRow (row : List (Option Stored)) (said : List (Option SizeEntry)) : Type 0 where
-  pub each : (i : ℕ) (e : SizeEntry) → entry_at said i ≡ Some e → CarriesNumber (lemma_stored (entry_at row i)) e
+  pub each : (i : ℕ) (e : SizeEntry) → entry_at said i ≡ Some e
+      → CarriesNumber (lemma_stored (entry_at row i)) (size_stored e)
 
 -- so do those of rows, place by place
 pub record CarryPlaces (tab : Table) (said : List (List (Option SizeEntry))) : Type 0 where
-  pub each : (t i : ℕ) (e : SizeEntry) → placed said t i ≡ Some e → CarriesNumber (number_at tab t i) e
+  pub each : (t i : ℕ) (e : SizeEntry) → placed said t i ≡ Some e → CarriesNumber (number_at tab t i) (size_stored e)
 
 -- rows keep that
 pub record KeepPlaces (old new : List (List (Option SizeEntry))) : Type 0 where

@@ -1,5 +1,5 @@
 -- Why a place after a rule has no size, as sentences about the program.
-use Rattle.std.specs.Prelude.{◌≡◌, ◌⊎◌, ℕ, ◌-◌, ◌≤◌, ◌||◌, Bool, true, false, List, [], ◌∷◌, length, map, ℤ, pos}
+use Rattle.std.specs.Prelude.{◌≡◌, ℕ, ◌-◌, ◌≤◌, ◌||◌, Bool, true, false, List, [], ◌∷◌, length, map, ℤ, pos}
 use Rattle.std.specs.Prelude.{◌+ℤ◌, ◌*ℤ◌, ◌<ℤ◌, Some, None}
 use Rattle.std.specs.List.{All, Contains}
 use Rattle.model.specs.Bounds.{Bound, Constant}
@@ -22,15 +22,14 @@ use Rattle.proof_tree.specs.proof_nodes.Nodes.{Spot, Member}
 use Rattle.proof_tree.specs.proof_nodes.Setting.{Setting}
 use Rattle.proof_tree.specs.proof_setting.Setting.{setting_of}
 use Rattle.proof_tree.specs.declared.answer.Trip.{Trip}
-use Rattle.local_size.specs.LocalAnswers.{HasBound, LacksForm, IsOwnTrip}
+use Rattle.local_size.specs.LocalAnswers.{HasBound}
 use Rattle.local_size.specs.Places.{value_on, is_polynomial_at}
 use Rattle.bound_rounds.specs.Components.{IsOneOf}
 use Rattle.bound_rounds.specs.Keys.{Bounds, key, has_key, over}
 use Rattle.bound_rounds.specs.Loops.{do_loop}
-use Rattle.bound_rounds.specs.Searches.{NoBound, Missing, Bent, Untimed, TooLarge, Unsized}
+use Rattle.bound_rounds.specs.Searches.{Unsized}
 use Rattle.time_bounds.specs.ProgramSearches.{searches_of_program}
-use Rattle.time_bounds.specs.ProgramSizes.{IsLocalOf, IsSizingBy}
-use Rattle.time_bounds.specs.TimeWhys.{EmptyTripsSo}
+use Rattle.time_bounds.specs.ProgramSizes.{IsLocalOf, AnswersMembers, TripsAt}
 
 -- the point that lies so often the ray from a point, over the same denominator: its numerators
 abbrev pub moved : ScaledPoint → List ℤ → ℕ → ℕ → ℤ
@@ -61,20 +60,11 @@ pub record PassesEveryForm (p : Program) (t i : ℕ) (side : Side) (ray : List �
   pub passes : PassesForms (prepared rule).rows (prepared rule).left (value_on side (prepared rule) i) kept ray
   pub none : HasNone (prepared rule).rows (prepared rule).left (value_on side (prepared rule) i) Affine
 
--- no linear program of a place passes a limit, and on a side none comes to a form; but it isn't known that the rule has
--- a point: the linear program which asks for it passes this limit
-pub record PointTripsSo (p : Program) (pivots t i : ℕ) (rule : Rule) (x : Trip) : Type 0 where
-  pub straight : is_polynomial_at (prepared rule) i ≡ false
-  pub side : Side
-  pub ray : List ℤ
-  pub lacks : LacksForm (prepared rule) i pivots side ray
-  pub trips : EmptyTripsSo p pivots t x
-
 -- the first linear program of a place that passes a limit passes this one, or the one for a point does
 pub record PlaceTripsSo (p : Program) (pivots t i : ℕ) (x : Trip) : Type 0 where
   pub rule : Rule
   pub numbered : rule_at p t ≡ Some rule
-  pub trips : IsOwnTrip (prepared rule) (key t i) pivots x ⊎ PointTripsSo p pivots t i rule x
+  pub trips : TripsAt p pivots (prepared rule) (key t i) x
 
 -- the places that have one size with a place, since values flow from it into them and back, each with its local bounds:
 -- the members of its component in the graph of places
@@ -86,8 +76,8 @@ pub record IsComponentOf (p : Program) (pivots t i : ℕ) (members : List Member
   pub bounds : All (λ m. IsLocalOf p pivots m.spot.rule m.spot.place (HasBound m.local)) members
 
 -- of what the size of members needs over these bounds, this is the first that is missing
-abbrev pub LacksFirst : Setting → Bounds → List Member → NoBound → Type 0
-LacksFirst s b members why = IsSizingBy (do_loop s members) s (over b) members (Unsized why)
+abbrev pub LacksFirst : Setting → Bounds → List Member → NoSize → Type 0
+LacksFirst s b members why = AnswersMembers (do_loop s members) s (over b) members (Unsized why)
 
 -- a member takes its value from a place: the rule of the place can come just before the member's rule, and a local
 -- bound of the member reads the place
@@ -106,7 +96,7 @@ pub record RestsOnSize (p : Program) (pivots : ℕ) (b : Bounds) (t i : ℕ) (m 
   pub takes : TakesFrom (setting_of p) member m
   pub outside : has_key (map (λ n. n.spot) members) m.rule m.place ≡ false
   pub missing : b m.rule m.place ≡ None
-  pub first : LacksFirst (setting_of p) b members (Missing m)
+  pub first : LacksFirst (setting_of p) b members (SizeMissing m)
 
 -- in a loop the value at this place multiplies members: its local bound is a polynomial of degree 2 or more that reads
 -- one
@@ -118,7 +108,7 @@ pub record BendsAt (p : Program) (pivots : ℕ) (b : Bounds) (t i : ℕ) (m : Sp
   pub same : member.spot ≡ m
   pub loop : do_loop (setting_of p) members ≡ true
   pub bent : ¬ (IsStraight (setting_of p) members member)
-  pub first : LacksFirst (setting_of p) b members (Bent m)
+  pub first : LacksFirst (setting_of p) b members (SizeBent m)
 
 -- in a loop the value grows with each use of this rule, which multiplies it or adds to it; and the rule has no time
 pub record GrowsUntimed (p : Program) (pivots : ℕ) (b : Bounds) (t i u : ℕ) : Type 0 where
@@ -129,7 +119,7 @@ pub record GrowsUntimed (p : Program) (pivots : ℕ) (b : Bounds) (t i u : ℕ) 
   pub grows : (multiplies (flows (setting_of p) members (over b).size) u
       || adds (setting_of p) (flows (setting_of p) members (over b).size) u) ≡ true
   pub missing : b u 0 ≡ None
-  pub first : LacksFirst (setting_of p) b members (Untimed u)
+  pub first : LacksFirst (setting_of p) b members (SizeUntimed u)
 
 -- the size that members compose, where they loop and where there is but one
 abbrev pub composed_size : Bool → Setting → Table → List Member → Bound
@@ -145,7 +135,7 @@ pub record SizeIsLarge (p : Program) (pivots : ℕ) (b : Bounds) (t i n : ℕ) :
   pub composed : size ≡ composed_size (do_loop (setting_of p) members) (setting_of p) (over b) members
   pub large : ¬ (IsSmallComposed (setting_of p).rewrite size)
   pub nodes : n ≡ large_nodes (setting_of p).rewrite size
-  pub first : LacksFirst (setting_of p) b members (TooLarge n)
+  pub first : LacksFirst (setting_of p) b members (SizeLarge n)
 
 -- what each reason says of a place without a size, where these bounds are known
 abbrev pub HasNoSize : Program → ℕ → Bounds → ℕ → ℕ → NoSize → Type 0

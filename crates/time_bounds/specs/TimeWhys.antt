@@ -1,9 +1,8 @@
 -- Why a rule has no time, as sentences about the program.
-use Rattle.std.specs.Prelude.{◌≡◌, ◌⊎◌, ℕ, List, [], ◌∷◌, Some}
-use Rattle.model.specs.Programs.{Program, Rule, rule_at}
+use Rattle.std.specs.Prelude.{◌≡◌, ◌⊎◌, ℕ, List, [], ◌∷◌}
+use Rattle.model.specs.Programs.{Program}
 use Rattle.its_model.specs.linear_forms.LinearProgram.{HasSolution}
 use Rattle.its_model.specs.linear_forms.RuleQuestions.{RankedSet}
-use Rattle.guard_prep.specs.Prepared.{prepared}
 use Rattle.outcome.specs.Reports.{NoTime, NoFunction, TimeTripped, TimeLarge}
 use Rattle.proof_tree.specs.rule_forms.Ranking.{NoRank}
 use Rattle.proof_tree.specs.proof_nodes.AcceptsRank.{rank_time}
@@ -13,23 +12,17 @@ use Rattle.proof_tree.specs.proof_nodes.Gaps.{SymbolPlace, Gap}
 use Rattle.proof_tree.specs.proof_nodes.Limits.{IsSmallComposed}
 use Rattle.proof_tree.specs.proof_nodes.Nodes.{RankNode}
 use Rattle.proof_tree.specs.proof_setting.Setting.{setting_of}
-use Rattle.proof_tree.specs.declared.answer.EmptyAnswer.TheVariants as answers
 use Rattle.proof_tree.specs.declared.answer.Trip.{Trip}
 use Rattle.rank_search.specs.RankAnswers.{rank_program, IsRankNode, IsOwnTrip}
-use Rattle.rank_search.specs.rule_questions.EmptyAnswers.{IsEmptyAnswer}
 use Rattle.rank_search.specs.rule_questions.ProgramQuestions.{forms_at, ranked_set}
 use Rattle.rank_search.specs.rule_questions.Programs.{NothingTrips}
 use Rattle.bound_rounds.specs.Keys.{Bounds, over}
 use Rattle.bound_rounds.specs.Right.{IsRanking}
 use Rattle.bound_rounds.specs.Sets.{IsSetOfRule, AreShutOf}
+use Rattle.time_bounds.specs.ProgramRules.{EmptyTripsSo}
 
--- the linear program which asks whether the rows of a rule have a point passes this limit
-pub record EmptyTripsSo (p : Program) (pivots t : ℕ) (x : Trip) : Type 0 where
-  pub rule : Rule
-  pub numbered : rule_at p t ≡ Some rule
-  pub trips : IsEmptyAnswer (prepared rule) t pivots (answers.Tripped x)
-
--- so does that of the first of these rules of which one passes any
+-- of these rules there is a first one for which the linear program that asks for a point passes a limit: it passes this
+-- one
 abbrev pub FirstTripsSo : Program → ℕ → List ℕ → Trip → Type 0
 FirstTripsSo p pivots [] x = ⊥
 FirstTripsSo p pivots (t ∷ ts) x = EmptyTripsSo p pivots t x

@@ -1,5 +1,5 @@
 -- What is said of times, by what is known.
-use Rattle.std.specs.Prelude.{◌≡◌, ℕ, suc, List, [], ◌∷◌, Some, None, ⊤}
+use Rattle.std.specs.Prelude.{◌≡◌, ℕ, List, Some, None}
 use Rattle.model.specs.Programs.{Program}
 use Rattle.bound_expr.specs.Views.{bound_of}
 use Rattle.outcome.specs.Reports.{Time, Timed, Untimed}
@@ -7,19 +7,18 @@ use Rattle.outcome.specs.declared.entry.TimeEntry.{TimeEntry}
 use Rattle.outcome.specs.declared.entry.TimeEntry.TheVariants as entries
 use Rattle.proof_tree.specs.proof_setting.Setting.{setting_of}
 use Rattle.bound_rounds.specs.Keys.{Bounds}
-use Rattle.bound_rounds.specs.Searches.{Searches}
+use Rattle.bound_rounds.specs.Searches.{Searches, OfTime}
 use Rattle.bound_rounds.specs.Answers.{Lacks, TellsTime}
-use Rattle.time_bounds.specs.Reasons.{time_reason}
+use Rattle.time_bounds.specs.Numbered.{EachNumbered}
 
 -- what is said of the time of rule t is a time that is known, or why none is: what the answer to its question tells
 abbrev pub IsTimeOver : Searches → Program → Bounds → ℕ → Time → Type 0
 IsTimeOver q p b t (Timed x) = b t 0 ≡ Some x
-IsTimeOver q p b t (Untimed why) = (b t 0 ≡ None) × TellsTime q (setting_of p) b t (Lacks (time_reason why))
+IsTimeOver q p b t (Untimed why) = (b t 0 ≡ None) × TellsTime q (setting_of p) b t (Lacks (OfTime why))
 
 -- so it is of each rule from k on, in order
 abbrev pub AreTimesOver : Searches → Program → Bounds → ℕ → List Time → Type 0
-AreTimesOver q p b k [] = ⊤
-AreTimesOver q p b k (x ∷ times) = IsTimeOver q p b k x × AreTimesOver q p b (suc k) times
+AreTimesOver q p b k times = EachNumbered (IsTimeOver q p b) k times
 
 -- an entry is the time that is known
 abbrev pub IsKnownTime : Bounds → ℕ → TimeEntry → Type 0

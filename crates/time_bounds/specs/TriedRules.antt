@@ -1,5 +1,5 @@
 -- What a round makes of each rule.
-use Rattle.std.specs.Prelude.{◌≡◌, ◌⊎◌, ℕ, suc, true, false, List, [], ◌∷◌, ◌++◌, map, Option, Some, None, ⊤}
+use Rattle.std.specs.Prelude.{◌≡◌, ◌⊎◌, ℕ, suc, true, false, List, [], ◌∷◌, ◌++◌, map, Option, Some, None}
 use Rattle.model.specs.Programs.{Program}
 use Rattle.bound_expr.specs.Views.{bound_of}
 use Rattle.proof_tree.specs.declared.answer.EmptyAnswer.{EmptyAnswer}
@@ -14,6 +14,7 @@ use Rattle.bound_rounds.specs.Answers.{Lacks, TellsRanking, TellsTime}
 use Rattle.time_bounds.specs.declared.asking.Asked.{Asked}
 use Rattle.time_bounds.specs.declared.tried_rules.Tried.{Tried}
 use Rattle.time_bounds.specs.declared.tried_rules.Tried.TheVariants.{Known, Found, Missing}
+use Rattle.time_bounds.specs.Numbered.{EachNumbered}
 use Rattle.time_bounds.specs.ProgramRules.{ranking_of}
 use Rattle.time_bounds.specs.ProgramSearches.{searches_of_program}
 use Rattle.time_bounds.specs.Questions.{IsAnswered, IsAsked}
@@ -37,9 +38,7 @@ IsTried p b pivots empties t (Missing a) = (is_untimed b t ≡ true) × IsMissin
 
 -- of each rule from k on, in order
 abbrev pub AreTried : Program → Bounds → ℕ → List EmptyAnswer → ℕ → List Tried → Type 0
-AreTried p b pivots empties k [] = ⊤
-AreTried p b pivots empties k (x ∷ tries) =
-    IsTried p b pivots empties k x × AreTried p b pivots empties (suc k) tries
+AreTried p b pivots empties k tries = EachNumbered (IsTried p b pivots empties) k tries
 
 -- the find of rule t, where its time was found; and those of these rules from t on
 abbrev pub find_in : ℕ → Tried → List Find
@@ -70,9 +69,7 @@ IsAskedOver p b later pivots empties t (Some a) = (is_untimed b t ≡ true) × I
 
 -- so of each rule from k on, in order
 abbrev pub AreAskedOver : Program → Bounds → Bounds → ℕ → List EmptyAnswer → ℕ → List (Option Asked) → Type 0
-AreAskedOver p b later pivots empties k [] = ⊤
-AreAskedOver p b later pivots empties k (o ∷ asked) =
-    IsAskedOver p b later pivots empties k o × AreAskedOver p b later pivots empties (suc k) asked
+AreAskedOver p b later pivots empties k asked = EachNumbered (IsAskedOver p b later pivots empties) k asked
 
 -- a list of gaps stays as it is, or has one more
 abbrev pub IsGrown : List Gap → List Gap → Type 0

@@ -15,7 +15,8 @@ ghost use Rattle.time_bounds.specs.ProgramSearches.{searches_of_program};
 ghost use Rattle.time_bounds.specs.Questions.{IsReady, program_in};
 ghost use Rattle.time_bounds.specs.TriedRules.{IsAskedOver, AreAskedOver, IsMissing, IsGrown};
 ghost use Rattle.time_bounds.specs.TimesSaid.{IsTimeOver, AreTimesOver, IsKnownTime};
-ghost use Rattle.time_bounds.specs.AnalysisLemmas.{CarriesTime, CarryTimes, AreGapsInOrder};
+ghost use Rattle.time_bounds.specs.AnalysisLemmas.{CarriesTime, AreGapsInOrder};
+ghost use Rattle.time_bounds.specs.Numbered.{EachNumbered};
 
 use crate::asking::Asked;
 use crate::context::Context;
@@ -53,7 +54,7 @@ pub(crate) fn said_of(
     ensures gaps { IfOk result (λ said. All (HasItsGap (length said.gaps.items)) said.times.items) }
     ensures hold { IfOk result (λ said. All
         (λ g. GapHolds (program_in cx.now) (forms_at (program_in cx.now)) (gap_of g)) said.gaps.items) }
-    ensures carried { IfOk result (λ said. CarryTimes (number_at table.now) 1 said.times.items) }
+    ensures carried { IfOk result (λ said. EachNumbered (CarriesTime (number_at table.now)) 1 said.times.items) }
     ensures in_order { IfOk result (λ said. AreGapsInOrder 0 said.times.items (length said.gaps.items)) }
 {
     let mut times = Vec::new(cx.alloc);

@@ -10,7 +10,8 @@ ghost use Rattle.time_bounds.specs.Attempts.{why_armless, why_by, why_in, why_of
 ghost use Rattle.time_bounds.specs.SizeSaid.{seen_row, seen_rows, said_stored, said_table, put_some};
 ghost use Rattle.time_bounds.specs.SizeSaid.{put_why, put_whys, AreThere, CarriesIfThere, CarryRow, CarryPlaces};
 ghost use Rattle.time_bounds.specs.SizeSaid.{KeepPlaces, IsReason};
-ghost use Rattle.time_bounds.specs.AnalysisLemmas.{CarryRows};
+ghost use Rattle.time_bounds.specs.AnalysisLemmas.{CarriesSizes};
+ghost use Rattle.time_bounds.specs.Numbered.{EachNumbered};
 ghost use Rattle.size_bounds.specs.Tables.{lemma_stored, number_at};
 ghost use Rattle.proof_tree.specs.Views.{spot_of};
 
@@ -37,7 +38,8 @@ pub(crate) fn said_sizes(
     requires there { All AreThere (put_whys (said_table table.now) candidates.now attempts.now) }
     ensures sizes { IfOk result (λ rows. map (λ row. map (λ e. Some (size_of e)) row.items) rows.items
         ≡ put_whys (said_table table.now) candidates.now attempts.now) }
-    ensures carried { IfOk result (λ rows. CarryRows (number_at table.now) 0 (map (λ row. row.items) rows.items)) }
+    ensures carried { IfOk result (λ rows. EachNumbered (CarriesSizes (number_at table.now)) 0
+        (map (λ row. row.items) rows.items)) }
 {
     let mut entries = known_sizes(alloc, table)?;
     for (position, candidate) in candidates.iter().enumerate() {

@@ -1,44 +1,31 @@
 -- The components of the program that doubles, within 10 pivots.
-use Rattle.std.proofs.Common.{◌≡◌, inl, inr, ℕ, zero, suc, ◌<◌, ◌≤◌, ◌↔◌, true, false, List, [], ◌∷◌, Some, refl, sym, subst}
-use Rattle.std.proofs.Common.{arith, All}
-use Rattle.std.specs.Prelude.{ℤ, pos, nat_abs, ◌≤ℤ◌}
-use Rattle.std.proofs.lemmas.Int.{ints}
+use Rattle.std.proofs.Common.{◌≡◌, inl, inr, ℕ, zero, suc, ◌<◌, ◌≤◌, ◌↔◌, true, false, [], Some, refl, sym, subst}
+use Rattle.std.proofs.Common.{arith}
 use Rattle.std.proofs.lemmas.List.Elements.{All-nil, All-cons}
 use Rattle.model.specs.Paths.{Here, Onward}
-use Rattle.model.specs.Programs.{Rule, arity_of, rule_at}
+use Rattle.model.specs.Programs.{arity_of}
 use Rattle.model.proofs.Cases.{none_some, some_same}
 use Rattle.model.proofs.Membership.{no_is_not_yes}
-use Rattle.its_model.specs.linear_forms.Forms.{Form, at, form_value}
-use Rattle.its_model.specs.linear_forms.Limits.{point_limit}
 use Rattle.guard_prep.specs.Prepared.{prepared}
-use Rattle.simplex_core.specs.Trips.{IsScaledDual}
-use Rattle.proof_tree.specs.AnswerViews.{scaled_of}
-use Rattle.farkas_cert.specs.declared.scaled.Scaled.{Scaled}
-use Rattle.proof_tree.specs.declared.answer.EmptyAnswer.TheVariants as empties
 use Rattle.proof_tree.specs.proof_nodes.AcceptsPlain.{IsRule}
-use Rattle.proof_tree.specs.proof_nodes.Gaps.{ScaledPoint}
 use Rattle.proof_tree.specs.proof_nodes.Nodes.{Member}
 use Rattle.proof_tree.specs.proof_nodes.Worked.{entered_member, doubled_member, doubled}
-use Rattle.proof_tree.specs.proof_nodes.WorkedGaps.{one}
 use Rattle.proof_tree.specs.proof_nodes.WorkedSettings.{enter, doubling}
 use Rattle.proof_tree.specs.proof_setting.Setting.{setting_of}
-use Rattle.rank_search.specs.rule_questions.EmptyAnswers.{IsEmptyAnswer, IsNearPoint, IsDualPoint, empty_program}
 use Rattle.local_size.specs.LocalAnswers.{HasBound}
 use Rattle.rvg_components.specs.Flows.{Locals, live_spots}
 use Rattle.rvg_components.specs.Listing.{HasFlow, AreComponents}
 use Rattle.bound_rounds.specs.Components.{IsDead}
 use Rattle.bound_rounds.specs.Keys.{IsPlace}
-use Rattle.bound_rounds.specs.Searches.{HasPoint}
-use Rattle.time_bounds.specs.ProgramRules.{IsEmptinessOf, IsEmptyRule}
+use Rattle.time_bounds.specs.ProgramRules.{IsEmptyRule}
 use Rattle.time_bounds.specs.ProgramSearches.{searches_of_program}
 use Rattle.time_bounds.specs.ProgramSizes.{AreLive, IsLocalOf, AreLocals}
 use Rattle.time_bounds.specs.SizeWhys.{IsComponentOf}
-use Rattle.time_bounds.proofs.OneProgram.{program_searches_one}
 use Rattle.why_values.specs.Programs.{doubling_rule, two_components}
-use Rattle.why_values.proofs.DoubleRuns.{entered_arms, doubled_arms, enter_point, doubling_point}
+use Rattle.why_values.proofs.DoubleRuns.{entered_arms, doubled_arms}
+use Rattle.why_values.proofs.RulesWithPoints.{one_point, not_empty}
 use Rattle.why_values.proofs.SquareFlows.{both_live}
 use Rattle.why_values.proofs.TwoPlaces.{LeadOnward, both_listed, two_listed}
-use Rattle.why_values.proofs.WholeEnds.{dual_untripped}
 
 -- the local bounds of the places after both rules
 abbrev pub double_locals : Locals
@@ -68,56 +55,12 @@ lead = record { within = λ a b h. h.from; back = λ a h. absurd (first_stays a 
 apart : AreComponents (setting_of doubling.program) both_live double_locals two_components
 apart = record { positions = both_listed; listing = two_listed Flow lead; spots = refl }
 
--- the point 1 is near and read off the dual, where a rule has one unknown and no rows
-pub near_one : (r : Rule) → (prepared r).unknowns ≡ 1 → (prepared r).rows ≡ [] → IsNearPoint (prepared r) one
-near_one r unknowns rows = record {
-  long = sym unknowns;
-  parts_limit = All-cons (λ (a : ℤ). nat_abs a ≤ point_limit) (pos 1) [] (omega arith)
-      (All-nil (λ (a : ℤ). nat_abs a ≤ point_limit));
-  den_limit = omega arith;
-  point = record {
-    denominator = omega (arith, ints);
-    meets = record {
-      each = subst (λ (fs : List Form). All (λ (f : Form). pos 0 ≤ℤ form_value f (at one.parts) (pos one.den)) fs) (sym rows)
-          (All-nil (λ (f : Form). pos 0 ≤ℤ form_value f (at one.parts) (pos one.den)));
-    };
-  };
-}
-
--- so it is the answer, for every point of the code that reads so
-pub point_answered : (r : Rule) (t : ℕ) (z : Scaled) → scaled_of z ≡ one → IsNearPoint (prepared r) one
-    → IsScaledDual (empty_program (prepared r)) 10 (pos 1 ∷ pos 1 ∷ []) 1 → IsDualPoint (prepared r) 10 one
-    → IsEmptyAnswer (prepared r) t 10 (empties.Point z)
-point_answered r t z e near dual point = (
-  subst (λ (w : ScaledPoint). IsNearPoint (prepared r) w) (sym e) near,
-  record { each = dual_untripped (empty_program (prepared r)) 10 (pos 1 ∷ pos 1 ∷ []) 1 dual },
-  subst (λ (w : ScaledPoint). IsDualPoint (prepared r) 10 w) (sym e) point,
-)
-
-enter_answered : (z : Scaled) → scaled_of z ≡ one → IsEmptyAnswer (prepared enter) 1 10 (empties.Point z)
-enter_answered z e =
-    point_answered enter 1 z e (near_one enter refl refl) enter_point
-    (record { numbers = pos 1 ∷ pos 1 ∷ []; den = 1; dual = enter_point; parts = refl; over = refl })
-
-doubling_answered : (z : Scaled) → scaled_of z ≡ one → IsEmptyAnswer (prepared doubling_rule) 2 10 (empties.Point z)
-doubling_answered z e =
-    point_answered doubling_rule 2 z e (near_one doubling_rule refl refl) doubling_point
-    (record { numbers = pos 1 ∷ pos 1 ∷ []; den = 1; dual = doubling_point; parts = refl; over = refl })
-
 -- what holds of both rules holds of each
 of_rules : (P : ℕ → Type 0) → P 1 → P 2 → (t : ℕ) → IsRule doubling.program t → P t
 of_rules P first second zero h = absurd (none_some h.rule h.numbered)
 of_rules P first second (suc zero) h = first
 of_rules P first second (suc (suc zero)) h = second
 of_rules P first second (suc (suc (suc t))) h = absurd (none_some h.rule h.numbered)
-
--- neither rule is told to be empty
-not_empty : (t : ℕ) (r : Rule) (z : Scaled) → rule_at doubling.program t ≡ Some r
-    → IsEmptyAnswer (prepared r) t 10 (empties.Point z) → IsEmptyRule doubling.program 10 t → ⊥
-not_empty t r z e answered h =
-    let other : IsEmptinessOf doubling.program 10 t (HasPoint (scaled_of z)) = (r, e, (empties.Point z, refl, answered)) in
-    let same = (program_searches_one.each doubling.program 10).empties t _ _ h.1 other in
-    (let none : ⊥ = cc in none)
 
 first_rule : IsRule doubling.program 1
 first_rule = record { rule = enter; numbered = refl }
@@ -136,14 +79,15 @@ second_alive (inr unreached) =
     unreached doubling_rule refl
     (Onward (Here refl) (record { number = 1; rule = enter; numbered = refl; allowed = refl; source = refl; target = refl }))
 
-live : (z : Scaled) → scaled_of z ≡ one → AreLive doubling.program 10 both_live
-live z e = record { is_empty = λ t. false; empty = empty; live = each }
+live : AreLive doubling.program 10 both_live
+live = record { is_empty = λ t. false; empty = empty; live = each }
   where
     empty : (t : ℕ) → IsRule doubling.program t → (false ≡ true) ↔ IsEmptyRule doubling.program 10 t
     empty t h = (
       (λ f. absurd (no_is_not_yes false refl f)),
       λ none. absurd (of_rules (λ u. IsEmptyRule doubling.program 10 u → ⊥)
-          (not_empty 1 enter z refl (enter_answered z e)) (not_empty 2 doubling_rule z refl (doubling_answered z e)) t h none),
+          (not_empty doubling.program 10 1 enter refl (one_point (prepared enter).rows refl))
+          (not_empty doubling.program 10 2 doubling_rule refl (one_point (prepared doubling_rule).rows refl)) t h none),
     )
 
     each : (t : ℕ) → (both_live t ≡ true) ↔ (IsRule doubling.program t × (¬ (IsDead doubling.program (λ u. false) t)))
@@ -164,50 +108,45 @@ place_after (suc zero) i f h = one_place i h.symbol h.target h.least h.last
 place_after (suc (suc zero)) i f h = one_place i h.symbol h.target h.least h.last
 place_after (suc (suc (suc t))) i f h = absurd (no_is_not_yes false refl f)
 
-first_local : (z : Scaled) → scaled_of z ≡ one → IsLocalOf doubling.program 10 1 1 (HasBound entered_member.local)
-first_local z e = record {
+first_local : IsLocalOf doubling.program 10 1 1 (HasBound entered_member.local)
+first_local = record {
   rule = enter;
   numbered = refl;
   place = record { symbol = 1; target = refl; least = omega arith; last = omega arith };
-  empty = empties.Point z;
-  is_empty_answer = enter_answered z e;
   local = inr entered_arms;
 }
 
-pub second_local : (z : Scaled) → scaled_of z ≡ one → IsLocalOf doubling.program 10 2 1 (HasBound doubled_member.local)
-second_local z e = record {
+pub second_local : IsLocalOf doubling.program 10 2 1 (HasBound doubled_member.local)
+second_local = record {
   rule = doubling_rule;
   numbered = refl;
   place = record { symbol = 1; target = refl; least = omega arith; last = omega arith };
-  empty = empties.Point z;
-  is_empty_answer = doubling_answered z e;
   local = inr doubled_arms;
 }
 
-locals : (z : Scaled) → scaled_of z ≡ one → AreLocals doubling.program 10 both_live double_locals
-locals z e zero i f h = absurd (no_is_not_yes false refl f)
-locals z e (suc zero) i f h =
+locals : AreLocals doubling.program 10 both_live double_locals
+locals zero i f h = absurd (no_is_not_yes false refl f)
+locals (suc zero) i f h =
     subst (λ (j : ℕ). IsLocalOf doubling.program 10 1 j (HasBound entered_member.local)) (sym (place_after 1 i f h))
-    (first_local z e)
-locals z e (suc (suc zero)) i f h =
+    first_local
+locals (suc (suc zero)) i f h =
     subst (λ (j : ℕ). IsLocalOf doubling.program 10 2 j (HasBound doubled_member.local)) (sym (place_after 2 i f h))
-    (second_local z e)
-locals z e (suc (suc (suc t))) i f h = absurd (no_is_not_yes false refl f)
+    second_local
+locals (suc (suc (suc t))) i f h = absurd (no_is_not_yes false refl f)
 
 -- a member has this local bound
 abbrev IsBoundOf : Member → Type 0
 IsBoundOf m = IsLocalOf doubling.program 10 m.spot.rule m.spot.place (HasBound m.local)
 
-pub double_components : (z : Scaled) → scaled_of z ≡ one
-    → (searches_of_program doubling.program 10).AreComponents two_components
-double_components z e = (both_live, live z e, (double_locals, locals z e, apart))
+pub double_components : (searches_of_program doubling.program 10).AreComponents two_components
+double_components = (both_live, live, (double_locals, locals, apart))
 
 -- the place that doubles is a component by itself
-pub doubled_alone : (z : Scaled) → scaled_of z ≡ one → IsComponentOf doubling.program 10 2 1 doubled
-doubled_alone z e = record {
+pub doubled_alone : IsComponentOf doubling.program 10 2 1 doubled
+doubled_alone = record {
   components = two_components;
-  are_components = double_components z e;
+  are_components = double_components;
   among = inr (inl refl);
   inside = refl;
-  bounds = All-cons IsBoundOf doubled_member [] (second_local z e) (All-nil IsBoundOf);
+  bounds = All-cons IsBoundOf doubled_member [] second_local (All-nil IsBoundOf);
 }

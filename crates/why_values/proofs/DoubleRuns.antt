@@ -1,5 +1,5 @@
--- What the simplex method comes to within 10 pivots, of k(A) -> l(A) and l(A) -> l(2 * A): that the rules have a point,
--- and the local bounds of their places.
+-- What the simplex method comes to within 10 pivots, of k(A) -> l(A) and l(A) -> l(2 * A): the local bounds of
+-- the places after both rules.
 use Rattle.std.proofs.Common.{inl, inr, List, [], ◌∷◌, refl}
 use Rattle.std.specs.Prelude.{ℤ, pos, negsuc}
 use Rattle.model.specs.Programs.{Rule}
@@ -13,7 +13,6 @@ use Rattle.proof_tree.specs.proof_nodes.AcceptsSizes.{Side, Up, Low}
 use Rattle.proof_tree.specs.proof_nodes.Worked.{entered_member, doubled_member}
 use Rattle.proof_tree.specs.proof_nodes.WorkedSettings.{enter}
 use Rattle.proof_tree.specs.rule_forms.Kinds.{Kind, Number, Argument, Affine, Plus, Minus}
-use Rattle.rule_questions.specs.EmptyAnswers.{empty_program}
 use Rattle.local_size.specs.LocalAnswers.{SideComesTo, HasArms}
 use Rattle.local_size.specs.Places.{local_forms, value_on}
 use Rattle.local_size.specs.Sides.{ArmFound, NoneFound, kind_program, solved_arm, ComesTo}
@@ -135,12 +134,3 @@ doubled_low = inr (
 
 pub doubled_arms : HasArms (prepared doubling_rule) 1 10 doubled_member.local
 doubled_arms = record { asked = refl; up = doubled_up; low = doubled_low }
-
--- the rules have no rows, so they have the point 1
-pub enter_point : IsScaledDual (empty_program (prepared enter)) 10 (pos 1 ∷ pos 1 ∷ []) 1
-unfolding program_of_question first_tableau equation cost pivot
-enter_point = dual_run (empty_program (prepared enter)) 10 0 (pos 1 ∷ pos 1 ∷ []) refl
-
-pub doubling_point : IsScaledDual (empty_program (prepared doubling_rule)) 10 (pos 1 ∷ pos 1 ∷ []) 1
-unfolding program_of_question first_tableau equation cost pivot
-doubling_point = dual_run (empty_program (prepared doubling_rule)) 10 0 (pos 1 ∷ pos 1 ∷ []) refl

@@ -4,15 +4,12 @@ use Rattle.std.proofs.lemmas.List.Elements.{All-head}
 use Rattle.model.specs.Bounds.{Bound, Constant}
 use Rattle.model.proofs.Cases.{none_some}
 use Rattle.model.proofs.Membership.{no_is_not_yes}
-use Rattle.farkas_cert.specs.declared.scaled.Scaled.{Scaled}
-use Rattle.proof_tree.specs.AnswerViews.{scaled_of}
 use Rattle.proof_tree.specs.proof_nodes.AcceptsSizes.{AcceptsUp, AcceptsLow}
 use Rattle.proof_tree.specs.proof_nodes.Checks.{cycle_checks, large_nodes}
 use Rattle.proof_tree.specs.proof_nodes.Nodes.{Member}
 use Rattle.proof_tree.specs.proof_nodes.Reasons as reasons
 use Rattle.proof_tree.specs.proof_nodes.Reasons.{IsFirstAmong}
 use Rattle.proof_tree.specs.proof_nodes.Worked.{doubled_member, doubled}
-use Rattle.proof_tree.specs.proof_nodes.WorkedGaps.{one}
 use Rattle.proof_tree.specs.proof_nodes.WorkedReasons.{tower}
 use Rattle.proof_tree.specs.proof_nodes.WorkedSettings.{doubling}
 use Rattle.proof_tree.proofs.proof_nodes.CheckLists.{first_is_one}
@@ -22,7 +19,7 @@ use Rattle.proof_tree.specs.proof_setting.bound_table.InForce.{rewritten}
 use Rattle.proof_tree.specs.proof_setting.bound_table.Rewriting.{simplified, passes_until_same, at_node, parts_passed}
 use Rattle.bound_rounds.specs.Keys.{Bounds, key, over}
 use Rattle.bound_rounds.specs.Loops.{do_loop}
-use Rattle.bound_rounds.specs.Searches as searches
+use Rattle.outcome.specs.Reports.{SizeUntimed, SizeLarge}
 use Rattle.time_bounds.specs.SizeWhys.{LacksFirst, RestsOnSize, GrowsUntimed, SizeIsLarge, composed_size}
 use Rattle.why_values.specs.FirstReasons.{untimed_tower_said, timed_tower_said, FirstReasonsAreWorkedOut}
 use Rattle.why_values.proofs.DoubleComponents.{doubled_alone}
@@ -43,10 +40,10 @@ missing_fails b none = inr (
   ),
 )
 
-missing : (z : Scaled) → scaled_of z ≡ one → (b : Bounds) → b 1 1 ≡ None → RestsOnSize doubling.program 10 b 2 1 (key 1 1)
-missing z e b none = record {
+missing : (b : Bounds) → b 1 1 ≡ None → RestsOnSize doubling.program 10 b 2 1 (key 1 1)
+missing b none = record {
   members = doubled;
-  component = doubled_alone z e;
+  component = doubled_alone;
   member = doubled_member;
   among = (zero, omega arith, refl);
   takes = record { place = omega arith; before = refl; reads = refl };
@@ -58,10 +55,10 @@ missing z e b none = record {
 not_untimed : (b : Bounds) → b 1 1 ≡ None → GrowsUntimed doubling.program 10 b 2 1 2 → ⊥
 not_untimed b none h =
     other
-    (subst (λ (ms : List Member). LacksFirst (setting_of doubling.program) b ms (searches.Untimed 2))
+    (subst (λ (ms : List Member). LacksFirst (setting_of doubling.program) b ms (SizeUntimed 2))
     (doubled_members h.members h.component) h.first)
   where
-    other : LacksFirst (setting_of doubling.program) b doubled (searches.Untimed 2) → ⊥
+    other : LacksFirst (setting_of doubling.program) b doubled (SizeUntimed 2) → ⊥
     other (r, is, fails) =
         let same = first_is_one (cycle_checks (setting_of doubling.program) (over b) doubled) (reasons.MissingSize 1 1) r
         (missing_fails b none) fails in
@@ -87,10 +84,10 @@ untimed_fails = inr (
   ),
 )
 
-untimed : (z : Scaled) → scaled_of z ≡ one → GrowsUntimed doubling.program 10 untimed_tower_said 2 1 2
-untimed z e = record {
+untimed : GrowsUntimed doubling.program 10 untimed_tower_said 2 1 2
+untimed = record {
   members = doubled;
-  component = doubled_alone z e;
+  component = doubled_alone;
   loop = refl;
   uses = refl;
   grows = refl;
@@ -101,21 +98,21 @@ untimed z e = record {
 not_large : (n : ℕ) → SizeIsLarge doubling.program 10 untimed_tower_said 2 1 n → ⊥
 not_large n h =
     other
-    (subst (λ (ms : List Member). LacksFirst (setting_of doubling.program) untimed_tower_said ms (searches.TooLarge n))
+    (subst (λ (ms : List Member). LacksFirst (setting_of doubling.program) untimed_tower_said ms (SizeLarge n))
     (doubled_members h.members h.component) h.first)
   where
-    other : LacksFirst (setting_of doubling.program) untimed_tower_said doubled (searches.TooLarge n) → ⊥
+    other : LacksFirst (setting_of doubling.program) untimed_tower_said doubled (SizeLarge n) → ⊥
     other (r, is, fails) =
         let same = first_is_one (cycle_checks (setting_of doubling.program) (over untimed_tower_said) doubled)
         (reasons.MissingTime 2) r untimed_fails fails in
         (let none : ⊥ = cc in none)
 
 -- and where that is known too, how large it is
-large : (z : Scaled) → scaled_of z ≡ one → SizeIsLarge doubling.program 10 timed_tower_said 2 1 415
+large : SizeIsLarge doubling.program 10 timed_tower_said 2 1 415
 unfolding rewritten simplified passes_until_same at_node parts_passed
-large z e = record {
+large = record {
   members = doubled;
-  component = doubled_alone z e;
+  component = doubled_alone;
   size = composed_size (do_loop (setting_of doubling.program) doubled) (setting_of doubling.program) (over timed_tower_said)
       doubled;
   composed = refl;

@@ -19,7 +19,8 @@ use Rattle.rank_search.specs.rule_questions.Programs.{NothingTrips}
 use Rattle.bound_rounds.specs.Sets.{AreShutOf}
 use Rattle.bound_rounds.proofs.Cases.{either}
 use Rattle.bound_rounds.proofs.OneOrder.{sets_one, shut_one}
-use Rattle.time_bounds.specs.TimeWhys.{EmptyTripsSo, FirstTripsSo, RankTripsSo}
+use Rattle.time_bounds.specs.TimeWhys.{FirstTripsSo, RankTripsSo}
+use Rattle.time_bounds.specs.ProgramRules.{EmptyTripsSo}
 use Rattle.time_bounds.proofs.FreeValue.{of_rule}
 use Rattle.why_values.specs.FirstTrips.{FirstTripsAreWorkedOut}
 use Rattle.why_values.specs.Programs.{tripped_at, squares}

@@ -9,7 +9,6 @@ use Rattle.model.specs.Paths.{IsInSet, LeadsBackTo}
 use Rattle.model.specs.Programs.{arity_of}
 use Rattle.model.proofs.Cases.{none_some, some_none, some_same}
 use Rattle.model.proofs.Membership.{no_is_not_yes}
-use Rattle.farkas_cert.specs.declared.scaled.Scaled.{Scaled}
 use Rattle.its_model.specs.linear_forms.Forms.{at}
 use Rattle.its_model.specs.linear_forms.Questions.{program_of_question}
 use Rattle.its_model.specs.linear_forms.QuestionLaws.{parameters_of}
@@ -17,11 +16,9 @@ use Rattle.its_model.specs.linear_forms.RuleQuestions.{RankedSet, symbols_of_set
 use Rattle.guard_prep.specs.Tightening.{divisor_of}
 use Rattle.simplex_core.specs.Tableau.{first_tableau, equation, cost, pivot}
 use Rattle.simplex_core.specs.Trips.{IsScaledSolution}
-use Rattle.proof_tree.specs.AnswerViews.{scaled_of}
 use Rattle.proof_tree.specs.rule_forms.RankLaws.{function_of}
 use Rattle.proof_tree.specs.proof_nodes.Checks.{large_nodes}
 use Rattle.proof_tree.specs.proof_nodes.Nodes.{SymbolForm, RankNode}
-use Rattle.proof_tree.specs.proof_nodes.WorkedGaps.{one}
 use Rattle.bound_rounds.proofs.OneOrder.{sets_one, shut_one}
 use Rattle.proof_tree.specs.proof_nodes.AcceptsPlain.{AreMultipliers}
 use Rattle.proof_tree.specs.proof_nodes.AcceptsRank.{HasRankShape, Loses, moves_of, rank_time}
@@ -84,10 +81,10 @@ doubled_shape = record {
 }
 
 -- what doubles grows by its rule
-grows : (z : Scaled) → scaled_of z ≡ one → GrowsUntimed doubling.program 10 growing_said 2 1 2
-grows z e = record {
+grows : GrowsUntimed doubling.program 10 growing_said 2 1 2
+grows = record {
   members = doubled;
-  component = doubled_alone z e;
+  component = doubled_alone;
   loop = refl;
   uses = refl;
   grows = refl;

@@ -5,6 +5,7 @@ pub mod WholeEnds
 pub mod TwoPlaces
 pub mod SquareFlows
 pub mod SquareComponents
+pub mod RulesWithPoints
 pub mod DoubleRuns
 pub mod DoubleComponents
 pub mod DoubleMembers
@@ -16,6 +17,8 @@ pub mod ProductComponents
 pub mod Trips
 pub mod SquareTimes
 pub mod FirstTrips
+pub mod PointTrips
+pub mod Limits
 pub mod LoosePlaces
 pub mod Products
 pub mod Squares

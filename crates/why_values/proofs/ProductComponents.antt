@@ -80,8 +80,6 @@ place_local i place polynomial = record {
   rule = product_rule;
   numbered = refl;
   place = place;
-  empty = empties.Tripped (tripped_at 0 (asked.Empty 1));
-  is_empty_answer = (refl, point_trips);
   local = inl (polynomial, refl);
 }
 

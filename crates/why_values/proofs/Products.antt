@@ -14,7 +14,7 @@ use Rattle.proof_tree.proofs.proof_nodes.CheckLists.{first_is_one}
 use Rattle.proof_tree.specs.proof_setting.Setting.{setting_of}
 use Rattle.local_size.specs.LocalAnswers.{both_polynomial}
 use Rattle.bound_rounds.specs.Keys.{key, has_key, over}
-use Rattle.bound_rounds.specs.Searches as searches
+use Rattle.outcome.specs.Reports.{SizeBent}
 use Rattle.time_bounds.specs.SizeWhys.{LacksFirst, BendsAt}
 use Rattle.why_values.specs.Products.{products_said, ProductsAreWorkedOut}
 use Rattle.why_values.specs.Programs.{product_rule, products, both_products}
@@ -130,10 +130,10 @@ bends i inside = record {
 not_second : (i : ℕ) → BendsAt products 0 products_said 1 i (key 1 2) → ⊥
 not_second i h =
     other
-    (subst (λ (ms : List Member). LacksFirst (setting_of products) products_said ms (searches.Bent (key 1 2)))
+    (subst (λ (ms : List Member). LacksFirst (setting_of products) products_said ms (SizeBent (key 1 2)))
     (no_other i h.members h.component) h.first)
   where
-    other : LacksFirst (setting_of products) products_said both_products (searches.Bent (key 1 2)) → ⊥
+    other : LacksFirst (setting_of products) products_said both_products (SizeBent (key 1 2)) → ⊥
     other (r, is, fails) =
         let same = first_is_one (cycle_checks (setting_of products) (over products_said) both_products) (reasons.Bent 1 1) r
         first_fails fails in

@@ -94,8 +94,6 @@ local_after t target e place = record {
   rule = squaring_to target;
   numbered = e;
   place = place;
-  empty = empties.Tripped (tripped_at 0 (asked.Empty t));
-  is_empty_answer = (refl, point_trips target);
   local = inl (refl, refl);
 }
 

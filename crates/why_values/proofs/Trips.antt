@@ -26,7 +26,8 @@ use Rattle.bound_rounds.proofs.Cases.{either}
 use Rattle.bound_rounds.proofs.OneOrder.{sets_one, shut_one}
 use Rattle.bound_rounds.specs.Sets.{AreShutOf}
 use Rattle.time_bounds.specs.SizeWhys.{PlaceTripsSo}
-use Rattle.time_bounds.specs.TimeWhys.{EmptyTripsSo, FirstTripsSo, RankTripsSo}
+use Rattle.time_bounds.specs.TimeWhys.{FirstTripsSo, RankTripsSo}
+use Rattle.time_bounds.specs.ProgramRules.{EmptyTripsSo}
 use Rattle.time_bounds.specs.WorkedReports.{staying_said}
 use Rattle.time_bounds.proofs.FreeValue.{of_rule}
 use Rattle.time_bounds.proofs.StayingRule.{staying_so}
@@ -139,7 +140,7 @@ nothing_asked : (b : Bounds) → PlaceTripsSo squares 0 1 1 (tripped_at 0 (asked
 nothing_asked b h =
     no_is_not_yes true
     (of_rule (λ r. is_polynomial_at (prepared r) 1 ≡ false) (squaring_to 0) h.rule h.numbered
-    (either h.trips (λ own. own.asked) (λ point. point.straight))) refl
+    (either h.trips (λ own. own.asked) (λ point. point.lacks.straight))) refl
 
 pub trips_worked : TripsAreWorkedOut
 trips_worked = record {

@@ -1,11 +1,7 @@
--- Which of several reasons is told of the place that doubles in k(A) -> l(A) with l(A) -> l(2 * A), as it was worked out
--- by hand. What rests on an answer of the code is said for every point of the code that reads as the one that is
--- answered.
+-- Which of several reasons is told of the place that doubles in k(A) -> l(A) with l(A) -> l(2 * A), as it was worked
+-- out by hand.
 use Rattle.std.specs.Prelude.{◌≡◌, ℕ, None}
-use Rattle.farkas_cert.specs.declared.scaled.Scaled.{Scaled}
 use Rattle.outcome.specs.Reports.{SizeMissing, SizeUntimed, SizeLarge}
-use Rattle.proof_tree.specs.AnswerViews.{scaled_of}
-use Rattle.proof_tree.specs.proof_nodes.WorkedGaps.{one}
 use Rattle.proof_tree.specs.proof_nodes.WorkedSettings.{doubling}
 use Rattle.bound_rounds.specs.Keys.{Bounds, key}
 use Rattle.time_bounds.specs.SaidBounds.{bounds_said}
@@ -19,13 +15,12 @@ abbrev pub timed_tower_said : Bounds
 timed_tower_said = bounds_said doubling.program timed_tower_report
 
 -- while the size after the first rule is missing, that is told, and not the rule that doubles, whether that has a time
--- or not. Where that size has 201 levels, the rule is told while it has no time, and not how large the size is; and once
--- it has one that is told, with 415 nodes and not 414
+-- or not. Where that size has 201 levels, the rule is told while it has no time, and not how large the size is; and
+-- once it has one that is told, with 415 nodes and not 414
 pub record FirstReasonsAreWorkedOut : Type 0 where
-  pub missing : (z : Scaled) → scaled_of z ≡ one → (b : Bounds) → b 1 1 ≡ None
-      → HasNoSize doubling.program 10 b 2 1 (SizeMissing (key 1 1))
+  pub missing : (b : Bounds) → b 1 1 ≡ None → HasNoSize doubling.program 10 b 2 1 (SizeMissing (key 1 1))
   pub not_untimed : (b : Bounds) → b 1 1 ≡ None → ¬ (HasNoSize doubling.program 10 b 2 1 (SizeUntimed 2))
-  pub untimed : (z : Scaled) → scaled_of z ≡ one → HasNoSize doubling.program 10 untimed_tower_said 2 1 (SizeUntimed 2)
+  pub untimed : HasNoSize doubling.program 10 untimed_tower_said 2 1 (SizeUntimed 2)
   pub not_large : (n : ℕ) → ¬ (HasNoSize doubling.program 10 untimed_tower_said 2 1 (SizeLarge n))
-  pub large : (z : Scaled) → scaled_of z ≡ one → HasNoSize doubling.program 10 timed_tower_said 2 1 (SizeLarge 415)
+  pub large : HasNoSize doubling.program 10 timed_tower_said 2 1 (SizeLarge 415)
   pub not_so_large : ¬ (HasNoSize doubling.program 10 timed_tower_said 2 1 (SizeLarge 414))

@@ -1,11 +1,6 @@
 -- Sizes that grow by a rule without a time, and times that are large, as it was worked out by hand: of k(A) -> l(A)
--- with l(A) -> l(2 * A); of k(A) -> k(A); and of k(A) -> l(A) with l(A) -> l(A - 1) where A >= 1. An answer of the code has an address,
--- which no definition writes down; so what rests on one is said for every point that reads as the one that is answered.
-use Rattle.std.specs.Prelude.{◌≡◌}
-use Rattle.farkas_cert.specs.declared.scaled.Scaled.{Scaled}
+-- with l(A) -> l(2 * A); of k(A) -> k(A); and of k(A) -> l(A) with l(A) -> l(A - 1) where A >= 1.
 use Rattle.outcome.specs.Reports.{TimeLarge, SizeUntimed}
-use Rattle.proof_tree.specs.AnswerViews.{scaled_of}
-use Rattle.proof_tree.specs.proof_nodes.WorkedGaps.{one}
 use Rattle.proof_tree.specs.proof_nodes.WorkedSettings.{counting, doubling}
 use Rattle.proof_tree.specs.proof_setting.WorkedGaps.{looping}
 use Rattle.bound_rounds.specs.Keys.{Bounds}
@@ -29,11 +24,11 @@ deep_said = bounds_said counting.program deep_report
 
 -- within 10 pivots 2 * A and -2 * A bound the doubled value and its negation, so the place after the second rule grows
 -- by it, which has no time; and not by the first rule, which has no time either but isn't in the loop, nor where the
--- second one has a time. The place after k(A) -> k(A) is in a loop, and the rule has no time, but nothing grows. Within 10 pivots the
--- function A ranks the rule that counts down, and the time that it composes of a size of 201 levels is large, with 208
--- nodes and not 207
+-- second one has a time. The place after k(A) -> k(A) is in a loop, and the rule has no time, but nothing
+-- grows. Within 10 pivots the function A ranks the rule that counts down, and the time that it composes of a size of
+-- 201 levels is large, with 208 nodes and not 207
 pub record GrowthsAreWorkedOut : Type 0 where
-  pub untimed : (z : Scaled) → scaled_of z ≡ one → HasNoSize doubling.program 10 growing_said 2 1 (SizeUntimed 2)
+  pub untimed : HasNoSize doubling.program 10 growing_said 2 1 (SizeUntimed 2)
   pub other_rule : ¬ (HasNoSize doubling.program 10 untimed_said 2 1 (SizeUntimed 1))
   pub timed : ¬ (HasNoSize doubling.program 10 timed_said 2 1 (SizeUntimed 2))
   pub grows_nowhere : ¬ (HasNoSize looping 10 staying_said 1 1 (SizeUntimed 1))

@@ -3,6 +3,8 @@ pub mod Programs
 pub mod Trips
 pub mod Squares
 pub mod FirstTrips
+pub mod PointTrips
+pub mod Limits
 pub mod LoosePlaces
 pub mod Products
 pub mod Growths

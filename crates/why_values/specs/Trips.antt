@@ -5,15 +5,16 @@ use Rattle.proof_tree.specs.declared.answer.Question.TheVariants as asked
 use Rattle.proof_tree.specs.proof_setting.WorkedGaps.{looping}
 use Rattle.bound_rounds.specs.Keys.{Bounds}
 use Rattle.time_bounds.specs.SizeWhys.{HasNoSize}
-use Rattle.time_bounds.specs.TimeWhys.{EmptyTripsSo, HasNoTime}
+use Rattle.time_bounds.specs.ProgramRules.{EmptyTripsSo}
+use Rattle.time_bounds.specs.TimeWhys.{HasNoTime}
 use Rattle.time_bounds.specs.WorkedReports.{staying_said}
 use Rattle.why_values.specs.Programs.{tripped_at, squares}
 
 -- within no pivots the linear program that asks for a function that ranks k(A) -> k(A) passes the limit of 0, and so
 -- does the first one that asks how large its new value is; the limit is no other one, and within 10 pivots none is
 -- passed. Where the update is a polynomial nothing is asked. The linear program that asks whether A <= 0 has a point
--- needs a pivot, and the one without rows needs none. And where its own question trips, nothing trips by the question of
--- another rule, place or function
+-- needs a pivot, and the one without rows needs none. And where its own question trips, nothing trips by the question
+-- of another rule, place or function
 pub record TripsAreWorkedOut : Type 0 where
   pub time : HasNoTime looping 0 staying_said 1 (TimeTripped (tripped_at 0 (asked.Rank 1)))
   pub other_limit : ¬ (HasNoTime looping 0 staying_said 1 (TimeTripped (tripped_at 1 (asked.Rank 1))))

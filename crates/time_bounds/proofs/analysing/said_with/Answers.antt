@@ -16,8 +16,8 @@ use Rattle.time_bounds.specs.SizeSaid.{said_table, put_whys, AreThere}
 use Rattle.time_bounds.specs.TimesSaid.{AreTimesOver}
 use Rattle.time_bounds.specs.Totals.{time_in, total_of}
 use Rattle.time_bounds.specs.TriedRules.{AreAskedOver}
-use Rattle.time_bounds.proofs.CarriedSizes.{rows_left}
-use Rattle.time_bounds.proofs.FoundLemmas.{has_lemmas}
+use Rattle.time_bounds.proofs.SizeNumbers.{rows_left}
+use Rattle.time_bounds.proofs.OutcomeLemmas.{has_lemmas}
 use Rattle.time_bounds.proofs.MadeRounds.{round_closed}
 use Rattle.time_bounds.proofs.SaidSizes.{all_there, many}
 use Rattle.time_bounds.proofs.TablesOver.{bounds_same}

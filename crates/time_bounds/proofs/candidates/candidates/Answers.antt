@@ -6,7 +6,7 @@ use Rattle.its_model.specs.Views.{program_of}
 use Rattle.local_size.specs.declared.answer.LocalAnswer.{LocalAnswer}
 use Rattle.rvg_components.specs.Listing.{answer_lists, local_from}
 use Rattle.time_bounds.specs.Candidates.{IsAnswered, AreArmed, AreCandidatesOf}
-use Rattle.time_bounds.proofs.FoundComponents.{handed, given, found_answered, found_candidates}
+use Rattle.time_bounds.proofs.ComponentArms.{handed, given, found_answered, found_candidates}
 use Rattle.time_bounds.proofs.candidates.candidates.Goals as goal
 
 pub components-requires : goal.components-requires

@@ -1,4 +1,4 @@
-use Rattle.time_bounds.proofs.Sums.{totals_hold}
+use Rattle.time_bounds.proofs.TotalSteps.{totals_hold}
 use Rattle.time_bounds.proofs.law.totals_hold.Goals as goal
 
 pub returns : goal.returns

@@ -2,7 +2,7 @@ use Rattle.std.proofs.Common.{Bool, List, length, sym, ◌∙◌, ap, subst}
 use Rattle.its_graph.specs.Graphs.{flagged, HaveSameSets}
 use Rattle.its_model.specs.Views.{program_of}
 use Rattle.time_bounds.specs.Questions.{AreUntimed}
-use Rattle.time_bounds.proofs.Flags.{are_untimed}
+use Rattle.time_bounds.proofs.UntimedRules.{are_untimed}
 use Rattle.time_bounds.proofs.PartSets.{parts_begin}
 use Rattle.time_bounds.proofs.parts.parts_of.Goals as goal
 

@@ -15,14 +15,15 @@ use Rattle.proof_tree.specs.Views.{rank_of}
 use Rattle.rank_search.specs.declared.answer.RankAnswer.{RankAnswer}
 use Rattle.rank_search.specs.rule_questions.ProgramQuestions.{forms_at}
 use Rattle.bound_rounds.specs.Answers.{Lacks, TellsRanking}
-use Rattle.bound_rounds.specs.Searches.{NoFunction, Tripped, TooLarge}
+use Rattle.outcome.specs.Reports.{NoFunction, TimeTripped, TimeLarge}
+use Rattle.bound_rounds.specs.Searches.{OfTime}
 use Rattle.bound_book.specs.ByKey.{bounds_in}
 use Rattle.time_bounds.specs.ProgramRules.{ranking_of}
 use Rattle.time_bounds.specs.Questions.{HasShape, program_in}
 use Rattle.time_bounds.proofs.AnswerLaws.{large_told, told_time, missing_unfit, gap_holds, untimed_none}
-use Rattle.time_bounds.proofs.Rules.{rule_within}
+use Rattle.time_bounds.proofs.RuleNumbers.{rule_within}
 use Rattle.time_bounds.proofs.TablesOver.{table_over}
-use Rattle.time_bounds.proofs.TriedLists.{gap_last}
+use Rattle.time_bounds.proofs.NamedGaps.{gap_last}
 use Rattle.time_bounds.proofs.reasons.no_time.Goals as goal
 
 pub rank_time-requires-clause-over : goal.rank_time-requires-clause-over
@@ -40,9 +41,9 @@ returns-in-Large-clause-said c =
     let large = subst (λ (x : Table). answer_of c.in_ok-nodes-in-Ranked.field-0 ≡ rewritten_within (time_of p node x.time x.size))
     (table_over c.args.table.now) c.in_ok-nodes-in-Ranked.ensures in (
       untimed_none b c.args.rule c.requires.untimed,
-      told_time p b c.args.cx.now.pivots c.args.cx.now.empties.items c.args.rule c.args.asked (Lacks (TooLarge c.in-Large.nodes))
+      told_time p b c.args.cx.now.pivots c.args.cx.now.empties.items c.args.rule c.args.asked (Lacks (OfTime (TimeLarge c.in-Large.nodes)))
           c.requires.ready.empties m.asked m.answered
-          (subst (λ (a : RankAnswer). TellsRanking (setting_of p) b (ranking_of a) (Lacks (TooLarge c.in-Large.nodes))) (sym c.in-Ranked.is)
+          (subst (λ (a : RankAnswer). TellsRanking (setting_of p) b (ranking_of a) (Lacks (OfTime (TimeLarge c.in-Large.nodes)))) (sym c.in-Ranked.is)
           (large_told p b node c.in-Large.nodes (sym (ap answer_of c.in-Large.is) ∙ large))),
     )
 
@@ -58,10 +59,10 @@ returns-in-NoRank-clause-said c =
     let last = gap_last c.args.gaps.now.items c.push.new.self.items c.in-NoRank.gap c.len.result c.in_ok-push-in-NoRank.ensures.items
     (omega (arith, c.len.ensures, c.push.new.self.ok.0)) in (
       untimed_none b c.args.rule c.requires.untimed,
-      told_time p b c.args.cx.now.pivots c.args.cx.now.empties.items c.args.rule c.args.asked (Lacks (NoFunction n)) c.requires.ready.empties
+      told_time p b c.args.cx.now.pivots c.args.cx.now.empties.items c.args.rule c.args.asked (Lacks (OfTime (NoFunction n))) c.requires.ready.empties
           m.asked m.answered
-          (subst (λ (a : RankAnswer). TellsRanking (setting_of p) b (ranking_of a) (Lacks (NoFunction n))) (sym c.in-NoRank.is)
-          (ap (λ (g : Gap). Lacks (NoFunction g)) last)),
+          (subst (λ (a : RankAnswer). TellsRanking (setting_of p) b (ranking_of a) (Lacks (OfTime (NoFunction n)))) (sym c.in-NoRank.is)
+          (ap (λ (g : Gap). Lacks (OfTime (NoFunction g))) last)),
     )
 
 pub returns-in-NoRank-clause-hold : goal.returns-in-NoRank-clause-hold
@@ -81,9 +82,9 @@ returns-clause-said c =
     let b = bounds_in c.args.table.now in
     let m = c.requires.missing in (
       untimed_none b c.args.rule c.requires.untimed,
-      told_time p b c.args.cx.now.pivots c.args.cx.now.empties.items c.args.rule c.args.asked (Lacks (Tripped c.in-Tripped.trip))
+      told_time p b c.args.cx.now.pivots c.args.cx.now.empties.items c.args.rule c.args.asked (Lacks (OfTime (TimeTripped c.in-Tripped.trip)))
           c.requires.ready.empties m.asked m.answered
-          (subst (λ (a : RankAnswer). TellsRanking (setting_of p) b (ranking_of a) (Lacks (Tripped c.in-Tripped.trip))) (sym c.in-Tripped.is) refl),
+          (subst (λ (a : RankAnswer). TellsRanking (setting_of p) b (ranking_of a) (Lacks (OfTime (TimeTripped c.in-Tripped.trip)))) (sym c.in-Tripped.is) refl),
     )
 
 pub unreachable-requires : goal.unreachable-requires

@@ -6,7 +6,7 @@ use Rattle.time_bounds.specs.AnalysisLemmas.{AreGapsInOrder}
 use Rattle.time_bounds.specs.Questions.{program_in}
 use Rattle.time_bounds.specs.TimesSaid.{IsKnownTime}
 use Rattle.time_bounds.specs.TriedRules.{IsAskedOver}
-use Rattle.time_bounds.proofs.CarriedTimes.{known_ordered}
+use Rattle.time_bounds.proofs.TimeNumbers.{known_ordered}
 use Rattle.time_bounds.proofs.reasons.said_by.Goals as goal
 
 pub known_time-requires : goal.known_time-requires

@@ -11,8 +11,9 @@ use Rattle.time_bounds.specs.ProgramSearches.{searches_of_program}
 use Rattle.time_bounds.specs.Questions.{program_in}
 use Rattle.time_bounds.specs.TimesSaid.{AreTimesOver}
 use Rattle.time_bounds.specs.TriedRules.{IsAskedOver}
-use Rattle.time_bounds.proofs.CarriedTimes.{times_carried, gaps_ordered}
-use Rattle.time_bounds.proofs.TriedLists.{asked_read, said_grown, gaps_grown, grown_few}
+use Rattle.time_bounds.proofs.TimeNumbers.{times_carried, gaps_ordered}
+use Rattle.time_bounds.proofs.NamedGaps.{said_grown, gaps_grown, grown_few}
+use Rattle.time_bounds.proofs.NumberedLists.{each_read}
 use Rattle.time_bounds.proofs.reasons.said_of.Goals as goal
 
 pub said_by-requires-clause-asked : goal.said_by-requires-clause-asked
@@ -24,7 +25,7 @@ said_by-requires-clause-asked c =
     c.in-Some.is c.next.ensures.steps in
     subst (λ (n : ℕ). IsAskedOver (program_in c.args.cx.now) b b c.args.cx.now.pivots c.args.cx.now.empties.items n c.in-Some.question)
     (let z : 1 + length c.loop-question.yielded ≡ c.len.result + 1 = omega (arith, c.len.ensures, c.loop-question.times.ok.0, c.loop-question.invariant.one_each) in z)
-    (asked_read (program_in c.args.cx.now) b b c.args.cx.now.pivots c.args.cx.now.empties.items 1 (length c.loop-question.yielded)
+    (each_read (IsAskedOver (program_in c.args.cx.now) b b c.args.cx.now.pivots c.args.cx.now.empties.items) 1 (length c.loop-question.yielded)
     c.args.asked.items c.in-Some.question c.requires.asked t.0 t.1)
 
 pub loop-question-preserved : goal.loop-question-preserved

@@ -6,7 +6,8 @@ use Rattle.proof_tree.specs.AnswerViews.{gap_of}
 use Rattle.rank_search.specs.rule_questions.ProgramQuestions.{forms_at}
 use Rattle.size_bounds.specs.Tables.{number_at}
 use Rattle.bound_book.specs.ByKey.{bounds_in}
-use Rattle.time_bounds.specs.AnalysisLemmas.{CarryTimes, AreGapsInOrder}
+use Rattle.time_bounds.specs.AnalysisLemmas.{CarriesTime, AreGapsInOrder}
+use Rattle.time_bounds.specs.Numbered.{EachNumbered}
 use Rattle.time_bounds.specs.ProgramSearches.{searches_of_program}
 use Rattle.time_bounds.specs.Questions.{program_in}
 use Rattle.time_bounds.specs.TimesSaid.{AreTimesOver}
@@ -20,6 +21,6 @@ invariant-loop-question l = record {
       (map (time_of l.gaps.items) l.times.items);
   gaps : All (HasItsGap (length l.gaps.items)) l.times.items;
   hold : All (λ g. GapHolds (program_in l.cx) (forms_at (program_in l.cx)) (gap_of g)) l.gaps.items;
-  carried : CarryTimes (number_at l.table) 1 l.times.items;
+  carried : EachNumbered (CarriesTime (number_at l.table)) 1 l.times.items;
   in_order : AreGapsInOrder 0 l.times.items (length l.gaps.items);
 }

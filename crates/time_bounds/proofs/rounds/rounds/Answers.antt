@@ -6,7 +6,7 @@ use Rattle.time_bounds.specs.declared.sizing.Attempt.{Attempt}
 use Rattle.time_bounds.specs.Questions.{AreKept, program_in}
 use Rattle.time_bounds.specs.RoundsMade.{known_with}
 use Rattle.time_bounds.specs.EarlierAnswers.{WereAttempts}
-use Rattle.time_bounds.proofs.KeptQuestions.{none_kept}
+use Rattle.time_bounds.proofs.AnsweredQuestions.{none_kept}
 use Rattle.time_bounds.proofs.MadeRounds.{round_made, round_kept, same_finds, fewer_missing}
 use Rattle.time_bounds.proofs.StandingAnswers.{were-none}
 use Rattle.time_bounds.proofs.rounds.rounds.Goals as goal

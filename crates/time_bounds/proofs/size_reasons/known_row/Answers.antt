@@ -5,7 +5,7 @@ use Rattle.outcome.specs.Views.{size_of}
 use Rattle.std.specs.Option.{option_map}
 use Rattle.time_bounds.specs.SizeSaid.{seen_row, said_stored}
 use Rattle.time_bounds.proofs.SaidRows.{seen_more}
-use Rattle.time_bounds.proofs.CarriedSizes.{row_nothing, row_carried}
+use Rattle.time_bounds.proofs.SizeNumbers.{row_nothing, row_carried}
 use Rattle.time_bounds.proofs.size_reasons.known_row.Goals as goal
 
 pub loop-stored-init : goal.loop-stored-init

@@ -6,7 +6,7 @@ use Rattle.outcome.specs.declared.entry.SizeEntry.{SizeEntry}
 use Rattle.outcome.specs.declared.entry.Stored.{Stored}
 use Rattle.time_bounds.specs.SizeSaid.{seen_rows, said_stored, CarryRow}
 use Rattle.time_bounds.proofs.SaidRows.{row_more}
-use Rattle.time_bounds.proofs.CarriedSizes.{places_nothing, rows_carried}
+use Rattle.time_bounds.proofs.SizeNumbers.{places_nothing, rows_carried}
 use Rattle.time_bounds.proofs.size_reasons.known_sizes.Goals as goal
 
 pub loop-row-init : goal.loop-row-init

@@ -10,10 +10,11 @@ use Rattle.time_bounds.specs.declared.sizing.Attempt.{Attempt}
 use Rattle.time_bounds.specs.Candidates.{spots_in}
 use Rattle.time_bounds.specs.Attempts.{why_of}
 use Rattle.time_bounds.specs.SizeSaid.{seen_rows, said_table, put_why, put_whys, AreThere}
-use Rattle.time_bounds.specs.AnalysisLemmas.{CarryRows}
+use Rattle.time_bounds.specs.AnalysisLemmas.{CarriesSizes}
+use Rattle.time_bounds.specs.Numbered.{EachNumbered}
 use Rattle.size_bounds.specs.Tables.{number_at}
 use Rattle.time_bounds.proofs.SaidRows.{whys_more, take_past, there_rows, said_seen}
-use Rattle.time_bounds.proofs.CarriedSizes.{all_carried}
+use Rattle.time_bounds.proofs.SizeNumbers.{all_carried}
 use Rattle.time_bounds.proofs.size_reasons.said_sizes.Goals as goal
 
 pub loop-position-preserved : goal.loop-position-preserved
@@ -72,6 +73,6 @@ pub returns-clause-carried : goal.returns-clause-carried
 returns-clause-carried c =
     IfOk-weaker c.all_said.result
     (λ rows. map (λ row. map (λ e. Some e) row.items) rows.items ≡ map (λ row. row.items) c.loop-position.entries.items)
-    (λ rows. CarryRows (number_at c.args.table.now) 0 (map (λ row. row.items) rows.items))
+    (λ rows. EachNumbered (CarriesSizes (number_at c.args.table.now)) 0 (map (λ row. row.items) rows.items))
     (λ rows e. all_carried c.args.table.now rows.items (map (λ row. row.items) c.loop-position.entries.items) e c.loop-position.invariant.carried)
     c.all_said.ensures

@@ -8,7 +8,7 @@ use Rattle.proof_tree.specs.declared.arm.Spot.{Spot}
 use Rattle.time_bounds.specs.Attempts.{why_of}
 use Rattle.time_bounds.specs.SizeSaid.{seen_rows, put_some, put_why}
 use Rattle.time_bounds.proofs.SaidRows.{why_more, why_nowhere}
-use Rattle.time_bounds.proofs.CarriedSizes.{kept_all, kept_on}
+use Rattle.time_bounds.proofs.SizeNumbers.{kept_all, kept_on}
 use Rattle.time_bounds.proofs.size_reasons.write_reason.Goals as goal
 
 pub loop-spot-init : goal.loop-spot-init

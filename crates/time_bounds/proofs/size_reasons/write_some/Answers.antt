@@ -5,7 +5,7 @@ use Rattle.proof_tree.specs.Views.{spot_of}
 use Rattle.time_bounds.specs.SizeSaid.{seen_rows, put_some}
 use Rattle.time_bounds.specs.SizeSaid.{IsReason}
 use Rattle.time_bounds.proofs.SaidRows.{seen_place}
-use Rattle.time_bounds.proofs.CarriedSizes.{reason_kept, kept_all}
+use Rattle.time_bounds.proofs.SizeNumbers.{reason_kept, kept_all}
 use Rattle.time_bounds.proofs.size_reasons.write_some.Goals as goal
 
 pub returns-in-Some-clause-sizes : goal.returns-in-Some-clause-sizes

@@ -15,7 +15,7 @@ use Rattle.time_bounds.specs.Questions.{program_in}
 use Rattle.time_bounds.specs.RoundsMade.{known_with}
 use Rattle.time_bounds.proofs.SizeRounds.{places_open}
 use Rattle.time_bounds.proofs.TablesOver.{table_with}
-use Rattle.time_bounds.proofs.TakenAnswers.{all_taken, armless, taken, spread_gives, cycle_gives, given_alone, given_loop}
+use Rattle.time_bounds.proofs.ComponentTries.{all_taken, armless, taken, spread_gives, cycle_gives, given_alone, given_loop}
 use Rattle.time_bounds.proofs.sizing.try_arms.Goals as goal
 
 pub returns-in-Lacking-clause-step : goal.returns-in-Lacking-clause-step

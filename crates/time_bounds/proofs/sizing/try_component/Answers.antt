@@ -9,7 +9,7 @@ use Rattle.time_bounds.specs.Questions.{program_in}
 use Rattle.time_bounds.specs.RoundsMade.{known_with}
 use Rattle.time_bounds.proofs.StandingAnswers.{some_holds, lacks-still}
 use Rattle.time_bounds.proofs.TablesOver.{bounds_same}
-use Rattle.time_bounds.proofs.TakenAnswers.{known_step, failed_step}
+use Rattle.time_bounds.proofs.ComponentTries.{known_step, failed_step}
 use Rattle.time_bounds.proofs.sizing.try_component.Goals as goal
 
 pub returns-then-not-are_open-clause-step : goal.returns-then-not-are_open-clause-step

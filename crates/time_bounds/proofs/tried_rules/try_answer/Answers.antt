@@ -8,7 +8,8 @@ use Rattle.proof_tree.specs.AnswerViews.{gap_of}
 use Rattle.proof_tree.specs.Views.{rank_of, spot_of}
 use Rattle.rank_search.specs.declared.answer.RankAnswer.{RankAnswer}
 use Rattle.bound_rounds.specs.Finds.{RankBy}
-use Rattle.bound_rounds.specs.Searches.{NoFunction, Tripped, TooLarge}
+use Rattle.outcome.specs.Reports.{NoFunction, TimeTripped, TimeLarge}
+use Rattle.bound_rounds.specs.Searches.{OfTime}
 use Rattle.bound_rounds.specs.Answers.{Answer, Found, TellsRanking}
 use Rattle.bound_book.specs.ByKey.{bounds_in}
 use Rattle.time_bounds.specs.ProgramRules.{ranking_of}
@@ -44,7 +45,7 @@ returns-in-Large c =
     let large = subst (λ (x : Table). answer_of c.in_ok-bound-in-Ranked.field-0 ≡ rewritten_within (time_of p node x.time x.size))
     (table_over c.args.table.now) c.in_ok-bound-in-Ranked.ensures in (
       c.requires.untimed,
-      missing_of p b c.args.cx.now.pivots c.args.cx.now.empties.items c.args.rule c.args.asked _ (TooLarge c.in-Large.nodes) c.requires.asked
+      missing_of p b c.args.cx.now.pivots c.args.cx.now.empties.items c.args.rule c.args.asked _ (OfTime (TimeLarge c.in-Large.nodes)) c.requires.asked
           c.requires.answered c.in-Ranked.is
           (large_told p b node c.in-Large.nodes (sym (ap answer_of c.in-Large.is) ∙ large)),
     )
@@ -53,12 +54,12 @@ pub returns-in-NoRank : goal.returns-in-NoRank
 returns-in-NoRank c = (
   c.requires.untimed,
   missing_of (program_in c.args.cx.now) (bounds_in c.args.table.now) c.args.cx.now.pivots c.args.cx.now.empties.items c.args.rule c.args.asked _
-      (NoFunction (gap_of c.in-NoRank.gap)) c.requires.asked c.requires.answered c.in-NoRank.is refl,
+      (OfTime (NoFunction (gap_of c.in-NoRank.gap))) c.requires.asked c.requires.answered c.in-NoRank.is refl,
 )
 
 pub returns-in-Tripped : goal.returns-in-Tripped
 returns-in-Tripped c = (
   c.requires.untimed,
   missing_of (program_in c.args.cx.now) (bounds_in c.args.table.now) c.args.cx.now.pivots c.args.cx.now.empties.items c.args.rule c.args.asked _
-      (Tripped c.in-Tripped.trip) c.requires.asked c.requires.answered c.in-Tripped.is refl,
+      (OfTime (TimeTripped c.in-Tripped.trip)) c.requires.asked c.requires.answered c.in-Tripped.is refl,
 )

@@ -6,8 +6,8 @@ use Rattle.bound_book.specs.ByKey.{bounds_in}
 use Rattle.time_bounds.specs.declared.tried_rules.Tried.{Tried}
 use Rattle.time_bounds.specs.Questions.{program_in}
 use Rattle.time_bounds.specs.TriedRules.{AreTried, IsTried}
-use Rattle.time_bounds.proofs.KeptQuestions.{kept_read}
-use Rattle.time_bounds.proofs.TriedLists.{tried_pushed}
+use Rattle.time_bounds.proofs.AnsweredQuestions.{kept_read}
+use Rattle.time_bounds.proofs.NumberedLists.{each_pushed}
 use Rattle.time_bounds.proofs.tried_rules.try_rules.Goals as goal
 
 pub loop-asked-init : goal.loop-asked-init
@@ -53,6 +53,6 @@ loop-asked-preserved c =
           );
       tried =
           subst (λ (xs : List Tried). AreTried p b c.args.cx.now.pivots c.args.cx.now.empties.items 1 xs) (sym pushed)
-          (tried_pushed p b c.args.cx.now.pivots c.args.cx.now.empties.items 1 c.loop-asked.tries.items c.in_ok-try_rule.field-0
+          (each_pushed (IsTried p b c.args.cx.now.pivots c.args.cx.now.empties.items) 1 c.loop-asked.tries.items c.in_ok-try_rule.field-0
           c.loop-asked.invariant.tried tried);
     }

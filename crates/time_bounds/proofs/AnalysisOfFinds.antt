@@ -17,7 +17,7 @@ use Rattle.time_bounds.specs.TimesSaid.{IsTimeOver, AreTimesOver}
 use Rattle.time_bounds.specs.Totals.{time_in, total_of}
 use Rattle.time_bounds.specs.Analysis.{IsTimeOf, AreTimesOf, AreSizeRowsOf, IsAnalysis}
 use Rattle.time_bounds.proofs.ReportEntries.{times_alike}
-use Rattle.time_bounds.proofs.Rules.{rule_within}
+use Rattle.time_bounds.proofs.RuleNumbers.{rule_within}
 
 -- what is said over what is known with finds is what they say
 times_told : (q : Searches) (p : Program) (fs : List Find) (k : ℕ) (times : List Time) → 1 ≤ k → length times + k ≤ length p.rules + 1

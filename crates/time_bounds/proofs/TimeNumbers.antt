@@ -4,23 +4,16 @@ use Rattle.outcome.specs.declared.entry.TimeEntry.{TimeEntry}
 use Rattle.outcome.specs.declared.entry.TimeEntry.TheVariants as times
 use Rattle.bound_rounds.specs.Keys.{Bounds}
 use Rattle.time_bounds.specs.TimesSaid.{IsKnownTime}
-use Rattle.time_bounds.specs.AnalysisLemmas.{CarriesTime, CarryTimes, AreGapsInOrder}
-
--- one entry more carries its number
-carry_more : (ns : ℕ → ℕ → ℕ) (t : ℕ) (xs : List TimeEntry) (x : TimeEntry) → CarryTimes ns t xs → CarriesTime ns (t + length xs) x
-    → CarryTimes ns t (xs ++ x ∷ [])
-carry_more ns t [] x h k = (subst (λ (n : ℕ). CarriesTime ns n x) (let z : t + 0 ≡ t = omega arith in z) k, tt)
-carry_more ns t (y ∷ xs) x h k = (
-  h.0,
-  carry_more ns (suc t) xs x h.1 (subst (λ (n : ℕ). CarriesTime ns n x) (let z : t + suc (length xs) ≡ suc t + length xs = omega arith in z) k),
-)
+use Rattle.time_bounds.specs.AnalysisLemmas.{CarriesTime, AreGapsInOrder}
+use Rattle.time_bounds.specs.Numbered.{EachNumbered}
+use Rattle.time_bounds.proofs.NumberedLists.{each_pushed}
 
 -- one time more that carries the number of its lemma stands behind those that do
-pub times_carried : (ns : ℕ → ℕ → ℕ) (xs new : List TimeEntry) (x : TimeEntry) (t : ℕ) → CarryTimes ns 1 xs → new ≡ xs ++ x ∷ [] → t ≡ length xs + 1
-    → CarriesTime ns t x → CarryTimes ns 1 new
+pub times_carried : (ns : ℕ → ℕ → ℕ) (xs new : List TimeEntry) (x : TimeEntry) (t : ℕ) → EachNumbered (CarriesTime ns) 1 xs → new ≡ xs ++ x ∷ [] → t ≡ length xs + 1
+    → CarriesTime ns t x → EachNumbered (CarriesTime ns) 1 new
 times_carried ns xs new x t h e at k =
-    subst (λ (ys : List TimeEntry). CarryTimes ns 1 ys) (sym e)
-    (carry_more ns 1 xs x h (subst (λ (n : ℕ). CarriesTime ns n x) (let z : t ≡ 1 + length xs = omega (arith, at) in z) k))
+    subst (λ (ys : List TimeEntry). EachNumbered (CarriesTime ns) 1 ys) (sym e)
+    (each_pushed (CarriesTime ns) 1 xs x h (subst (λ (n : ℕ). CarriesTime ns n x) (let z : t ≡ 1 + length xs = omega (arith, at) in z) k))
 
 -- one entry more is in the order of gaps
 order_more : (n : ℕ) (xs : List TimeEntry) (m : ℕ) (x : TimeEntry) (k : ℕ) → AreGapsInOrder n xs m → AreGapsInOrder m (x ∷ []) k

@@ -25,9 +25,10 @@ use Rattle.size_bounds.specs.Tables.{number_at}
 use Rattle.bound_book.specs.Views.{finds_of}
 use Rattle.size_bounds.specs.declared.table.Table.{Table}
 use Rattle.time_bounds.specs.Analysis.{AreTimesOf, AreSizeRowsOf}
-use Rattle.time_bounds.specs.AnalysisLemmas.{CarryTimes, CarryRows, AreGapsInOrder, HasLemmas}
+use Rattle.time_bounds.specs.AnalysisLemmas.{CarriesTime, CarriesSizes, AreGapsInOrder, HasLemmas}
+use Rattle.time_bounds.specs.Numbered.{EachNumbered}
 use Rattle.time_bounds.specs.ProgramSearches.{searches_of_program}
-use Rattle.time_bounds.proofs.FoundIsAnalysis.{IsAnalysisWith}
+use Rattle.time_bounds.proofs.AnalysisOfFinds.{IsAnalysisWith}
 use Rattle.bound_rounds.proofs.SizesStand.{all_stand}
 use Rattle.time_bounds.proofs.OneProgram.{program_searches_one}
 use Rattle.time_bounds.proofs.RightSizings.{program_searches_right}
@@ -36,7 +37,7 @@ use Rattle.time_bounds.proofs.TablesOver.{numbers_same}
 -- an analysis over the finds of a book, with their lemmas, has lemmas
 pub has_lemmas : (p : Program) (pivots : ℕ) (tab : Table) (finds : List Find) (o : Outcome) → IsValid p → IsBook p tab finds
     → IsAnalysisWith p pivots (finds_of finds) (report_of o) → map proof_of o.lemmas.items ≡ lemmas_of (finds_of finds)
-    → CarryTimes (number_at tab) 1 o.times.items → CarryRows (number_at tab) 1 (map (λ row. row.items) o.sizes.items)
+    → EachNumbered (CarriesTime (number_at tab)) 1 o.times.items → EachNumbered (CarriesSizes (number_at tab)) 1 (map (λ row. row.items) o.sizes.items)
     → AreGapsInOrder 0 o.times.items (length o.gaps.items) → All (λ g. GapHolds p (forms_at p) (gap_of g)) o.gaps.items
     → HasLemmas p pivots o
 has_lemmas p pivots tab finds o valid book analysis lemmas times sizes gaps hold = record {
@@ -53,9 +54,9 @@ has_lemmas p pivots tab finds o valid book analysis lemmas times sizes gaps hold
   stated = λ t i b rule e.
       subst (λ (ls : List Proof). Contains (facts_of_lemma (facts_of_lemmas (setting_of p) ls) (number_in (finds_of finds) t i))
       (place_fact t i b)) (sym lemmas) (are_numbered.each (setting_of p) (finds_of finds) stand t i b rule e);
-  carried_times = subst (λ (ns : ℕ → ℕ → ℕ). CarryTimes ns 1 o.times.items) (numbers_same p tab finds book) times;
+  carried_times = subst (λ (ns : ℕ → ℕ → ℕ). EachNumbered (CarriesTime ns) 1 o.times.items) (numbers_same p tab finds book) times;
   carried_sizes =
-      subst (λ (ns : ℕ → ℕ → ℕ). CarryRows ns 1 (map (λ row. row.items) o.sizes.items)) (numbers_same p tab finds book) sizes;
+      subst (λ (ns : ℕ → ℕ → ℕ). EachNumbered (CarriesSizes ns) 1 (map (λ row. row.items) o.sizes.items)) (numbers_same p tab finds book) sizes;
   gaps = gaps;
   gaps_hold = hold;
 }

@@ -26,7 +26,7 @@ use Rattle.bound_rounds.specs.Finds.{SpreadBy, CycleBy, bounds_of}
 use Rattle.bound_rounds.specs.Needs.{needs_of}
 use Rattle.bound_rounds.specs.Standing.{composed_bound}
 use Rattle.bound_rounds.specs.Searches as searches
-use Rattle.bound_rounds.specs.Searches.{SizedBy, Unsized}
+use Rattle.bound_rounds.specs.Searches.{OfSize, SizedBy, Unsized}
 use Rattle.bound_rounds.specs.Answers as told
 use Rattle.bound_rounds.specs.Answers.{SizesOf, are_open}
 use Rattle.bound_rounds.specs.Rounds.{Tries}
@@ -43,25 +43,24 @@ use Rattle.time_bounds.specs.declared.candidates.Arms.{Arms}
 use Rattle.time_bounds.specs.declared.candidates.Arms.TheVariants as arms
 use Rattle.time_bounds.specs.declared.sizing.Attempt.{Attempt}
 use Rattle.time_bounds.specs.declared.sizing.Attempt.TheVariants as attempts
-use Rattle.time_bounds.specs.Reasons.{size_reason}
 use Rattle.time_bounds.specs.Candidates.{spots_in, AreArms, HasAccepted, IsCandidate}
-use Rattle.time_bounds.specs.ProgramSizes.{AreMembers, IsSizingBy, IsSizingOf, lacks_arms}
+use Rattle.time_bounds.specs.ProgramSizes.{AreMembers, AnswersMembers, AnswersPlaces, lacks_arms}
 use Rattle.time_bounds.specs.ProgramSearches.{searches_of_program}
 use Rattle.time_bounds.specs.Attempts.{why_in, why_armless, attempt_by, finds_by, LacksSize}
 use Rattle.time_bounds.specs.Attempts.{IsSizeStep}
 
 -- what is answered of a component over bounds
-abbrev pub IsSized : Program → ℕ → Bounds → Candidate → searches.Sizing → Type 0
+abbrev pub IsSized : Program → ℕ → Bounds → Candidate → searches.SizeOutcome → Type 0
 IsSized p pivots b c answer = (searches_of_program p pivots).Sizes b (spots_in c) answer
 
 -- what an answer gives: the node with what it needs and composes, or why there is none
 abbrev pub Gives : Program → ℕ → Bounds → Candidate → plain.Node → Sizing → Type 0
 Gives p pivots b c node (answers.Found needs bound) = IsSized p pivots b c (SizedBy node)
     × (map spot_of needs.items ≡ needs_of (setting_of p) b node) × (bound_of bound ≡ composed_bound (setting_of p) b node)
-Gives p pivots b c node (answers.Missing m) = IsSized p pivots b c (Unsized (size_reason (SizeMissing (spot_of m))))
-Gives p pivots b c node (answers.Bent m) = IsSized p pivots b c (Unsized (size_reason (SizeBent (spot_of m))))
-Gives p pivots b c node (answers.Untimed t) = IsSized p pivots b c (Unsized (size_reason (SizeUntimed t)))
-Gives p pivots b c node (answers.Large n) = IsSized p pivots b c (Unsized (size_reason (SizeLarge n)))
+Gives p pivots b c node (answers.Missing m) = IsSized p pivots b c (Unsized (SizeMissing (spot_of m)))
+Gives p pivots b c node (answers.Bent m) = IsSized p pivots b c (Unsized (SizeBent (spot_of m)))
+Gives p pivots b c node (answers.Untimed t) = IsSized p pivots b c (Unsized (SizeUntimed t))
+Gives p pivots b c node (answers.Large n) = IsSized p pivots b c (Unsized (SizeLarge n))
 
 -- the arms of a candidate that is looked at
 pub arms_seen : (p : Program) (pivots : ℕ) (local : Locals) (c : Candidate) (x : Arms) → IsCandidate p pivots local c → c.arms ≡ x
@@ -73,16 +72,16 @@ accepted_seen p pivots local c x h e = subst (λ (y : Arms). HasAccepted p y) e 
 
 -- with the members' arms a component is sized as they are judged
 pub judged : (p : Program) (pivots : ℕ) (local : Locals) (c : Candidate) (b : Bounds) (looping : Bool) (members : List Member)
-    (answer : searches.Sizing) → IsCandidate p pivots local c → lacks_arms local (spots_in c) ≡ None
+    (answer : searches.SizeOutcome) → IsCandidate p pivots local c → lacks_arms local (spots_in c) ≡ None
     → loops (setting_of p) local (spots_in c) ≡ looping → AreMembers local (spots_in c) members
-    → IsSizingBy looping (setting_of p) (over b) members answer → IsSized p pivots b c answer
+    → AnswersMembers looping (setting_of p) (over b) members answer → IsSized p pivots b c answer
 judged p pivots local c b looping members answer h armed turns are by = (
   local,
   h.answered,
-  subst (λ (o : Option NoSize). IsSizingOf (setting_of p) (over b) local (spots_in c) o answer) (sym armed) record {
+  subst (λ (o : Option NoSize). AnswersPlaces (setting_of p) (over b) local (spots_in c) o answer) (sym armed) record {
     members = members;
     are_members = are;
-    sizing = subst (λ (v : Bool). IsSizingBy v (setting_of p) (over b) members answer) (sym turns) by;
+    sizing = subst (λ (v : Bool). AnswersMembers v (setting_of p) (over b) members answer) (sym turns) by;
   },
 )
 
@@ -95,16 +94,16 @@ spread_gives p pivots local c m b a h e says = go a says
     seen : AreArms local (spots_in c) (loops (setting_of p) local (spots_in c)) (arms.Alone m)
     seen = arms_seen p pivots local c (arms.Alone m) h e
 
-    size : (answer : searches.Sizing) → IsSizingBy false (setting_of p) (over b) (member_of m ∷ []) answer → IsSized p pivots b c answer
+    size : (answer : searches.SizeOutcome) → AnswersMembers false (setting_of p) (over b) (member_of m ∷ []) answer → IsSized p pivots b c answer
     size answer by = judged p pivots local c b false (member_of m ∷ []) answer h seen.0 seen.1 seen.2 by
 
     go : (a : Sizing) → coded.IsSpreadSizing (setting_of p) (over b) (member_of m) a → Gives p pivots b c (SpreadBy (member_of m)) a
     go (answers.Found needs bound) (accepted, needed, composed) =
         (size (SizedBy (SpreadBy (member_of m))) (refl, accepted), needed, composed)
-    go (answers.Missing x) first = size (Unsized (size_reason (SizeMissing (spot_of x)))) (_, refl, first)
+    go (answers.Missing x) first = size (Unsized (SizeMissing (spot_of x))) (_, refl, first)
     go (answers.Bent x) never = absurd never
     go (answers.Untimed t) never = absurd never
-    go (answers.Large n) first = size (Unsized (size_reason (SizeLarge n))) (_, refl, first)
+    go (answers.Large n) first = size (Unsized (SizeLarge n)) (_, refl, first)
 
 -- the answer for the members of a loop
 pub cycle_gives : (p : Program) (pivots : ℕ) (local : Locals) (c : Candidate) (ms : Vec code.Member Global) (b : Bounds) (a : Sizing)
@@ -116,17 +115,17 @@ cycle_gives p pivots local c ms b a h e says = go a says
     seen : AreArms local (spots_in c) (loops (setting_of p) local (spots_in c)) (arms.Loop ms)
     seen = arms_seen p pivots local c (arms.Loop ms) h e
 
-    size : (answer : searches.Sizing) → IsSizingBy true (setting_of p) (over b) (map member_of ms.items) answer → IsSized p pivots b c answer
+    size : (answer : searches.SizeOutcome) → AnswersMembers true (setting_of p) (over b) (map member_of ms.items) answer → IsSized p pivots b c answer
     size answer by = judged p pivots local c b true (map member_of ms.items) answer h seen.0 seen.1 seen.2 by
 
     go : (a : Sizing) → coded.IsCycleSizing (setting_of p) (over b) (map member_of ms.items) a
         → Gives p pivots b c (CycleBy (map member_of ms.items)) a
     go (answers.Found needs bound) (accepted, needed, composed) =
         (size (SizedBy (CycleBy (map member_of ms.items))) (refl, accepted), needed, composed)
-    go (answers.Missing x) first = size (Unsized (size_reason (SizeMissing (spot_of x)))) (_, refl, first)
-    go (answers.Bent x) first = size (Unsized (size_reason (SizeBent (spot_of x)))) (_, refl, first)
-    go (answers.Untimed t) first = size (Unsized (size_reason (SizeUntimed t))) (_, refl, first)
-    go (answers.Large n) first = size (Unsized (size_reason (SizeLarge n))) (_, refl, first)
+    go (answers.Missing x) first = size (Unsized (SizeMissing (spot_of x))) (_, refl, first)
+    go (answers.Bent x) first = size (Unsized (SizeBent (spot_of x))) (_, refl, first)
+    go (answers.Untimed t) first = size (Unsized (SizeUntimed t)) (_, refl, first)
+    go (answers.Large n) first = size (Unsized (SizeLarge n)) (_, refl, first)
 
 -- a component that has its sizes is a step that finds nothing
 pub known_step : (p : Program) (pivots : ℕ) (old : List Find) (c : Candidate) → are_open (bounds_of p (finds_of old)) (spots_in c) ≡ false
@@ -148,8 +147,8 @@ pub lacking_tries : (p : Program) (pivots : ℕ) (fs : List plain.Find) (c : Can
 lacking_tries p pivots fs c x h = record {
   known = λ e. refl;
   tried = λ e. (
-    told.Lacks (size_reason h.why),
-    record { answer = Unsized (size_reason h.why); answered = h.answered; tells = refl },
+    told.Lacks (OfSize h.why),
+    record { answer = Unsized h.why; answered = h.answered; tells = refl },
     refl,
   );
 }
@@ -187,8 +186,8 @@ armless p pivots local old c entry h e unsized = record {
       answered = (
         local,
         h.answered,
-        subst (λ (o : Option NoSize). IsSizingOf (setting_of p) (over (bounds_of p (finds_of old))) local (spots_in c) o
-            (Unsized (size_reason seen.0))) (sym seen.1) refl,
+        subst (λ (o : Option NoSize). AnswersPlaces (setting_of p) (over (bounds_of p (finds_of old))) local (spots_in c) o
+            (Unsized seen.0)) (sym seen.1) refl,
       );
     }
 

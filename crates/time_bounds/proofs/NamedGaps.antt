@@ -1,6 +1,6 @@
--- One more rule that was tried, or one more entry that is said.
-use Rattle.std.proofs.Common.{◌≡◌, inl, inr, ℕ, zero, suc, ◌+◌, ◌<◌, ◌≤◌, List, [], ◌∷◌, ◌++◌}
-use Rattle.std.proofs.Common.{length, map, get_or, All, Option, refl, sym, ◌∙◌, ap, subst, arith}
+-- Gaps that entries name stay where one more comes, and so does what is said.
+use Rattle.std.proofs.Common.{◌≡◌, inl, inr, ℕ, zero, suc, ◌+◌, ◌≤◌, List, [], ◌∷◌, ◌++◌}
+use Rattle.std.proofs.Common.{length, map, All, refl, sym, ◌∙◌, ap, subst, arith}
 use Rattle.proof_tree.specs.AnswerViews.{gap_of}
 use Rattle.std.proofs.lemmas.List.{length-append, length-map, map-append}
 use Rattle.std.proofs.lemmas.List.Elements.{All-nil, All-cons, All-head, All-tail}
@@ -10,35 +10,12 @@ use Rattle.outcome.specs.Views.{numbered_gap, time_of}
 use Rattle.outcome.specs.Printing.{HasItsGap}
 use Rattle.outcome.specs.declared.entry.TimeEntry.{TimeEntry}
 use Rattle.outcome.specs.declared.entry.TimeEntry.TheVariants as entries
-use Rattle.proof_tree.specs.declared.answer.EmptyAnswer.{EmptyAnswer}
 use Rattle.proof_tree.specs.declared.gap.Gap.{Gap}
 use Rattle.bound_rounds.specs.Keys.{Bounds}
 use Rattle.bound_rounds.specs.Searches.{Searches}
-use Rattle.time_bounds.specs.declared.asking.Asked.{Asked}
-use Rattle.time_bounds.specs.declared.tried_rules.Tried.{Tried}
-use Rattle.time_bounds.specs.TriedRules.{IsTried, AreTried, IsAskedOver, AreAskedOver, IsGrown}
+use Rattle.time_bounds.specs.TriedRules.{IsGrown}
 use Rattle.time_bounds.specs.TimesSaid.{IsTimeOver, AreTimesOver}
-
--- what was tried of the next rule stands behind what was tried of those before it
-pub tried_pushed : (p : Program) (b : Bounds) (pivots : ℕ) (empties : List EmptyAnswer) (k : ℕ) (tries : List Tried) (x : Tried)
-    → AreTried p b pivots empties k tries → IsTried p b pivots empties (k + length tries) x
-    → AreTried p b pivots empties k (tries ++ x ∷ [])
-tried_pushed p b pivots empties k [] x h g = (subst (λ (n : ℕ). IsTried p b pivots empties n x) (let z : k + 0 ≡ k = omega arith in z) g, tt)
-tried_pushed p b pivots empties k (y ∷ tries) x h g = (
-  h.0,
-  tried_pushed p b pivots empties (suc k) tries x h.1
-      (subst (λ (n : ℕ). IsTried p b pivots empties n x) (let z : k + suc (length tries) ≡ suc k + length tries = omega arith in z) g),
-)
-
--- what is said of the next rule stands behind what is said of those before it
-pub said_pushed : (q : Searches) (p : Program) (b : Bounds) (k : ℕ) (times : List Time) (x : Time) → AreTimesOver q p b k times
-    → IsTimeOver q p b (k + length times) x → AreTimesOver q p b k (times ++ x ∷ [])
-said_pushed q p b k [] x h g = (subst (λ (n : ℕ). IsTimeOver q p b n x) (let z : k + 0 ≡ k = omega arith in z) g, tt)
-said_pushed q p b k (y ∷ times) x h g = (
-  h.0,
-  said_pushed q p b (suc k) times x h.1
-      (subst (λ (n : ℕ). IsTimeOver q p b n x) (let z : k + suc (length times) ≡ suc k + length times = omega arith in z) g),
-)
+use Rattle.time_bounds.proofs.NumberedLists.{each_pushed}
 
 -- a gap keeps its number when there is one more
 pub gap_kept : (gaps more : List Gap) (n : ℕ) → 1 ≤ n → n ≤ length gaps → numbered_gap (gaps ++ more) n ≡ numbered_gap gaps n
@@ -88,7 +65,7 @@ pub said_grown : (q : Searches) (p : Program) (b : Bounds) (gaps new : List Gap)
     → IsTimeOver q p b t (time_of new x) → AreTimesOver q p b 1 (map (time_of new) (times ++ x ∷ []))
 said_grown q p b gaps new times x t g h said e is =
     subst (λ (xs : List Time). AreTimesOver q p b 1 xs) (sym (map-append (time_of new) times (x ∷ [])))
-    (said_pushed q p b 1 (map (time_of new) times) (time_of new x)
+    (each_pushed (IsTimeOver q p b) 1 (map (time_of new) times) (time_of new x)
     (subst (λ (xs : List Time). AreTimesOver q p b 1 xs) (sym (entries_grown gaps new times g h)) said)
     (subst (λ (n : ℕ). IsTimeOver q p b n (time_of new x)) (e ∙ ap (λ (n : ℕ). 1 + n) (sym (length-map times (time_of new)))) is))
 
@@ -114,15 +91,3 @@ pub gap_last : (old new : List Gap) (g : Gap) (n : ℕ) → new ≡ old ++ g ∷
 gap_last old new g n e h =
     ap (λ (gs : List Gap). numbered_gap gs n) e
     ∙ (ap (numbered_gap (old ++ g ∷ [])) (let z : n ≡ suc (length old) = omega (arith, h, ap (λ (gs : List Gap). length gs) e, length-append old (g ∷ [])) in z) ∙ gap_added old g)
-
--- what is kept of the rule at a position
-pub asked_read : (p : Program) (b later : Bounds) (pivots : ℕ) (empties : List EmptyAnswer) (k i : ℕ) (asked : List (Option Asked))
-    (o : Option Asked) → AreAskedOver p b later pivots empties k asked → i < length asked → o ≡ get_or asked i o
-    → IsAskedOver p b later pivots empties (k + i) o
-asked_read p b later pivots empties k i [] o h l e = absurd (omega (arith, l))
-asked_read p b later pivots empties k zero (x ∷ asked) o h l e =
-    subst (λ (n : ℕ). IsAskedOver p b later pivots empties n o) (let z : k ≡ k + 0 = omega arith in z)
-    (subst (λ (z : Option Asked). IsAskedOver p b later pivots empties k z) (sym e) h.0)
-asked_read p b later pivots empties k (suc i) (x ∷ asked) o h l e =
-    subst (λ (n : ℕ). IsAskedOver p b later pivots empties n o) (let z : suc k + i ≡ k + suc i = omega arith in z)
-    (asked_read p b later pivots empties (suc k) i asked o h.1 (omega (arith, l)) e)

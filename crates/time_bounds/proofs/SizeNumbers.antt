@@ -11,9 +11,10 @@ use Rattle.outcome.specs.declared.entry.SizeEntry.{SizeEntry}
 use Rattle.outcome.specs.declared.entry.SizeEntry.TheVariants as entries
 use Rattle.size_bounds.specs.declared.table.Table.{Table}
 use Rattle.size_bounds.specs.Tables.{entry_at, row_at, lemma_stored, number_at}
-use Rattle.time_bounds.specs.AnalysisLemmas.{CarriesSize, CarrySizes, CarryRows}
+use Rattle.time_bounds.specs.AnalysisLemmas.{CarriesSize, CarriesSizes}
+use Rattle.time_bounds.specs.Numbered.{EachNumbered, size_stored, CarriesNumber}
 use Rattle.bound_book.specs.ByKey.{put_entry, put_place}
-use Rattle.time_bounds.specs.SizeSaid.{placed, CarriesNumber, CarriesIfThere, CarryRow, CarryPlaces, KeepPlaces, IsReason}
+use Rattle.time_bounds.specs.SizeSaid.{placed, CarriesIfThere, CarryRow, CarryPlaces, KeepPlaces, IsReason}
 use Rattle.model.proofs.Cases.{none_some as no_entry, some_same}
 
 -- what stands at a position after one more was pushed
@@ -95,13 +96,13 @@ pub row_carried : (row : List (Option Stored)) (said new : List (Option SizeEntr
     → CarryRow row new
 row_carried row said new x i o h is long low read k = record { each = each }
   where
-    each : (j : ℕ) (e : SizeEntry) → entry_at new j ≡ Some e → CarriesNumber (lemma_stored (entry_at row j)) e
+    each : (j : ℕ) (e : SizeEntry) → entry_at new j ≡ Some e → CarriesNumber (lemma_stored (entry_at row j)) (size_stored e)
     each j e there = go (entry_pushed said x j e (sym (ap (λ (os : List (Option SizeEntry)). entry_at os j) is) ∙ there))
       where
-        go : (entry_at said j ≡ Some e) ⊎ ((j ≡ length said) × (x ≡ Some e)) → CarriesNumber (lemma_stored (entry_at row j)) e
+        go : (entry_at said j ≡ Some e) ⊎ ((j ≡ length said) × (x ≡ Some e)) → CarriesNumber (lemma_stored (entry_at row j)) (size_stored e)
         go (inl old) = h.each j e old
         go (inr last) =
-            subst (λ (n : ℕ). CarriesNumber n e)
+            subst (λ (n : ℕ). CarriesNumber n (size_stored e))
             (ap lemma_stored (sym (stored_at row i o low read)) ∙ ap (λ (m : ℕ). lemma_stored (entry_at row m)) (sym (last.0 ∙ long)))
             (subst (λ (y : Option SizeEntry). CarriesIfThere (lemma_stored o) y) last.1 k)
 
@@ -114,27 +115,27 @@ rows_carried tab said new r t row h is long low read k = record { each = each }
     lists : map (λ (v : Vec (Option SizeEntry) Global). v.items) new ≡ map (λ (v : Vec (Option SizeEntry) Global). v.items) said ++ r.items ∷ []
     lists = ap (map (λ (v : Vec (Option SizeEntry) Global). v.items)) is ∙ map-append (λ (v : Vec (Option SizeEntry) Global). v.items) said (r ∷ [])
 
-    last : (i : ℕ) (e : SizeEntry) → placed (r.items ∷ []) 0 i ≡ Some e → CarriesNumber (number_at tab t i) e
+    last : (i : ℕ) (e : SizeEntry) → placed (r.items ∷ []) 0 i ≡ Some e → CarriesNumber (number_at tab t i) (size_stored e)
     last zero e there = absurd (no_entry e there)
     last (suc i) e there =
-        subst (λ (n : ℕ). CarriesNumber n e)
+        subst (λ (n : ℕ). CarriesNumber n (size_stored e))
         (ap (λ (os : List (Option Stored)). lemma_stored (entry_at os i)) (sym (row_there tab.sizes.items t row low read))) (k.each i e there)
 
-    each : (u i : ℕ) (e : SizeEntry) → placed (map (λ row. row.items) new) u i ≡ Some e → CarriesNumber (number_at tab u i) e
+    each : (u i : ℕ) (e : SizeEntry) → placed (map (λ row. row.items) new) u i ≡ Some e → CarriesNumber (number_at tab u i) (size_stored e)
     each u i e there =
         go (place_pushed (map (λ row. row.items) said) r.items u i e
         (sym (ap (λ (rows : List (List (Option SizeEntry))). placed rows u i) lists) ∙ there))
       where
         go : (placed (map (λ row. row.items) said) u i ≡ Some e)
             ⊎ ((u ≡ length (map (λ (v : Vec (Option SizeEntry) Global). v.items) said)) × (placed (r.items ∷ []) 0 i ≡ Some e))
-            → CarriesNumber (number_at tab u i) e
+            → CarriesNumber (number_at tab u i) (size_stored e)
         go (inl old) = h.each u i e old
         go (inr new_one) =
-            subst (λ (n : ℕ). CarriesNumber (number_at tab n i) e)
+            subst (λ (n : ℕ). CarriesNumber (number_at tab n i) (size_stored e))
             (sym (new_one.0 ∙ (length-map said (λ (v : Vec (Option SizeEntry) Global). v.items) ∙ long))) (last i e new_one.1)
 
 -- a reason carries whatever number
-reason_carries : (x : SizeEntry) → IsReason (Some x) → (n : ℕ) → CarriesNumber n x
+reason_carries : (x : SizeEntry) → IsReason (Some x) → (n : ℕ) → CarriesNumber n (size_stored x)
 reason_carries (entries.Known s) h n = absurd (known h.why h.is_why)
   where
     known : (o : Option NoSize) → option_map size_of (Some (entries.Known s)) ≡ option_map Unsized o → ⊥
@@ -151,12 +152,12 @@ reason_carries (entries.Large k) h n = tt
 pub reason_kept : (old new : List (List (Option SizeEntry))) (u j : ℕ) (x : SizeEntry) → new ≡ put_place old u j x → IsReason (Some x) → KeepPlaces old new
 reason_kept old new u j x is reason = record { each = λ tab h. record { each = each tab h } }
   where
-    each : (tab : Table) → CarryPlaces tab old → (t i : ℕ) (e : SizeEntry) → placed new t i ≡ Some e → CarriesNumber (number_at tab t i) e
+    each : (tab : Table) → CarryPlaces tab old → (t i : ℕ) (e : SizeEntry) → placed new t i ≡ Some e → CarriesNumber (number_at tab t i) (size_stored e)
     each tab h t i e there = go (place_put old u j x t i e (sym (ap (λ (rows : List (List (Option SizeEntry))). placed rows t i) is) ∙ there))
       where
-        go : (placed old t i ≡ Some e) ⊎ (x ≡ e) → CarriesNumber (number_at tab t i) e
+        go : (placed old t i ≡ Some e) ⊎ (x ≡ e) → CarriesNumber (number_at tab t i) (size_stored e)
         go (inl h2) = h.each t i e h2
-        go (inr same) = subst (CarriesNumber (number_at tab t i)) same (reason_carries x reason (number_at tab t i))
+        go (inr same) = subst (λ (y : SizeEntry). CarriesNumber (number_at tab t i) (size_stored y)) same (reason_carries x reason (number_at tab t i))
 
 -- rows keep the numbers that they carry themselves
 pub kept_all : (rows : List (List (Option SizeEntry))) → KeepPlaces rows rows
@@ -168,41 +169,32 @@ kept_on a b c h k = record { each = λ tab x. k.each tab (h.each tab x) }
 
 -- rows whose entries are these carry the numbers
 sizes_carried : (ns : ℕ → ℕ → ℕ) (t i : ℕ) (row : List SizeEntry)
-    → ((j : ℕ) (e : SizeEntry) → entry_at (map (λ x. Some x) row) j ≡ Some e → CarriesNumber (ns t (i + j)) e) → CarrySizes ns t i row
+    → ((j : ℕ) (e : SizeEntry) → entry_at (map (λ x. Some x) row) j ≡ Some e → CarriesNumber (ns t (i + j)) (size_stored e)) → EachNumbered (CarriesSize ns t) i row
 sizes_carried ns t i [] h = tt
 sizes_carried ns t i (x ∷ row) h = (
-  entry x (subst (λ (n : ℕ). CarriesNumber (ns t n) x) (let z : i + 0 ≡ i = omega arith in z) (h 0 x refl)),
+  subst (λ (n : ℕ). CarriesNumber (ns t n) (size_stored x)) (let z : i + 0 ≡ i = omega arith in z) (h 0 x refl),
   sizes_carried ns t (suc i) row
-      (λ j e there. subst (λ (n : ℕ). CarriesNumber (ns t n) e) (let z : i + suc j ≡ suc i + j = omega arith in z) (h (suc j) e there)),
+      (λ j e there. subst (λ (n : ℕ). CarriesNumber (ns t n) (size_stored e)) (let z : i + suc j ≡ suc i + j = omega arith in z) (h (suc j) e there)),
 )
-  where
-    entry : (y : SizeEntry) → CarriesNumber (ns t i) y → CarriesSize ns t i y
-    entry (entries.Known s) k = k
-    entry (entries.Loose l) k = tt
-    entry (entries.Tripped r) k = tt
-    entry (entries.Missing m) k = tt
-    entry (entries.Bent m) k = tt
-    entry (entries.Untimed r) k = tt
-    entry (entries.Large n) k = tt
 
 rows_all : (ns : ℕ → ℕ → ℕ) (t : ℕ) (rows : List (List SizeEntry))
-    → ((u j : ℕ) (e : SizeEntry) → entry_at (row_at (map (λ row. map (λ x. Some x) row) rows) u) j ≡ Some e → CarriesNumber (ns (t + u) (suc j)) e)
-    → CarryRows ns t rows
+    → ((u j : ℕ) (e : SizeEntry) → entry_at (row_at (map (λ row. map (λ x. Some x) row) rows) u) j ≡ Some e → CarriesNumber (ns (t + u) (suc j)) (size_stored e))
+    → EachNumbered (CarriesSizes ns) t rows
 rows_all ns t [] h = tt
 rows_all ns t (row ∷ rows) h = (
   sizes_carried ns t 1 row
-      (λ j e there. subst (λ (n : ℕ). CarriesNumber (ns t n) e) (let z : suc j ≡ 1 + j = omega arith in z)
-      (subst (λ (n : ℕ). CarriesNumber (ns n (suc j)) e) (let z : t + 0 ≡ t = omega arith in z) (h 0 j e there))),
+      (λ j e there. subst (λ (n : ℕ). CarriesNumber (ns t n) (size_stored e)) (let z : suc j ≡ 1 + j = omega arith in z)
+      (subst (λ (n : ℕ). CarriesNumber (ns n (suc j)) (size_stored e)) (let z : t + 0 ≡ t = omega arith in z) (h 0 j e there))),
   rows_all ns (suc t) rows
-      (λ u j e there. subst (λ (n : ℕ). CarriesNumber (ns n (suc j)) e) (let z : t + suc u ≡ suc t + u = omega arith in z) (h (suc u) j e there)),
+      (λ u j e there. subst (λ (n : ℕ). CarriesNumber (ns n (suc j)) (size_stored e)) (let z : t + suc u ≡ suc t + u = omega arith in z) (h (suc u) j e there)),
 )
 
 -- rows in which all entries are said carry the numbers of the table, rule by rule
 pub all_carried : (tab : Table) (rows : List (Vec SizeEntry Global)) (said : List (List (Option SizeEntry)))
-    → map (λ row. map (λ x. Some x) row.items) rows ≡ said → CarryPlaces tab said → CarryRows (number_at tab) 0 (map (λ row. row.items) rows)
+    → map (λ row. map (λ x. Some x) row.items) rows ≡ said → CarryPlaces tab said → EachNumbered (CarriesSizes (number_at tab)) 0 (map (λ row. row.items) rows)
 all_carried tab rows said same h =
     rows_all (number_at tab) 0 (map (λ row. row.items) rows)
-    (λ u j e there. subst (λ (n : ℕ). CarriesNumber (number_at tab n (suc j)) e) (let z : u ≡ 0 + u = omega arith in z)
+    (λ u j e there. subst (λ (n : ℕ). CarriesNumber (number_at tab n (suc j)) (size_stored e)) (let z : u ≡ 0 + u = omega arith in z)
     (h.each u (suc j) e (sym (ap (λ (rs : List (List (Option SizeEntry))). entry_at (row_at rs u) j) (sym (fused rows) ∙ same)) ∙ there)))
   where
     fused : (rs : List (Vec SizeEntry Global)) → map (λ row. map (λ x. Some x) row.items) rs
@@ -212,6 +204,6 @@ all_carried tab rows said same h =
 
 -- rows carry their numbers without the first
 pub rows_left : (ns : ℕ → ℕ → ℕ) (sizes left : List (Vec SizeEntry Global)) → left ≡ remove sizes 0
-    → CarryRows ns 0 (map (λ row. row.items) sizes) → CarryRows ns 1 (map (λ row. row.items) left)
-rows_left ns [] left e h = subst (λ (rows : List (Vec SizeEntry Global)). CarryRows ns 1 (map (λ row. row.items) rows)) (sym e) tt
-rows_left ns (row ∷ rows) left e h = subst (λ (rs : List (Vec SizeEntry Global)). CarryRows ns 1 (map (λ row. row.items) rs)) (sym e) h.1
+    → EachNumbered (CarriesSizes ns) 0 (map (λ row. row.items) sizes) → EachNumbered (CarriesSizes ns) 1 (map (λ row. row.items) left)
+rows_left ns [] left e h = subst (λ (rows : List (Vec SizeEntry Global)). EachNumbered (CarriesSizes ns) 1 (map (λ row. row.items) rows)) (sym e) tt
+rows_left ns (row ∷ rows) left e h = subst (λ (rs : List (Vec SizeEntry Global)). EachNumbered (CarriesSizes ns) 1 (map (λ row. row.items) rs)) (sym e) h.1
