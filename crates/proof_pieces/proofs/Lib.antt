@@ -7,6 +7,9 @@ pub mod BoundLaws
 pub mod StepLaws
 -- bounds within the limits are answered
 pub mod BoundTexts
+-- bounds that are answered are spelled, and are within the limits
+pub mod MarkDepths
+pub mod SpelledBounds
 -- values that were worked out by hand
 mod WorkedBounds
 -- their pieces, and how these are found again
