@@ -10,6 +10,9 @@ pub mod BoundTexts
 -- bounds that are answered are spelled, and are within the limits
 pub mod MarkDepths
 pub mod SpelledBounds
+-- pieces of a class, and the bytes of a piece
+pub mod PieceClasses
+pub mod CutBack
 -- values that were worked out by hand
 mod WorkedBounds
 -- their pieces, and how these are found again

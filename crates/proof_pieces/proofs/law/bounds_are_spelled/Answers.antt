@@ -1,3 +1,5 @@
+use Rattle.proof_pieces.proofs.PieceClasses.{class_first}
+use Rattle.proof_pieces.proofs.CutBack.{word_bytes}
 use Rattle.proof_pieces.proofs.SpelledBounds.{answered_spelled}
 use Rattle.proof_pieces.proofs.law.bounds_are_spelled.Goals as goal
 
