@@ -13,6 +13,8 @@ pub mod SpelledBounds
 -- pieces of a class, and the bytes of a piece
 pub mod PieceClasses
 pub mod CutBack
+pub mod InnerBack
+pub mod PlaceBack
 -- values that were worked out by hand
 mod WorkedBounds
 -- their pieces, and how these are found again
