@@ -19,3 +19,7 @@ pub mod PointTexts
 pub mod InnerTexts
 pub mod NodeTexts
 pub mod FileTexts
+-- and read backwards: bytes along which a file was read are its text, and it is within the limits
+pub mod Back
+pub mod ListsBack
+pub mod PartsBack

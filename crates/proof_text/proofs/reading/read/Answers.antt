@@ -1,3 +1,6 @@
+use Rattle.proof_text.proofs.PartsBack.{arm_back}
+use Rattle.proof_text.proofs.ListsBack.{integers_back}
+use Rattle.proof_text.proofs.Back.{word_back}
 use Rattle.its_model.specs.Views.{program_of}
 use Rattle.proof_text.proofs.FileTexts.{tells_back, text_stands}
 use Rattle.proof_text.proofs.Judging.{tells_answers}
