@@ -55,17 +55,30 @@ turned (piece q {rest} {es} {ps} d) = (q, es, ps, refl, refl, refl, d)
 turned (mark m {rest} {es} {ps} d) = (es, refl, d)
 turned (made n body {rest} {es} {ps} a d) = (body, a, d)
 
-module _ {p : Program} {ss : List Symbol} {s : State} {m : Mode} {whole : List ℕ} {Q : State → Type 0} where
-  -- nothing is left
-  pub no_more : Along p [] s m whole Q → (whole ≡ []) × Q s
-  unfolding Turns
-  no_more a =
-      let t = turned a.derives in
-      let cuts = subst (λ (ps : List Piece). Cuts p m ps whole) t.1 a.cuts in
-      let same : at s ≡ at a.last =
-      sym (ap (λ (es : List (Event Piece)). after (proof_fold p) (at s) es) t.0) ∙ a.comes in
-      (cuts, subst Q (sym (ap (λ (t : Progress). t.kept) same)) a.holds)
+-- nothing is left
+pub no_more : {p : Program} {s : State} {m : Mode} {whole : List ℕ} {Q : State → Type 0} → Along p [] s m whole Q
+    → (whole ≡ []) × Q s
+unfolding Turns
+no_more {p} {s} {m} {whole} {Q} a =
+    let t = turned a.derives in
+    let cuts = subst (λ (ps : List Piece). Cuts p m ps whole) t.1 a.cuts in
+    let same : at s ≡ at a.last =
+    sym (ap (λ (es : List (Event Piece)). after (proof_fold p) (at s) es) t.0) ∙ a.comes in
+    (cuts, subst Q (sym (ap (λ (t : Progress). t.kept) same)) a.holds)
 
+-- ways on, one for each alternative, from what is read of it
+abbrev pub Ways : (List Symbol → Type 0) → Type 0 → List (List Symbol) → Type 0
+Ways From R [] = ⊤
+Ways From R (body ∷ bodies) = (From body → R) × Ways From R bodies
+
+-- one of them is taken
+taken : (From : List Symbol → Type 0) (R : Type 0) (bodies : List (List Symbol)) (body : List Symbol)
+    → Among body bodies → From body → Ways From R bodies → R
+taken From R [] body among a ways = absurd among
+taken From R (b ∷ bodies) body (inl e) a ways = ways.0 (subst From e a)
+taken From R (b ∷ bodies) body (inr among) a ways = taken From R bodies body among a ways.1
+
+module _ {p : Program} {ss : List Symbol} {s : State} {m : Mode} {whole : List ℕ} {Q : State → Type 0} where
   -- a piece of a class was read
   pub read_back : {R : Type 0} (c : ℕ) → Along p (item.Piece c ∷ ss) s m whole Q
       → ((q : Piece) (rest : List ℕ) → class_of q ≡ c → against_piece p s q ≡ None → IsCutOff p m q whole rest
@@ -128,22 +141,13 @@ module _ {p : Program} {ss : List Symbol} {s : State} {m : Mode} {whole : List �
         },
       )
 
-  -- ways on, one for each alternative
-  abbrev pub Ways : Type 0 → List (List Symbol) → Type 0
-  Ways R [] = ⊤
-  Ways R (body ∷ bodies) = (Along p (body ++ ss) s m whole Q → R) × Ways R bodies
-
-  taken : {R : Type 0} (bodies : List (List Symbol)) (body : List Symbol) → Among body bodies
-      → Along p (body ++ ss) s m whole Q → Ways R bodies → R
-  taken [] body among a ways = absurd among
-  taken (b ∷ bodies) body (inl e) a ways =
-      ways.0 (subst (λ (xs : List Symbol). Along p (xs ++ ss) s m whole Q) e a)
-  taken (b ∷ bodies) body (inr among) a ways = taken bodies body among a ways.1
-
   -- a nonterminal was read as one of its alternatives
   pub made_back : {R : Type 0} (n : ℕ) (bodies : List (List Symbol)) → alternatives proof_grammar.rules n ≡ bodies
-      → Along p (item.Made n ∷ ss) s m whole Q → Ways R bodies → R
-  made_back n bodies e a ways = let t = made_any n a in taken bodies t.0 (subst (Among t.0) e t.1) t.2 ways
+      → Along p (item.Made n ∷ ss) s m whole Q
+      → Ways (λ xs. Along p (xs ++ ss) s m whole Q) R bodies → R
+  made_back {R} n bodies e a ways =
+      let t = made_any n a in
+      taken (λ xs. Along p (xs ++ ss) s m whole Q) R bodies t.0 (subst (Among t.0) e t.1) t.2 ways
 
   -- what is remembered is something else, and so is the mode
   pub turned_to : {t : State} → s ≡ t → Along p ss s m whole Q → Along p ss t m whole Q
@@ -157,8 +161,8 @@ pub on : {xs ys zs : List ℕ} (w : List ℕ) → xs ≡ w ++ ys → ys ≡ zs �
 on w e f = e ∙ ap (λ (bs : List ℕ). w ++ bs) f
 
 -- what is left is no longer
-pub shorter : {xs ys : List ℕ} (w : List ℕ) → xs ≡ w ++ ys → length ys ≤ length xs
-shorter {xs} {ys} w e = let long = ap length e in let both = length-append w ys in omega (arith, long, both)
+pub shorter : {xs : List ℕ} (w ys : List ℕ) → xs ≡ w ++ ys → length ys ≤ length xs
+shorter {xs} w ys e = let long = ap length e in let both = length-append w ys in omega (arith, long, both)
 
 pub less : {xs ys : List ℕ} (b : ℕ) → xs ≡ b ∷ ys → suc (length ys) ≤ length xs
 less b e = let long = ap length e in omega (arith, long)
@@ -229,7 +233,7 @@ module _ {p : Program} {ss : List Symbol} {s : State} {m : Mode} {whole : List �
       let n = plain_name (symbol_names p) cut.first cut.others w c.0 cut.some
       (sym (plain cut.first cut.others) ∙ cut.cut ∙ ap (λ (x : Piece). record { piece = Some x; len = suc cut.some }) c.1) in
       on_it c.0 rest (subst (λ (x : Piece). against_piece p s x ≡ None) c.1 none)
-      (cut.begins ∙ n.2.1 ∙ ap (λ (bs : List ℕ). (cut.first ∷ prefix continues_name cut.others) ++ bs) cut.behind
+      (cut.begins ∙ n.3 ∙ ap (λ (bs : List ℕ). (cut.first ∷ prefix continues_name cut.others) ++ bs) cut.behind
       ∙ ap (λ (bs : List ℕ). bs ++ rest) (spelled (cut.first ∷ prefix continues_name cut.others) n.0
       (word_bytes (cut.first ∷ prefix continues_name cut.others))))
       (subst (λ (x : Piece). Along p ss (moved p x s) (mode_with m x) rest Q) c.1 more))

@@ -23,3 +23,8 @@ pub mod FileTexts
 pub mod Back
 pub mod ListsBack
 pub mod PartsBack
+pub mod MembersBack
+pub mod PointsBack
+pub mod BoundsBack
+pub mod NodesBack
+pub mod FilesBack

@@ -154,27 +154,27 @@ module _ {p : Program} {ss : List Symbol} {s : State} {whole : List ℕ} {Q : St
         ((λ y. class_back 3 y (λ n rest none is e z. k n rest (some_number n (omega (arith, is))) none e z)), tt)),
       )
 
+-- the number of a rule that there is, and one that isn't too large, is small
+rule_small : (p : Program) (b : Base) (n : ℕ) → or_else (when (nat_lt (limit_of b) n) kind.NumberTooLarge)
+    (when (not (is_some (rule_at p n))) kind.BadReference) ≡ None → n < 2 ^ 127
+rule_small p b n h =
+    let f = or_none (when (nat_lt (limit_of b) n) kind.NumberTooLarge) (when (not (is_some (rule_at p n))) kind.BadReference) h in
+    let m = limit_most b in
+    let k = none_small (limit_of b) n f.0 in
+    omega (arith, m, k)
+
+pub number_small : (b : Base) (n : ℕ) → when (nat_lt (limit_of b) n) kind.NumberTooLarge ≡ None → n < 2 ^ 127
+number_small b n h = let m = limit_most b in let k = none_small (limit_of b) n h in omega (arith, m, k)
+
 module _ {p : Program} {ss : List Symbol} {whole : List ℕ} {Q : State → Type 0} {R : Type 0} (b : Base) (l : Last) (d : Draft)
     where
-  -- a number of a rule, or of another kind, is small
-  rule_small : (n : ℕ) → or_else (when (nat_lt (limit_of b) n) kind.NumberTooLarge)
-      (when (not (is_some (rule_at p n))) kind.BadReference) ≡ None → n < 2 ^ 127
-  rule_small n h =
-      let f = or_none (when (nat_lt (limit_of b) n) kind.NumberTooLarge) (when (not (is_some (rule_at p n))) kind.BadReference) h in
-      let m = limit_most b in
-      let k = none_small (limit_of b) n f.0 in
-      omega (arith, m, k)
-
-  number_small : (n : ℕ) → when (nat_lt (limit_of b) n) kind.NumberTooLarge ≡ None → n < 2 ^ 127
-  number_small n h = let m = limit_most b in let k = none_small (limit_of b) n h in omega (arith, m, k)
-
   -- the number of a rule
   pub rule_back : Sure p → Along p (item.Made 9 ∷ ss) (st b l d) mode.Plain whole Q
       → ((r : ℕ) (rest : List ℕ) → IsRule p r → whole ≡ decimal r ++ rest
       → Along p ss (st b (record l { number = r }) (record d { rule = r })) mode.Plain rest Q → R) → R
   rule_back sure a k =
       made_back 9 ((item.Mark 19 ∷ item.Made 8 ∷ item.Mark 20 ∷ []) ∷ []) refl a (
-        (λ x. number_back Bare (λ n h. rule_small n h) (mark_back 19 x) (λ r rest none e y.
+        (λ x. number_back Bare (λ n h. rule_small p b n h) (mark_back 19 x) (λ r rest none e y.
             let f = or_none (when (nat_lt (limit_of b) r) kind.NumberTooLarge)
             (when (not (is_some (rule_at p r))) kind.BadReference) none in
             let is = rule_there p r f.1 in
@@ -191,7 +191,7 @@ module _ {p : Program} {ss : List Symbol} {whole : List ℕ} {Q : State → Type
       → Along p ss (st b (record l { number = r }) (record d { set = d.set ++ r ∷ [] })) mode.Plain rest Q → R) → R
   set_rule_back sure a k =
       made_back 13 ((item.Mark 19 ∷ item.Made 8 ∷ item.Mark 21 ∷ []) ∷ []) refl a (
-        (λ x. number_back Bare (λ n h. rule_small n h) (mark_back 19 x) (λ r rest none e y.
+        (λ x. number_back Bare (λ n h. rule_small p b n h) (mark_back 19 x) (λ r rest none e y.
             let f = or_none (when (nat_lt (limit_of b) r) kind.NumberTooLarge)
             (when (not (is_some (rule_at p r))) kind.BadReference) none in
             let is = rule_there p r f.1 in
@@ -208,7 +208,7 @@ module _ {p : Program} {ss : List Symbol} {whole : List ℕ} {Q : State → Type
       → Along p ss (st b (record l { number = n }) (record d { den = n })) mode.Plain rest Q → R) → R
   plain_back a k =
       made_back 10 ((item.Mark 22 ∷ item.Made 8 ∷ item.Mark 23 ∷ []) ∷ []) refl a (
-        (λ x. number_back Bare (λ n h. number_small n h) (mark_back 22 x) (λ n rest none e y.
+        (λ x. number_back Bare (λ n h. number_small b n h) (mark_back 22 x) (λ n rest none e y.
             let small = none_small (limit_of b) n none in
             k n rest small e
             (turned_to (ap (λ (m : ℕ). st b (record l { number = n }) (record d { den = m })) (same_64 b n small))
@@ -222,7 +222,7 @@ module _ {p : Program} {ss : List Symbol} {whole : List ℕ} {Q : State → Type
       → Along p ss (st b (record l { number = n }) (record d { numbers = d.numbers ++ n ∷ [] })) mode.Plain rest Q → R) → R
   list_number_back a k =
       made_back 17 ((item.Mark 22 ∷ item.Made 8 ∷ item.Mark 25 ∷ []) ∷ []) refl a (
-        (λ x. number_back Bare (λ n h. number_small n h) (mark_back 22 x) (λ n rest none e y.
+        (λ x. number_back Bare (λ n h. number_small b n h) (mark_back 22 x) (λ n rest none e y.
             let small = none_small (limit_of b) n none in
             k n rest small e
             (turned_to (ap (λ (m : ℕ). st b (record l { number = n }) (record d { numbers = d.numbers ++ m ∷ [] }))
@@ -237,13 +237,13 @@ module _ {p : Program} {ss : List Symbol} {whole : List ℕ} {Q : State → Type
   integer_back x a k =
       made_back 19 ((item.Mark 26 ∷ item.Made 8 ∷ item.Mark 27 ∷ []) ∷
       (item.Mark 26 ∷ item.Piece 42 ∷ item.Made 20 ∷ item.Mark 27 ∷ []) ∷ []) refl a (
-        (λ y. number_back x (λ n h. number_small n h) (mark_back 26 y) (λ n rest none e z.
+        (λ y. number_back x (λ n h. number_small b n h) (mark_back 26 y) (λ n rest none e z.
             let small = none_small (limit_of b) n none in
             k (pos n) n false rest small e
             (turned_to (ap (λ (j : ℕ). st b (record l { number = n; negative = false })
             (record d { integers = d.integers ++ pos j ∷ [] })) (same_63 b n small)) (mark_back 27 z)))),
         ((λ y. sign_back sign.Minus (mark_back 26 y) (λ r1 e1 z.
-            positive_back x (λ n h. number_small n h) (mode_to (minus_mode x) z) (λ n rest some none e w.
+            positive_back x (λ n h. number_small b n h) (mode_to (minus_mode x) z) (λ n rest some none e w.
             signed n some rest (none_small (limit_of b) n none) (on (codes "-") e1 e) (mark_back 27 w)))), tt),
       )
     where
@@ -273,7 +273,7 @@ module _ {p : Program} {ss : List Symbol} {Q : State → Type 0} {R : Type 0} (s
         (λ x. sign_back sign.CloseSquare x (λ rest e y. k [] l rest tt e
             (turned_to (ap (λ (rs : List ℕ). st b l (record d { set = rs })) (sym (append-nil d.set))) y))),
         ((λ x. sign_back sign.Blank x (λ r1 e1 y. set_rule_back b l d sure y (λ r r2 is e2 z.
-            let one = less 32 e1 in let two = shorter (decimal r) e2 in
+            let one = less 32 e1 in let two = shorter (decimal r) r2 e2 in
             more_rules_back f (omega (arith, few, one, two)) (record l { number = r }) (record d { set = d.set ++ r ∷ [] }) z
             (λ rs m rest all e w. k (r ∷ rs) m rest (is, all)
             (on (codes " ") e1 (on (decimal r) e2 e) ∙ sym (word_then (decimal r) (map decimal rs) (93 ∷ rest)))
@@ -314,7 +314,7 @@ module _ {p : Program} {ss : List Symbol} {Q : State → Type 0} {R : Type 0} (b
         (λ x. sign_back sign.CloseSquare x (λ rest e y. k [] l rest tt e
             (turned_to (ap (λ (ns : List ℕ). st b l (record d { numbers = ns })) (sym (append-nil d.numbers))) y))),
         ((λ x. sign_back sign.Blank x (λ r1 e1 y. list_number_back b l d y (λ n r2 is e2 z.
-            let one = less 32 e1 in let two = shorter (decimal n) e2 in
+            let one = less 32 e1 in let two = shorter (decimal n) r2 e2 in
             more_numbers_back f (omega (arith, few, one, two)) (record l { number = n })
             (record d { numbers = d.numbers ++ n ∷ [] }) z
             (λ ns m rest all e w. k (n ∷ ns) m rest (is, all)
@@ -355,7 +355,7 @@ module _ {p : Program} {ss : List Symbol} {Q : State → Type 0} {R : Type 0} (b
         (λ w. sign_back sign.CloseSquare w (λ rest e u. k [] z n v rest tt small (on (signed_decimal z) e1 e)
             (mode_to (close_mode x) u))),
         ((λ w. sign_back sign.Blank w (λ r2 e2 u.
-            let one = shorter (signed_decimal z) e1 in let two = less 32 e2 in
+            let one = shorter (signed_decimal z) r1 e1 in let two = less 32 e2 in
             more_integers_back f (omega (arith, few, one, two)) x (now l n v) (record d { integers = d.integers ++ z ∷ [] })
             (mode_to (blank_mode x) u)
             (λ zs y' j i rest all least e t. k (z ∷ zs) y' j i rest (small, all) least

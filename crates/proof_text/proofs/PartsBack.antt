@@ -1,5 +1,5 @@
 -- Forms, arms and what else a node holds that were read along bytes are what these spell.
-use Rattle.std.proofs.Common.{◌≡◌, ℕ, zero, suc, ◌-◌, ◌<◌, ◌≤◌, ◌^◌, min, Bool, true, false, List, [], ◌∷◌, ◌++◌, length, map}
+use Rattle.std.proofs.Common.{◌≡◌, ℕ, zero, suc, ◌-◌, ◌<◌, ◌≤◌, ◌^◌, min, Bool, true, false, cond, List, [], ◌∷◌, ◌++◌, length, map}
 use Rattle.std.proofs.Common.{Option, Some, None, slice_index_or, refl, ap, sym, subst, ◌∙◌, arith, inl, inr, append-nil}
 use Rattle.std.proofs.Common.{append_assoc}
 use Rattle.std.specs.Prelude.{ℤ, nat_abs, nat_lt, nat_le, not, ◌&&◌, codes}
@@ -79,6 +79,7 @@ name_word body (inr (inr (inr (inr (inr (inr (inr (inr (inr (inr (inr (inr (inr 
 name_word body (inr (inr (inr (inr (inr (inr (inr (inr (inr (inr (inr (inr (inr (inr (inr (inr (inr (inr (inr (inr (inr (inr (inr (inr (inl e))))))))))))))))))))))))) = (word.Shut, e)
 name_word body (inr (inr (inr (inr (inr (inr (inr (inr (inr (inr (inr (inr (inr (inr (inr (inr (inr (inr (inr (inr (inr (inr (inr (inr (inr (inl e)))))))))))))))))))))))))) = (word.Kept, e)
 name_word body (inr (inr (inr (inr (inr (inr (inr (inr (inr (inr (inr (inr (inr (inr (inr (inr (inr (inr (inr (inr (inr (inr (inr (inr (inr (inr (inl e))))))))))))))))))))))))))) = (word.Other, e)
+name_word body (inr (inr (inr (inr (inr (inr (inr (inr (inr (inr (inr (inr (inr (inr (inr (inr (inr (inr (inr (inr (inr (inr (inr (inr (inr (inr (inr x))))))))))))))))))))))))))) = absurd x
 
 -- a name whose symbol there is is the name of that symbol
 pub name_found : (p : Program) → Sure p → (name : List ℕ) (s : ℕ) → symbol_of (symbol_names p) name ≡ s
@@ -148,7 +149,7 @@ module _ {p : Program} {ss : List Symbol} {whole : List ℕ} {Q : State → Type
       subst (λ (x : Piece). against_piece p (done 28 (st b l d)) x ≡ None) c.1 none in
       let low = le_false (length p.symbols) c.0 (when_none (nat_le (length p.symbols) c.0) kind.BadReference none') in
       k c.0 (list_mode w.0) rest low
-      (cut.begins ∙ n.2.1 ∙ ap (λ (bs : List ℕ). (cut.first ∷ prefix continues_name cut.others) ++ bs) cut.behind
+      (cut.begins ∙ n.3 ∙ ap (λ (bs : List ℕ). (cut.first ∷ prefix continues_name cut.others) ++ bs) cut.behind
       ∙ ap (λ (bs : List ℕ). bs ++ rest)
       (sym (name_found p sure (cut.first ∷ prefix continues_name cut.others) c.0 n.1 low)))
       (mode_to (name_mode w.0 c.0)
@@ -192,7 +193,7 @@ module _ {p : Program} {ss : List Symbol} {Q : State → Type 0} {R : Type 0} (s
             (turned_to (ap (λ (fs : List SymbolForm). st b l (bare (record d { forms = fs }))) (sym (append-nil d.forms))) y))),
         ((λ x. sign_back sign.Semicolon x (λ r1 e1 y. sign_back sign.Blank y (λ r2 e2 z.
             form_back sure b outside l d z (λ g m r3 is e3 w.
-            let one = less 59 e1 in let two = less 32 e2 in let three = shorter (form_text p g) e3 in
+            let one = less 59 e1 in let two = less 32 e2 in let three = shorter (form_text p g) r3 e3 in
             more_forms_back f (omega (arith, few, one, two, three)) m (record d { forms = d.forms ++ g ∷ [] }) w
             (λ fs n rest all e u. k (g ∷ fs) n rest (is, all)
             (on (codes "; ") (on (codes ";") e1 e2) (on (form_text p g) e3 e)
@@ -231,7 +232,7 @@ module _ {p : Program} {ss : List Symbol} {Q : State → Type 0} {R : Type 0} (s
             (turned_to (ap (λ (nss : List (List ℕ)). st b l (bare (record d { moves = nss }))) (sym (append-nil d.moves))) y))),
         ((λ x. sign_back sign.Semicolon x (λ r1 e1 y. sign_back sign.Blank y (λ r2 e2 z.
             numbers_back b l (bare d) z (λ ns m r3 is e3 w.
-            let one = less 59 e1 in let two = less 32 e2 in let three = shorter (numbers_text ns) e3 in
+            let one = less 59 e1 in let two = less 32 e2 in let three = shorter (numbers_text ns) r3 e3 in
             more_moves_back f (omega (arith, few, one, two, three)) m (record d { moves = d.moves ++ ns ∷ [] }) (mark_back 30 w)
             (λ nss n rest all e u. k (ns ∷ nss) n rest (numbers_within b outside ns is, all)
             (on (codes "; ") (on (codes ";") e1 e2) (on (numbers_text ns) e3 e)
