@@ -41,7 +41,7 @@ use Rattle.proof_pieces.specs.BoundSteps.{pieces_in}
 use Rattle.proof_pieces.proofs.BoundLaws.{counted_pieces}
 
 -- each mark is at most so large
-abbrev AtMost : ℕ → Marks → Type 0
+abbrev pub AtMost : ℕ → Marks → Type 0
 AtMost n [] = ⊤
 AtMost n (None ∷ marks) = AtMost n marks
 AtMost n (Some level ∷ marks) = (level ≤ n) × AtMost n marks

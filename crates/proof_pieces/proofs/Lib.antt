@@ -7,6 +7,14 @@ pub mod BoundLaws
 pub mod StepLaws
 -- bounds within the limits are answered
 pub mod BoundTexts
+-- bounds that are answered are spelled, and are within the limits
+pub mod MarkDepths
+pub mod SpelledBounds
+-- pieces of a class, and the bytes of a piece
+pub mod PieceClasses
+pub mod CutBack
+pub mod InnerBack
+pub mod PlaceBack
 -- values that were worked out by hand
 mod WorkedBounds
 -- their pieces, and how these are found again

@@ -93,3 +93,14 @@ bound_answer n xs = answer (bounds_in n) (length xs) (counted_from 0 xs)
 pub record BoundsStand : Type 0 where
   pub each : (n : ℕ) (b : Bound) (xs : List Inner) → IsTidy b → ReadsBelow n b → IsWithin b
       → map (λ x. piece_of x.piece) xs ≡ pieces_of b → bound_answer n xs ≡ Stands b
+
+-- and the other way round: a bound that is the answer to pieces is tidy, within the limits, over n start arguments, and
+-- spelled by them
+pub record IsSpelled (n : ℕ) (b : Bound) (xs : List Inner) : Type 0 where
+  pub tidy : IsTidy b
+  pub listed : ReadsBelow n b
+  pub within : IsWithin b
+  pub spells : map (λ x. piece_of x.piece) xs ≡ pieces_of b
+
+pub record BoundsAreSpelled : Type 0 where
+  pub each : (n : ℕ) (b : Bound) (xs : List Inner) → bound_answer n xs ≡ Stands b → IsSpelled n b xs

@@ -36,7 +36,7 @@ Cuts p m [] whole = whole ≡ []
 Cuts p m (q ∷ qs) whole = (rest : List ℕ) × IsCutOff p m q whole rest × Cuts p (mode_with m q) qs rest
 
 -- bytes that are passed over make no token
-skipped : (p : Program) (m : Mode) (at n : ℕ) (bytes : List ℕ)
+pub skipped : (p : Program) (m : Mode) (at n : ℕ) (bytes : List ℕ)
     → (from : ℕ) × (tokens_in (lexer_of p) m at n bytes ≡ tokens_in (lexer_of p) m from 0 (drop n bytes))
 skipped p m at zero bytes = (at, refl)
 skipped p m at (suc n) [] = (at, refl)

@@ -89,7 +89,7 @@ module _ {p : Program} {ss : List Symbol} {rest : List ℕ} {Q : State → Type 
       more)))))))))))))))))))))))))
 
 -- between lines
-abbrev line : Bool → Bool → List Proof → List Gap → Base
+abbrev pub line : Bool → Bool → List Proof → List Gap → Base
 line priced paid lemmas gaps = record {
   priced = priced;
   paid = paid;

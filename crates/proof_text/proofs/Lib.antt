@@ -19,3 +19,12 @@ pub mod PointTexts
 pub mod InnerTexts
 pub mod NodeTexts
 pub mod FileTexts
+-- and read backwards: bytes along which a file was read are its text, and it is within the limits
+pub mod Back
+pub mod ListsBack
+pub mod PartsBack
+pub mod MembersBack
+pub mod PointsBack
+pub mod BoundsBack
+pub mod NodesBack
+pub mod FilesBack

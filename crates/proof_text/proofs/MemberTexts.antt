@@ -30,7 +30,7 @@ spot_rule : (p : Program) (sp : Spot) → IsSpotOf p sp → IsRule p sp.rule
 spot_rule p sp h = record { rule = h.rule; numbered = h.numbered }
 
 -- a place is low
-spot_low : (p : Program) (sp : Spot) → Sure p → IsSpotOf p sp → sp.place ≤ 32
+pub spot_low : (p : Program) (sp : Spot) → Sure p → IsSpotOf p sp → sp.place ≤ 32
 spot_low p sp sure h = let m = h.most in let f = sure.few_places h.rule.target in omega (arith, m, f)
 
 module _ {p : Program} {ss : List Symbol} {rest : List ℕ} {Q : State → Type 0} (sure : Sure p) (b : Base)

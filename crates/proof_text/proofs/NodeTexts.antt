@@ -89,7 +89,7 @@ abbrev pub list_in : Proofs → List Proof
 list_in NoProof = []
 list_in (AndProof v us) = v ∷ list_in us
 
-uses_same : (us : Proofs) → uses_of (list_in us) ≡ us
+pub uses_same : (us : Proofs) → uses_of (list_in us) ≡ us
 uses_same NoProof = refl
 uses_same (AndProof v us) = ap (λ (ws : Proofs). AndProof v ws) (uses_same us)
 
@@ -98,7 +98,7 @@ pub or_false : (a : Bool) → a ≡ (a || false)
 or_false true = refl
 or_false false = refl
 
-or_true : (a : Bool) → true ≡ (a || true)
+pub or_true : (a : Bool) → true ≡ (a || true)
 or_true true = refl
 or_true false = refl
 
@@ -115,11 +115,11 @@ or_right true b h = refl
 or_right false b h = h
 
 -- one level deeper
-abbrev deeper : Base → Base
+abbrev pub deeper : Base → Base
 deeper b = record b { levels = suc b.levels }
 
 -- a node that costs, or doesn't
-abbrev paid : Base → Bool → Base
+abbrev pub paid : Base → Bool → Base
 paid b v = record b { paid = v }
 
 -- a level within the limit isn't too deep
@@ -134,7 +134,7 @@ lemma_none count n some few =
     ∙ ap (λ (v : Bool). when v kind.BadReference) (false_lt count n few)
 
 -- where a node ends, the level is the one round it
-ended : (b : Base) (v w : Bool) (m : Last) (u : Proof) → v ≡ w
+pub ended : (b : Base) (v w : Bool) (m : Last) (u : Proof) → v ≡ w
     → st (record (paid b v) { levels = suc b.levels - 1 }) (record m { node = u; bound = Constant 0 }) no_draft
     ≡ st (paid b w) (record m { node = u; bound = Constant 0 }) no_draft
 ended b v w m u e =

@@ -69,11 +69,11 @@ name_class word.Kept = inr (inr (inr (inr (inr (inr (inr (inr (inr (inr (inr (in
 name_class word.Other = inr (inr (inr (inr (inr (inr (inr (inr (inr (inr (inr (inr (inr (inr (inr (inr (inr (inr (inr (inr (inr (inr (inr (inr (inr (inr (inl refl))))))))))))))))))))))))))
 
 -- the mode behind a name
-list_mode : Word → Within
+pub list_mode : Word → Within
 list_mode word.Shut = Shut
 list_mode w = Bare
 
-name_mode : (w : Word) (symbol : ℕ) → mode_with mode.Plain (Name w symbol) ≡ mode_in (list_mode w)
+pub name_mode : (w : Word) (symbol : ℕ) → mode_with mode.Plain (Name w symbol) ≡ mode_in (list_mode w)
 unfolding list_mode
 name_mode word.Shut symbol = refl
 name_mode w symbol = refl
@@ -97,7 +97,7 @@ abbrev pub placed : Scratch → ℕ → Spot → Draft → Draft
 placed g r sp d = record (scratch g d) { rule = r; spot = sp; up = Poly; arm = Poly }
 
 -- coefficients and a constant are a form
-form_same : (f : Form) → form_in (f.coefs ++ f.constant ∷ []) ≡ f
+pub form_same : (f : Form) → form_in (f.coefs ++ f.constant ∷ []) ≡ f
 form_same f =
     ap (λ (cs : List ℤ). record { coefs = cs; constant = last_of (f.coefs ++ f.constant ∷ []) })
     (before_behind f.coefs f.constant)

@@ -41,7 +41,7 @@ use Rattle.proof_text.proofs.States.{Base, HasName, Last, Sure, limit_inside, li
 use Rattle.proof_text.proofs.States.{symbol_name}
 
 -- parts and a denominator are a point
-point_same : (z : ScaledPoint) → point_in (z.parts ++ pos z.den ∷ []) ≡ z
+pub point_same : (z : ScaledPoint) → point_in (z.parts ++ pos z.den ∷ []) ≡ z
 point_same z =
     ap (λ (xs : List ℤ). record { parts = xs; den = nat_abs (last_of (z.parts ++ pos z.den ∷ [])) })
     (before_behind z.parts (pos z.den))

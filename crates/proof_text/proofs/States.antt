@@ -146,7 +146,7 @@ rule_low p (suc t) sure is =
     let l = got_low p.rules t is.rule is.numbered in let m = sure.few_rules in omega (arith, l, m)
 
 -- the name of a symbol among the names
-name_read : (ss : List Symbol) (s : ℕ) → slice_index_or (map (λ s. s.name) ss) s [] ≡ name_in (slice_get ss s)
+pub name_read : (ss : List Symbol) (s : ℕ) → slice_index_or (map (λ s. s.name) ss) s [] ≡ name_in (slice_get ss s)
 name_read [] s = refl
 name_read (x ∷ ss) zero = refl
 name_read (x ∷ ss) (suc s) = name_read ss s

@@ -9,6 +9,8 @@ pub mod Reading
 pub mod Kept
 pub mod Refused
 pub mod Told
+-- proof files and their texts determine each other
+pub mod RoundTrips
 -- values that were worked out by hand
 pub mod Worked
 pub mod WorkedReading

@@ -1,5 +1,6 @@
 //! Proof files and their texts, worked out by hand.
 
+ghost use Rattle.proof_text.specs.RoundTrips.{FilesAreTheirTexts};
 ghost use Rattle.proof_text.specs.Worked.{TextsAndLimitsAreWorkedOut};
 ghost use Rattle.proof_text.specs.WorkedFaults.{FilesAreWorkedOut, ProofTextsAreRead};
 ghost use Rattle.proof_text.specs.WorkedReading.{ReadingIsWorkedOut};
@@ -25,4 +26,11 @@ pub fn worked_files_hold()
 /// The proof files of each program are read as the laws of readers have it. It has no code: its contract is the law.
 pub fn proof_texts_are_read()
     ensures { ProofTextsAreRead }
+{}
+
+/// Of a valid program with fewer than 2^32 symbols, bytes are read as a proof file exactly where they are its text and
+/// it is within the limits and the references; so what is printed of such a file is read as it. It has no code: its
+/// contract is the law.
+pub fn files_are_their_texts()
+    ensures { FilesAreTheirTexts }
 {}

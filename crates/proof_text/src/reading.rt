@@ -1,6 +1,6 @@
 //! From a text to its proof file.
 
-ghost use Rattle.std.specs.Prelude.{◌≡◌, ◌<◌, ◌^◌, length, IsTrue};
+ghost use Rattle.std.specs.Prelude.{◌≡◌, ◌<◌, ◌^◌, length, IfOk, IsTrue};
 ghost use Rattle.its_model.specs.Valid.{IsValid};
 ghost use Rattle.its_model.specs.Views.{program_of};
 ghost use Rattle.proof_tree.specs.AnswerViews.{file_of};
@@ -39,6 +39,8 @@ pub fn read(alloc: Global, p: &Program, bytes: &[u8]) -> Result<ProofFile, Proof
     ensures answer { Answers (program_of p.now) bytes.now result }
     ensures complete { length (program_of p.now).symbols < 2 ^ 32 → (f : FileOf)
         → IsTextWithin (program_of p.now) bytes.now f → GivesBack f result }
+    ensures spelled { length (program_of p.now).symbols < 2 ^ 32
+        → IfOk result (λ file. IsTextWithin (program_of p.now) bytes.now (file_of file)) }
 {
     judge(alloc, p, bytes)
 }
