@@ -7,6 +7,9 @@ mod balancing;
 mod gap_faults;
 mod gap_points;
 mod gap_shape;
+mod parts;
+mod program_rules;
 mod shut_places;
+mod touching;
 
 pub use gap_faults::{gap_fault, gaps_exclude_functions};

@@ -3,7 +3,7 @@ use Rattle.std.specs.Prelude.{ℤ}
 use Rattle.std.proofs.lemmas.Bool.Decides.{nat_tests}
 use Rattle.proof_tree.specs.AnswerViews.{scaled_of}
 use Rattle.gap_checks.proofs.GapValues.{before-past, part-read}
-use Rattle.gap_checks.proofs.balancing.left_part.Goals as goal
+use Rattle.gap_checks.proofs.parts.left_part.Goals as goal
 
 pub returns-in-Some-clause-value : goal.returns-in-Some-clause-value
 returns-in-Some-clause-value c =

@@ -5,7 +5,7 @@ use Rattle.farkas_cert.specs.linear_forms.Forms.{Form}
 use Rattle.proof_tree.specs.proof_nodes.GapChecks.{value_at}
 use Rattle.proof_tree.specs.AnswerViews.{scaled_of}
 use Rattle.gap_checks.proofs.GapValues.{new-is, new-small, row-read}
-use Rattle.gap_checks.proofs.balancing.new_value.Goals as goal
+use Rattle.gap_checks.proofs.parts.new_value.Goals as goal
 
 pub row_value-requires-clause-numbers : goal.row_value-requires-clause-numbers
 row_value-requires-clause-numbers c =
