@@ -16,22 +16,13 @@ ghost use Rattle.gap_checks.specs.GapBalances.{AddsNet, AreNets, ArePrepared, Ar
 
 use crate::parts::{leaving, net_of};
 use crate::program_rules::Rules;
+use crate::rule_numbers::arity_at;
 use crate::shut_places::shut_flags;
 use crate::touching::{is_touched_by, next_touched, number_if};
 use farkas_cert::Scaled;
 use guard_prep::RuleRows;
 use its_model::Program;
 use proof_tree::Gap;
-
-// The number of places of a symbol, 0 where there is no such symbol.
-fn arity_at(p: &Program, symbol: u32) -> u32
-    ensures { result ≡ arity_of (program_of p.now) symbol }
-{
-    match p.symbols.get(symbol as usize) {
-        Some(s) => s.arity,
-        None => 0,
-    }
-}
 
 // The number of places of a symbol of a valid program, of which there are few.
 fn places_of(p: &Program, symbol: u32) -> u32

@@ -9,7 +9,9 @@ mod gap_points;
 mod gap_shape;
 mod parts;
 mod program_rules;
+mod rule_numbers;
 mod shut_places;
 mod touching;
 
 pub use gap_faults::{gap_fault, gaps_exclude_functions};
+pub use rule_numbers::{are_rules, arity_at, ascends, is_rule};

@@ -55,16 +55,6 @@ fn all_rows(alloc: Global, p: &Program) -> Result<Vec<RuleRows>, Memory>
     Ok(preps)
 }
 
-/// Whether the number is that of a rule.
-pub fn is_rule(p: &Program, number: u32) -> bool
-    ensures { IsTrue result ↔ IsRule (program_of p.now) number }
-{
-    if number == 0 || number as usize > p.rules.len() {
-        return false;
-    }
-    true
-}
-
 /// What was prepared of a rule.
 pub fn prep<'g>(ground: &'g Ground, rule: u32) -> &'g RuleRows
     requires ground { IsGround ground.now }

@@ -7,11 +7,12 @@ ghost use Rattle.model.specs.Costs.{HasCost};
 ghost use Rattle.proof_sizes.specs.Costs.{AreRowMultipliers, HasNumbersBy, IsCostPrep, IsWritten};
 ghost use Rattle.proof_tree.specs.Views.{cost_by_of};
 
+use gap_checks::is_rule;
 use crate::arm_numbers::has_arm_numbers;
 use guard_prep::{RuleRows, rows};
 use its_model::{Program, Rule, cost_program};
 use model::Memory;
-use proof_facts::{Ground, are_within_limit, is_rule};
+use proof_facts::{Ground, are_within_limit};
 use proof_tree::CostBy;
 use std::alloc::Global;
 

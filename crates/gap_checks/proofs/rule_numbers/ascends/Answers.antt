@@ -1,6 +1,6 @@
 use Rattle.std.proofs.Common.{refl, arith}
 use Rattle.gap_checks.proofs.GapPositions.{ascends-from, ascends-not}
-use Rattle.gap_checks.proofs.gap_shape.ascends.Goals as goal
+use Rattle.gap_checks.proofs.rule_numbers.ascends.Goals as goal
 
 pub returns-then-numbers-i : goal.returns-then-numbers-i
 returns-then-numbers-i c =

@@ -2,7 +2,7 @@ use Rattle.std.proofs.Common.{◌≤◌, length, refl, arith}
 use Rattle.std.proofs.lemmas.List.{length-map}
 use Rattle.its_model.specs.Views.{program_of, rule_of}
 use Rattle.gap_checks.proofs.GapFaults.{rule-within}
-use Rattle.proof_facts.proofs.ground.is_rule.Goals as goal
+use Rattle.gap_checks.proofs.rule_numbers.is_rule.Goals as goal
 
 pub returns : goal.returns
 returns c =

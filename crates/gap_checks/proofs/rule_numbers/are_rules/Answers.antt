@@ -3,7 +3,7 @@ use Rattle.std.proofs.lemmas.List.Elements.{All-more}
 use Rattle.its_model.specs.Views.{program_of}
 use Rattle.proof_tree.specs.proof_nodes.AcceptsPlain.{IsRule}
 use Rattle.gap_checks.proofs.GapPositions.{all-done}
-use Rattle.proof_ranks.proofs.rank_shape.are_rules.Goals as goal
+use Rattle.gap_checks.proofs.rule_numbers.are_rules.Goals as goal
 
 pub loop-number-preserved : goal.loop-number-preserved
 loop-number-preserved c =

@@ -1,5 +1,5 @@
 use Rattle.std.proofs.Common.{ℕ, suc, ◌<◌, get_or}
-use Rattle.gap_checks.proofs.gap_shape.ascends.Given as goal
+use Rattle.gap_checks.proofs.rule_numbers.ascends.Given as goal
 
 abbrev pub invariant-loop-i : goal.invariant-loop-i
 invariant-loop-i l =
