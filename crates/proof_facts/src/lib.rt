@@ -5,6 +5,7 @@
 #![tactic(auto)]
 
 mod columns;
+mod costs;
 mod ground;
 mod joining;
 mod kept;
@@ -15,7 +16,7 @@ mod refusal;
 mod stating;
 
 pub use columns::{Column, coefficient, number, product};
-pub use ground::{Ground, ground_of, prep};
+pub use ground::{Ground, cost_prep, ground_of, prep};
 pub use joining::lookup_of;
 pub use kept::{Kept, Use, facts_at, facts_in};
 pub use lookup::Lookup;

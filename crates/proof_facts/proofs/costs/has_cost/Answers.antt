@@ -1,6 +1,6 @@
 use Rattle.its_model.specs.Views.{program_of}
-use Rattle.proof_sizes.proofs.WrittenCosts.{cost-there, cost-written, rule-at}
-use Rattle.proof_sizes.proofs.cost_rows.has_cost.Goals as goal
+use Rattle.proof_facts.proofs.WrittenCosts.{cost-there, cost-written, rule-at}
+use Rattle.proof_facts.proofs.costs.has_cost.Goals as goal
 
 pub returns-then-not-is_rule : goal.returns-then-not-is_rule
 returns-then-not-is_rule c = (

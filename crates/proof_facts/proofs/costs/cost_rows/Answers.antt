@@ -2,9 +2,9 @@ use Rattle.std.proofs.Common.{◌∙◌, ap, arith}
 use Rattle.std.proofs.lemmas.Result.{IfOk-weaker}
 use Rattle.guard_prep.specs.Prepared.{prepared}
 use Rattle.proof_facts.proofs.Rows.{rule-preparable}
-use Rattle.proof_sizes.proofs.WrittenCosts.{first-rule, one-rule}
+use Rattle.proof_facts.proofs.WrittenCosts.{first-rule, one-rule}
 use Rattle.model.specs.Programs as plain
-use Rattle.proof_sizes.proofs.cost_rows.cost_rows.Goals as goal
+use Rattle.proof_facts.proofs.costs.cost_rows.Goals as goal
 
 pub rows-requires : goal.rows-requires
 rows-requires c =

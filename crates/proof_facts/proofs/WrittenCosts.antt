@@ -1,6 +1,8 @@
 -- Costs that are written in rules, and the rule of a program that has one alone.
-use Rattle.std.proofs.Common.{◌≡◌, ℕ, zero, suc, ◌-◌, ◌<◌, ◌≤◌, List, [], ◌∷◌, length, map, get_or, Some, None, sym, ap, ◌∙◌, arith}
-use Rattle.std.proofs.lemmas.List.{length-map}
+use Rattle.std.proofs.Common.{◌≡◌, ℕ, zero, suc, ◌+◌, ◌-◌, ◌<◌, ◌≤◌, List, [], ◌∷◌, length, map, get_or}
+use Rattle.std.proofs.Common.{Option, Some, None, sym, ap, ◌∙◌, subst, arith}
+use Rattle.std.proofs.lemmas.List.{length-map, get_or_default}
+use Rattle.guard_prep.specs.declared.rule_rows.RuleRows.{RuleRows}
 use Rattle.std.proofs.lemmas.Option.{slice_get_within}
 use Rattle.its_model.specs.Views.{program_of, rule_of}
 use Rattle.its_model.specs.declared.program.Program as code
@@ -10,7 +12,7 @@ use Rattle.model.specs.Programs.{Program, Rule, rule_at}
 use Rattle.model.proofs.Cases.{some_same as some-same}
 use Rattle.proof_tree.proofs.Rules.{rule_here}
 use Rattle.proof_tree.specs.proof_nodes.AcceptsPlain.{IsRule}
-use Rattle.proof_sizes.specs.Costs.{IsWritten}
+use Rattle.proof_facts.specs.CostRows.{AreCostPreps, IsWritten, TellsCost}
 
 -- what stands before the number of a rule is that rule
 pub rule-at : (p : code.Program) (t : ℕ) (r : code_rule.Rule) → IsRule (program_of p) t → r ≡ get_or p.rules.items (t - 1) r
@@ -49,3 +51,18 @@ first-rule (y ∷ rs) r x e f = ap rule_of f ∙ head (rule_of y) x (map rule_of
   where
     head : (a b : Rule) (rest : List Rule) → a ∷ rest ≡ b ∷ [] → a ≡ b
     head a b rest k = cc
+
+-- what was prepared of the cost rules of the rules before a position
+pub record AreCostsSoFar (p : Program) (i : ℕ) (preps : List (Option RuleRows)) : Type 0 where
+  pub long : length preps ≡ i
+  pub each : (n : ℕ) → n < i → TellsCost p (n + 1) (get_or preps n None)
+
+module _ (p : Program) (preps : List (Option RuleRows)) (h : AreCostPreps p preps) (t : ℕ) where
+  -- of a rule this is told, at its position
+  pub cost-told : (o : Option RuleRows) → 0 < t → t ≤ length p.rules → o ≡ get_or preps (t - 1) o → TellsCost p t o
+  cost-told o l m e =
+      let low : t - 1 < length preps = omega (arith, l, m, h.long) in
+      let same : o ≡ get_or preps (t - 1) None = e ∙ get_or_default preps (t - 1) o None low in
+      subst (TellsCost p t) (sym same)
+      (subst (λ (n : ℕ). TellsCost p n (get_or preps (t - 1) None)) (let whole : t - 1 + 1 ≡ t = omega (arith, l) in whole)
+      (h.each (t - 1) low))
