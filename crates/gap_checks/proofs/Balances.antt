@@ -90,6 +90,11 @@ not-passed : (v : Bool) → not v ≡ true → v ≡ false
 not-passed true e = absurd (let no : ⊥ = cc in no)
 not-passed false e = refl
 
+-- a place that isn't closed by its flag isn't where this says the same
+pub open-alike : (i : ℕ) (a b : Bool) → (i ≡ 0) ⊎ (a ≡ false) → a ≡ b → (i ≡ 0) ⊎ (b ≡ false)
+open-alike i a b (inl e) f = inl e
+open-alike i a b (inr e) f = inr (sym f ∙ e)
+
 -- the places of a symbol, of which place 0 counts in any case and others where they aren't closed
 module _ (P : Coefficient → Type 0) (symbol n : ℕ) (is_closed : ℕ → Bool) where
   -- where it holds of each place that counts, it holds of all

@@ -4,3 +4,5 @@ pub mod GapShapes
 pub mod GapValues
 pub mod FirstFaults
 pub mod Balances
+pub mod Touched
+pub mod Sums

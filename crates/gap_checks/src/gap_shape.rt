@@ -13,6 +13,7 @@ ghost use Rattle.proof_tree.specs.Composing.{AreRowsOf};
 ghost use Rattle.gap_checks.specs.GapTests.{forms_by, HaveGapPoints, IsGapSet};
 
 use crate::gap_points::prep_at;
+use crate::rule_numbers::{are_rules, ascends};
 use farkas_cert::Scaled;
 use guard_prep::RuleRows;
 use its_model::Program;
@@ -20,30 +21,6 @@ use proof_tree::{Gap, has_number};
 
 // The most that a part of a point or its denominator may be in absolute value.
 const LIMIT: u64 = 1 << 45;
-
-// Whether each number is less than the next.
-fn ascends(numbers: &[u32]) -> bool
-    ensures { IsTrue result ↔ IsAscending numbers.now }
-{
-    for i in 1..numbers.len() {
-        if numbers[i - 1] >= numbers[i] {
-            return false;
-        }
-    }
-    true
-}
-
-// Whether the numbers are those of rules.
-fn are_rules(p: &Program, numbers: &[u32]) -> bool
-    ensures { IsTrue result ↔ AllByRecursion (IsRule (program_of p.now)) numbers.now }
-{
-    for number in numbers {
-        if *number == 0 || *number as usize > p.rules.len() {
-            return false;
-        }
-    }
-    true
-}
 
 // Whether the set ascends, has numbers of rules alone and holds the strict rule.
 fn is_gap_set(p: &Program, g: &Gap) -> bool

@@ -7,6 +7,11 @@ mod balancing;
 mod gap_faults;
 mod gap_points;
 mod gap_shape;
+mod parts;
+mod program_rules;
+mod rule_numbers;
 mod shut_places;
+mod touching;
 
 pub use gap_faults::{gap_fault, gaps_exclude_functions};
+pub use rule_numbers::{are_rules, arity_at, ascends, is_rule};

@@ -28,3 +28,5 @@ mod ProofViews
 mod CitedLemmas
 -- counts of nodes
 mod NodeCounts
+-- small files
+mod WorkedFiles

@@ -14,3 +14,4 @@ pub mod Judging
 pub mod Counts
 -- files
 pub mod Files
+pub mod WorkedFiles

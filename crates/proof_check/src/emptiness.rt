@@ -9,8 +9,9 @@ ghost use Rattle.proof_check.specs.PlainChecks.{empty_checks};
 ghost use Rattle.proof_facts.specs.NodeAnswers.{Refuses};
 ghost use Rattle.proof_tree.specs.proof_nodes.AcceptsPlain.{HasEmptyShape};
 
+use gap_checks::is_rule;
 use farkas_cert::empty;
-use proof_facts::{Ground, NodeFault, are_multipliers, is_rule, prep, zero_time};
+use proof_facts::{Ground, NodeFault, are_multipliers, prep, zero_time};
 use proof_tree::{EmptyNode, Fact, Reason};
 use std::alloc::Global;
 

@@ -6,6 +6,7 @@ ghost use Rattle.its_model.specs.Valid.{IsValid};
 ghost use Rattle.its_model.specs.Views.{program_of};
 ghost use Rattle.model.specs.Facts.{Holds};
 ghost use Rattle.proof_check.specs.Files.{CanBeNumbered, IsAcceptedWith, RefusesFile, ExcludeFunctions};
+ghost use Rattle.proof_check.specs.WorkedFiles.{FilesAreAnswered, FilesAreNumbered};
 ghost use Rattle.proof_tree.specs.AnswerViews.{file_of, gap_of};
 ghost use Rattle.proof_tree.specs.Views.{facts_of};
 ghost use Rattle.proof_tree.specs.proof_setting.Laws.{AcceptedFilesHold};
@@ -51,4 +52,11 @@ pub fn check(alloc: Global, p: &Program, f: &ProofFile) -> Result<Vec<Fact>, Che
 /// functions, whoever made it. It has no code: its contract is the law.
 pub fn accepted_files_hold()
     ensures { AcceptedFilesHold }
+{}
+
+/// Which small files can be numbered, and what is answered to small files, as it was worked out by hand. It has no code:
+/// its contract is the values.
+pub fn files_are_answered()
+    ensures numbered { FilesAreNumbered }
+    ensures answered { FilesAreAnswered }
 {}

@@ -20,5 +20,5 @@ mod weakening;
 mod writable;
 
 pub use error::CheckError;
-pub use files::{accepted_files_hold, check};
+pub use files::{accepted_files_hold, check, files_are_answered};
 pub use numbering::can_be_numbered;

@@ -12,8 +12,9 @@ ghost use Rattle.proof_tree.specs.Views.{fact_of, facts_of};
 ghost use Rattle.proof_tree.specs.proof_nodes.AcceptsPlain.{may_run};
 ghost use Rattle.proof_tree.specs.proof_nodes.Checks.{unreached_checks};
 
+use gap_checks::is_rule;
 use model::Memory;
-use proof_facts::{Ground, Kept, NodeFault, Use, facts_in, is_rule, zero_time};
+use proof_facts::{Ground, Kept, NodeFault, Use, facts_in, zero_time};
 use proof_tree::{Fact, Reason};
 use size_nodes::is_zero;
 use std::alloc::Global;

@@ -3,6 +3,8 @@ pub mod Cuts
 -- what was prepared of rules
 pub mod Rows
 pub mod SuitedRows
+-- costs
+pub mod WrittenCosts
 -- facts of places
 pub mod PlaceFacts
 -- facts that are kept

@@ -3,6 +3,7 @@ pub mod Statements
 -- what nodes are judged over
 pub mod Grounds
 pub mod SuitedRows
+pub mod CostRows
 -- what is answered to nodes
 pub mod NodeAnswers
 -- bounds by key, and bounds that are needed

@@ -1,26 +1,31 @@
 //! What nodes are judged over.
 
-ghost use Rattle.std.specs.Prelude.{◌≡◌, ◌↔◌, map, IfOk, IsTrue};
+ghost use Rattle.std.specs.Prelude.{◌≡◌, map, IfOk, MatchOption};
 ghost use Rattle.farkas_cert.specs.Sizes.{AreSmall};
 ghost use Rattle.its_model.specs.Valid.{IsValid};
 ghost use Rattle.its_model.specs.Views.{program_of};
+ghost use Rattle.model.specs.Costs.{HasCost};
 ghost use Rattle.poly_terms.specs.Views.{form_of};
+ghost use Rattle.proof_facts.specs.CostRows.{IsCostPrep};
 ghost use Rattle.proof_facts.specs.Grounds.{IsGround, program, setting};
 ghost use Rattle.proof_facts.specs.SuitedRows.{HasPlaces, IsPrepOf, SuitsArms, SuitsGoals};
 ghost use Rattle.proof_tree.specs.Composing.{AreRowsOf};
 ghost use Rattle.proof_tree.specs.proof_nodes.AcceptsPlain.{IsRule};
 
+use crate::costs::all_costs;
+use gap_checks::is_rule;
 use guard_prep::{RuleRows, rows};
 use its_graph::Graph;
 use its_model::Program;
 use model::Memory;
 use std::alloc::Global;
 
-/// A program, with the rows of each of its rules, in order, and its graph.
+/// A program, with the rows of each of its rules, in order, those of the cost rule of each that has a cost, and its graph.
 #[derive(Drop)]
 pub struct Ground<'a> {
     pub program: &'a Program,
     pub preps: Vec<RuleRows>,
+    pub costs: Vec<Option<RuleRows>>,
     pub graph: Graph,
 }
 
@@ -35,10 +40,12 @@ pub fn ground_of<'a>(alloc: Global, p: &'a Program) -> Result<Ground<'a>, Memory
     ensures same { IfOk result (λ g. program g ≡ program_of p.now) }
 {
     let preps = all_rows(alloc, p)?;
+    let costs = all_costs(alloc, p)?;
     let graph = Graph::new(alloc, p)?;
     Ok(Ground {
         program: p,
         preps,
+        costs,
         graph,
     })
 }
@@ -55,16 +62,6 @@ fn all_rows(alloc: Global, p: &Program) -> Result<Vec<RuleRows>, Memory>
     Ok(preps)
 }
 
-/// Whether the number is that of a rule.
-pub fn is_rule(p: &Program, number: u32) -> bool
-    ensures { IsTrue result ↔ IsRule (program_of p.now) number }
-{
-    if number == 0 || number as usize > p.rules.len() {
-        return false;
-    }
-    true
-}
-
 /// What was prepared of a rule.
 pub fn prep<'g>(ground: &'g Ground, rule: u32) -> &'g RuleRows
     requires ground { IsGround ground.now }
@@ -78,4 +75,19 @@ pub fn prep<'g>(ground: &'g Ground, rule: u32) -> &'g RuleRows
     ensures places { HasPlaces (program ground.now) rule result.now }
 {
     &ground.preps[rule as usize - 1]
+}
+
+/// What was prepared of the cost rule of a rule, where there is such a rule and it has a cost.
+pub fn cost_prep<'g>(ground: &'g Ground, rule: u32) -> Option<&'g RuleRows>
+    requires { IsGround ground.now }
+    ensures { MatchOption result (¬ (HasCost (program ground.now) rule))
+        (λ prepared. IsCostPrep (program ground.now) rule prepared.now) }
+{
+    if !is_rule(ground.program, rule) {
+        return None;
+    }
+    match &ground.costs[rule as usize - 1] {
+        Some(prepared) => Some(prepared),
+        None => None,
+    }
 }

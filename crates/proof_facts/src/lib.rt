@@ -5,6 +5,7 @@
 #![tactic(auto)]
 
 mod columns;
+mod costs;
 mod ground;
 mod joining;
 mod kept;
@@ -15,11 +16,11 @@ mod refusal;
 mod stating;
 
 pub use columns::{Column, coefficient, number, product};
-pub use ground::{Ground, ground_of, is_rule, prep};
+pub use ground::{Ground, cost_prep, ground_of, prep};
 pub use joining::lookup_of;
 pub use kept::{Kept, Use, facts_at, facts_in};
 pub use lookup::Lookup;
 pub use multipliers::{are_multipliers, are_within, are_within_limit, is_within};
 pub use needed::{first_missing, first_untimed, has_time};
 pub use refusal::NodeFault;
-pub use stating::{arity_at, bound_at, one, start_facts, zero_sizes, zero_time};
+pub use stating::{bound_at, one, start_facts, zero_sizes, zero_time};

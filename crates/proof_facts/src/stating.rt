@@ -13,6 +13,7 @@ ghost use Rattle.proof_tree.specs.proof_nodes.AcceptsPlain.{start_sizes, start_f
 ghost use Rattle.proof_tree.specs.proof_nodes.Laws.{bound_in};
 
 use bound_expr::Bound;
+use gap_checks::arity_at;
 use its_model::Program;
 use model::Memory;
 use proof_tree::Fact;
@@ -38,16 +39,6 @@ pub fn zero_time(alloc: Global, rule: u32) -> Result<Vec<Fact>, Memory>
             bound: Bound::Const(0),
         },
     )
-}
-
-/// How many places a symbol has; where there is none, 0.
-pub fn arity_at(p: &Program, number: u32) -> u32
-    ensures { result ≡ arity_of (program_of p.now) number }
-{
-    match p.symbols.get(number as usize) {
-        Some(symbol) => symbol.arity,
-        None => 0,
-    }
 }
 
 /// Each of so many places after a rule has the size 0.

@@ -13,55 +13,18 @@ ghost use Rattle.proof_tree.specs.proof_nodes.Numbers.{IsAscending};
 
 use crate::symbols::symbols_of_set;
 use farkas_cert::LIMIT;
+use gap_checks::{are_rules, arity_at, ascends};
 use its_model::Program;
 use model::Memory;
-use proof_facts::{Ground, are_multipliers, are_within, arity_at, is_rule, is_within};
-use proof_tree::{Form, RankNode};
+use proof_facts::{Ground, are_multipliers, are_within, is_within};
+use proof_tree::{Form, RankNode, has_number};
 use std::alloc::Global;
-
-// Whether each number is less than the next.
-fn ascends(numbers: &[u32]) -> bool
-    ensures { IsTrue result ↔ IsAscending numbers.now }
-{
-    for i in 1..numbers.len() {
-        if numbers[i - 1] >= numbers[i] {
-            return false;
-        }
-    }
-    true
-}
-
-// Whether a number is in a list.
-fn has(numbers: &[u32], number: u32) -> bool
-    ensures { result ≡ is_in number numbers.now }
-{
-    for other in numbers {
-        let is_same = number == *other;
-        if is_same {
-            return true;
-        }
-    }
-    false
-}
-
-// Whether the numbers are those of rules.
-fn are_rules(p: &Program, numbers: &[u32]) -> bool
-    ensures { IsTrue result ↔ AllByRecursion (IsRule (program_of p.now)) numbers.now }
-{
-    for number in numbers {
-        let fits = is_rule(p, *number);
-        if !fits {
-            return false;
-        }
-    }
-    true
-}
 
 // Whether the set ascends, has numbers of rules alone and holds the rule.
 fn is_rank_set(p: &Program, node: &RankNode) -> bool
     ensures { IsTrue result ↔ IsRankSet (program_of p.now) (rank_of node.now) }
 {
-    ascends(&node.set) && are_rules(p, &node.set) && has(&node.set, node.rule)
+    ascends(&node.set) && are_rules(p, &node.set) && has_number(&node.set, node.rule)
 }
 
 // Whether a form has a coefficient for each place of its symbol, and numbers within the limit.

@@ -39,7 +39,8 @@ use Rattle.proof_tree.specs.proof_nodes.Setting.{Setting, costs_of, only_place}
 use Rattle.proof_tree.specs.proof_setting.Setting.{bent_at, cost_rule_at, cost_rule_in, news_in, polys_in, rows_in, setting_of}
 use Rattle.proof_facts.specs.SuitedRows.{IsPrepOf, SuitsArms}
 use Rattle.proof_facts.proofs.SuitedRows.{suits-arms}
-use Rattle.proof_sizes.specs.Costs.{HasNumbersBy, IsCostPrep, spots_after_each}
+use Rattle.proof_facts.specs.CostRows.{IsCostPrep}
+use Rattle.proof_sizes.specs.Costs.{HasNumbersBy, spots_after_each}
 use Rattle.proof_sizes.proofs.ArmsOver.{numbers-shape, shape-numbers}
 
 -- one new value alone is the first

@@ -8,5 +8,4 @@ mod MemberShapes
 mod SizedNodes
 -- costs
 mod CostRows
-mod WrittenCosts
 mod CostAnswers

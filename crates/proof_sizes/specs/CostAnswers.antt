@@ -12,7 +12,7 @@ use Rattle.proof_tree.specs.proof_nodes.Setting.{Setting}
 use Rattle.proof_facts.specs.Grounds.{IsGround, program, setting}
 use Rattle.proof_facts.specs.NodeAnswers.{Refuses}
 use Rattle.proof_facts.specs.declared.refusal.NodeFault.{NodeFault}
-use Rattle.proof_sizes.specs.Costs.{IsCostPrep}
+use Rattle.proof_facts.specs.CostRows.{IsCostPrep}
 use Rattle.proof_sizes.specs.declared.cost_rows.CostRule.{CostRule}
 
 -- the setting over which a cost is judged
@@ -22,7 +22,7 @@ cost_setting c = setting c.ground.now
 -- what was prepared is that of the cost rule of a rule of the program
 pub record IsCostRule (c : CostRule) : Type 0 where
   pub ground : IsGround c.ground.now
-  pub rows : IsCostPrep (program c.ground.now) c.rule c.prepared
+  pub rows : IsCostPrep (program c.ground.now) c.rule c.prepared.now
 
 -- all checks of how a cost is shown pass, and this cost is stated
 pub record ComposesCost (s : Setting) (table : Table) (t : ℕ) (by : CostBy) (b : Bound) : Type 0 where

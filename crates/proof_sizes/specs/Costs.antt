@@ -1,13 +1,7 @@
--- Nodes on costs, and what is prepared of cost rules.
-use Rattle.std.specs.Prelude.{◌≡◌, ℕ, List, [], ◌∷◌, ◌++◌, length, Option, Some, ⊤}
-use Rattle.guard_prep.specs.Prepared.{prepared}
-use Rattle.guard_prep.specs.Views.{prepared_of}
-use Rattle.guard_prep.specs.declared.rule_rows.RuleRows.{RuleRows}
+-- Nodes on costs: their numbers, and what they compose.
+use Rattle.std.specs.Prelude.{◌≡◌, ℕ, List, [], ◌∷◌, ◌++◌, length, Option, ⊤}
 use Rattle.model.specs.Bounds.{Bound, ProductOf, MaximumOf}
-use Rattle.model.specs.Costs.{HasCost, cost_rule}
 use Rattle.model.specs.Polynomials.{Polynomial}
-use Rattle.model.specs.Programs.{Program}
-use Rattle.model.specs.Terms.{Term}
 use Rattle.proof_tree.specs.Views.{cost_by_of}
 use Rattle.proof_tree.specs.declared.proof.CostNode as code
 use Rattle.proof_tree.specs.proof_nodes.Checks.{spots_after}
@@ -21,15 +15,6 @@ use Rattle.proof_sizes.specs.Arms.{HasArmNumbers}
 -- what a node on a cost holds beside its uses
 abbrev pub cost_node : code.CostNode → CostNode
 cost_node n = record { rule = n.rule; by = cost_by_of n.by }
-
--- a cost that may be there is
-abbrev pub IsWritten : Option Term → Type 0
-IsWritten o = (k : Term) × (o ≡ Some k)
-
--- what was prepared of the cost rule of a rule with a cost
-pub record IsCostPrep (p : Program) (t : ℕ) (m : RuleRows) : Type 0 where
-  pub costs : HasCost p t
-  pub same : prepared_of m ≡ prepared (cost_rule costs.rule costs.cost)
 
 -- multipliers for so many rows, within the limit
 pub record AreRowMultipliers (rows : ℕ) (multipliers : List ℕ) : Type 0 where

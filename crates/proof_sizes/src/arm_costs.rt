@@ -37,11 +37,11 @@ pub(crate) fn arm_cost<K: Known>(
     known: &K,
 ) -> Result<Bound, NodeFault>
     requires rule { IsCostRule costing.now }
-    requires numbers { HasArmNumbers (length costing.now.prepared.rows.items) costing.now.prepared.left
+    requires numbers { HasArmNumbers (length costing.now.prepared.now.rows.items) costing.now.prepared.now.left
         (arm_of arm.now) }
     ensures { AnswersCost costing.now (K.table known.now) (ArmCost (arm_of arm.now)) result }
 {
-    let accepted = accepts_arm(alloc, &costing.prepared, 1, Side::Up, arm)?;
+    let accepted = accepts_arm(alloc, costing.prepared, 1, Side::Up, arm)?;
     if !accepted {
         return Err(NodeFault::Refused(Reason::ArmUp {
             rule: costing.rule,
@@ -63,7 +63,7 @@ fn sized_cost<K: Known>(
     known: &K,
 ) -> Result<Bound, NodeFault>
     requires rule { IsCostRule costing.now }
-    requires numbers { HasArmNumbers (length costing.now.prepared.rows.items) costing.now.prepared.left
+    requires numbers { HasArmNumbers (length costing.now.prepared.now.rows.items) costing.now.prepared.now.left
         (arm_of arm.now) }
     requires up { AcceptsCostArm (cost_setting costing.now) costing.now.rule (arm_of arm.now) }
     requires time { HasTime (K.table known.now) costing.now.rule }
@@ -95,7 +95,7 @@ fn needed_spots(
     ensures { IfOk result (λ spots. map spot_of spots.items
         ≡ needed_at_cost (cost_setting costing.now) costing.now.rule (arm_of arm.now) before.now) }
 {
-    let poly = bent_update(&costing.prepared, 0);
+    let poly = bent_update(costing.prepared, 0);
     let places = places_read(alloc, arm, poly, costing.prepared.left)?;
     spots_each(alloc, &places, before)
 }
@@ -169,7 +169,7 @@ fn composed_within<K: Known>(
         (cost_over ((cost_setting costing.now).cost_poly costing.now.rule) (arm_of arm.now) (K.table known.now)
         costing.now.rule before.now)) }
 {
-    let poly = bent_update(&costing.prepared, 0);
+    let poly = bent_update(costing.prepared, 0);
     let time = known_or_zero(alloc, known.time(costing.rule))?;
     let step = step_bound(alloc, arm, poly, before, known)?;
     let product = product_of(alloc, time, step)?;

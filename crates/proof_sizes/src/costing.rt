@@ -13,10 +13,10 @@ ghost use Rattle.proof_tree.specs.proof_nodes.Known.{Table};
 ghost use Rattle.proof_tree.specs.proof_nodes.Nodes.{EmptyCost, NeverCost};
 
 use crate::arm_costs::arm_cost;
-use crate::cost_rows::{CostRule, cost_rows, has_cost, has_cost_numbers};
+use crate::cost_rows::{CostRule, has_cost_numbers};
 use bound_expr::Bound;
 use farkas_cert::empty;
-use proof_facts::{Ground, NodeFault, one};
+use proof_facts::{Ground, NodeFault, cost_prep, one};
 use proof_tree::{CostBy, CostNode, Fact, Known, Reason};
 use size_nodes::is_zero;
 use std::alloc::Global;
@@ -38,11 +38,10 @@ pub fn cost_facts<K: Known>(
         (Cost node.now.rule (node_cost (setting ground.now) (K.table known.now) (cost_node node.now)) ∷ []) facts)
         (λ fault. Refuses (cost_checks (setting ground.now) (K.table known.now) (cost_node node.now)) fault) }
 {
-    if !has_cost(ground.program, node.rule) {
+    let Some(prepared) = cost_prep(ground, node.rule) else {
         return Err(NodeFault::Refused(Reason::Shape));
-    }
-    let prepared = cost_rows(alloc, ground.program, node.rule)?;
-    if !has_cost_numbers(&prepared, &node.by) {
+    };
+    if !has_cost_numbers(prepared, &node.by) {
         return Err(NodeFault::Refused(Reason::Shape));
     }
     let costing = CostRule {
@@ -70,7 +69,7 @@ fn cost_by<K: Known>(
     known: &K,
 ) -> Result<Bound, NodeFault>
     requires rule { IsCostRule costing.now }
-    requires numbers { HasNumbersBy (length costing.now.prepared.rows.items) costing.now.prepared.left
+    requires numbers { HasNumbersBy (length costing.now.prepared.now.rows.items) costing.now.prepared.now.left
         (cost_by_of by.now) }
     ensures { AnswersCost costing.now (K.table known.now) (cost_by_of by.now) result }
 {
@@ -84,7 +83,7 @@ fn cost_by<K: Known>(
 // The cost 0, where the cost rows have no point.
 fn no_cost(costing: &CostRule, multipliers: &[u64]) -> Result<Bound, NodeFault>
     requires rule { IsCostRule costing.now }
-    requires numbers { AreRowMultipliers (length costing.now.prepared.rows.items) multipliers.now }
+    requires numbers { AreRowMultipliers (length costing.now.prepared.now.rows.items) multipliers.now }
     ensures { (table : Table) → AnswersCost costing.now table (EmptyCost multipliers.now) result }
 {
     let is_empty = empty(&costing.prepared.rows, multipliers);

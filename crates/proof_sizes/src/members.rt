@@ -8,11 +8,12 @@ ghost use Rattle.gap_checks.specs.GapTests.{IsFirstFailing};
 ghost use Rattle.proof_tree.specs.Views.{member_of, spot_of};
 ghost use Rattle.proof_tree.specs.proof_nodes.AcceptsSizes.{AcceptsLow, AcceptsUp, HasMemberShape, IsSpot};
 
+use gap_checks::{arity_at, is_rule};
 use crate::arm_numbers::has_arm_numbers;
 use crate::arms::{Side, accepts_arm};
 use its_model::Program;
 use model::Memory;
-use proof_facts::{Ground, arity_at, is_rule, prep};
+use proof_facts::{Ground, prep};
 use proof_tree::{Member, Spot, target_of};
 use std::alloc::Global;
 

@@ -18,6 +18,8 @@ pub mod PushedParts
 pub mod LoopFlows
 -- what the rules of a loop do
 pub mod LoopParts
+-- the flows of one rule
+pub mod RuleFlows
 -- the rules of members
 pub mod MemberRules
 -- the members of which an arm reads a member

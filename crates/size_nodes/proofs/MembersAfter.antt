@@ -14,7 +14,7 @@ use Rattle.proof_tree.specs.declared.arm.Member.{Member}
 use Rattle.proof_tree.specs.Views.{member_of}
 
 -- what comes before has no greater rule
-no-greater : (a b : nodes.Spot) → ComesBefore a b → a.rule ≤ b.rule
+pub no-greater : (a b : nodes.Spot) → ComesBefore a b → a.rule ≤ b.rule
 no-greater a b (inl l) = omega (arith, l)
 no-greater a b (inr h) = omega (arith, h.0)
 

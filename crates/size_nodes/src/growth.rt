@@ -1,6 +1,7 @@
 //! What the rules of a loop make of its flows: by what each multiplies, and what it adds.
 
 ghost use Rattle.std.specs.Prelude.{◌≡◌, map, IfOk, OnOk};
+ghost use Rattle.std.specs.List.Sorted.{IsNonDecreasingBy};
 ghost use Rattle.model.specs.Bounds.{MaximumOf};
 ghost use Rattle.bound_expr.specs.Views.{bound_of, bounds_of, parts_of};
 ghost use Rattle.proof_tree.specs.proof_nodes.Known.{is_zero_bound};
@@ -10,6 +11,7 @@ ghost use Rattle.size_nodes.specs.Flows.{flow_of};
 ghost use Rattle.size_nodes.specs.Growths.{is_of, offset_part, growth_of, growth_by_flows, growing_rule_numbers};
 
 use crate::flow::Flow;
+use crate::rule_flows::flows_of_rule;
 use bound_expr::{Bound, Memory};
 use bound_table::rewrite;
 use std::alloc::Global;
@@ -117,7 +119,7 @@ fn growth_by(alloc: Global, flows: &[Flow], rule: u32) -> Result<Growth, Memory>
     })
 }
 
-/// What each of these rules does by these flows, in order.
+/// What each of these rules does by these flows, in order. Of the flows, which come by rules, each rule looks at its own.
 ///
 /// # Errors
 ///
@@ -127,11 +129,12 @@ pub(crate) fn growths_by(
     flows: &[Flow],
     rules: &[u32],
 ) -> Result<Vec<Growth>, Memory>
+    requires { IsNonDecreasingBy (λ f. f.rule) flows.now }
     ensures { IfOk result (λ gs. map growth_of gs.items ≡ map (growth_by_flows (map flow_of flows.now)) rules.now) }
 {
     let mut growths = Vec::new(alloc);
     for rule in rules {
-        let one = growth_by(alloc, flows, *rule)?;
+        let one = growth_by(alloc, flows_of_rule(flows, *rule), *rule)?;
         growths.push(one)?;
     }
     Ok(growths)

@@ -12,6 +12,7 @@ mod loop_bound;
 mod members;
 mod missing;
 mod needs;
+mod rule_flows;
 mod rules;
 mod setting;
 mod sized;

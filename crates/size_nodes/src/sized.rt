@@ -1,6 +1,7 @@
 //! Sizes of a place that doesn't loop, and of the members of a loop.
 
 ghost use Rattle.std.specs.Prelude.{◌≡◌, [], ◌∷◌, ◌++◌, map, None, IfOk};
+ghost use Rattle.std.specs.List.Sorted.{IsNonDecreasingBy};
 ghost use Rattle.model.specs.Programs.{Program};
 ghost use Rattle.bound_expr.specs.Views.{bound_of};
 ghost use Rattle.proof_tree.specs.proof_nodes.Checks.{needed_into};
@@ -132,6 +133,7 @@ fn sized_by_flows<K: Known>(
     flows: &[Flow],
     rules: &[u32],
 ) -> Result<Sizing, Memory>
+    requires { IsNonDecreasingBy (λ f. f.rule) flows.now }
     ensures { IfOk result (λ a. IsLoopSizing (K.table known.now) (map spot_of needed.items)
         (base_of (map flow_of flows.now)) (map (growth_by_flows (map flow_of flows.now)) rules.now) a) }
 {

@@ -12,12 +12,12 @@ use Rattle.proof_sizes.proofs.arm_costs.arm_cost.Goals as goal
 pub accepts_arm-requires-clause-suits : goal.accepts_arm-requires-clause-suits
 accepts_arm-requires-clause-suits g c =
     let k = c.args.costing.now in
-    cost-arms (program k.ground.now) k.rule k.prepared c.requires.rule.rows c.requires.rule.ground.valid
+    cost-arms (program k.ground.now) k.rule k.prepared.now c.requires.rule.rows c.requires.rule.ground.valid
 
 pub accepts_arm-requires-clause-most : goal.accepts_arm-requires-clause-most
 accepts_arm-requires-clause-most g c =
     let k = c.args.costing.now in
-    omega (arith, cost-single (program k.ground.now) k.rule k.prepared c.requires.rule.rows)
+    omega (arith, cost-single (program k.ground.now) k.rule k.prepared.now c.requires.rule.rows)
 
 pub returns-then-not-accepted : goal.returns-then-not-accepted
 returns-then-not-accepted g c =
@@ -25,7 +25,7 @@ returns-then-not-accepted g c =
     let p = program k.ground.now in
     no-arm p (g.K.Known.table c.args.known.now) k.rule (arm_of c.args.arm.now)
     (λ h. let f = c.in_ok-accepted.ensures.1
-    (accepted-over (costs_of (cost_setting k)) k.rule k.prepared (cost-own p k.rule k.prepared c.requires.rule.rows) 1 (omega arith) Up
+    (accepted-over (costs_of (cost_setting k)) k.rule k.prepared.now (cost-own p k.rule k.prepared.now c.requires.rule.rows) 1 (omega arith) Up
     (arm_of c.args.arm.now) h) in let no : ⊥ = cc in no)
 
 pub returns-then-not-has_time : goal.returns-then-not-has_time
@@ -33,7 +33,7 @@ returns-then-not-has_time g c =
     let k = c.args.costing.now in
     let p = program k.ground.now in
     arm-untimed p (g.K.Known.table c.args.known.now) k.rule (arm_of c.args.arm.now)
-    (over-accepted (costs_of (cost_setting k)) k.rule k.prepared (cost-own p k.rule k.prepared c.requires.rule.rows) 1 (omega arith) Up
+    (over-accepted (costs_of (cost_setting k)) k.rule k.prepared.now (cost-own p k.rule k.prepared.now c.requires.rule.rows) 1 (omega arith) Up
     (arm_of c.args.arm.now) (c.in_ok-accepted.ensures.0 c.if-not-accepted.false))
     (λ h. let f = c.if-not-has_time.ensures.1 h in let no : ⊥ = cc in no)
 
@@ -41,7 +41,7 @@ pub sized_cost-requires-clause-up : goal.sized_cost-requires-clause-up
 sized_cost-requires-clause-up g c =
     let k = c.args.costing.now in
     let p = program k.ground.now in
-    over-accepted (costs_of (cost_setting k)) k.rule k.prepared (cost-own p k.rule k.prepared c.requires.rule.rows) 1 (omega arith) Up
+    over-accepted (costs_of (cost_setting k)) k.rule k.prepared.now (cost-own p k.rule k.prepared.now c.requires.rule.rows) 1 (omega arith) Up
     (arm_of c.args.arm.now) (c.in_ok-accepted.ensures.0 c.if-not-accepted.false)
 
 pub sized_cost-requires-clause-time : goal.sized_cost-requires-clause-time

@@ -13,14 +13,14 @@ use Rattle.proof_sizes.proofs.arm_costs.composed_within.Goals as goal
 pub step_bound-requires-clause-few : goal.step_bound-requires-clause-few
 step_bound-requires-clause-few g c =
     let k = c.args.costing.now in
-    cost-few (program k.ground.now) k.rule k.prepared c.requires.rule.rows c.requires.rule.ground.valid c.bent_update-poly.result
+    cost-few (program k.ground.now) k.rule k.prepared.now c.requires.rule.rows c.requires.rule.ground.valid c.bent_update-poly.result
     c.bent_update-poly.ensures
 
 pub returns : goal.returns
 returns g c =
     let k = c.args.costing.now in
     let table = g.K.Known.table c.args.known.now in
-    let poly = c.bent_update-poly.ensures ∙ cost-poly (program k.ground.now) k.rule k.prepared c.requires.rule.rows in
+    let poly = c.bent_update-poly.ensures ∙ cost-poly (program k.ground.now) k.rule k.prepared.now c.requires.rule.rows in
     IfOk-weaker c.rewrite_within.result _ _
     (λ w h. h ∙ ap rewritten_within (c.in_ok-product.ensures
     ∙ (λ i. ProductOf (both_parts ((c.in_ok-time.ensures ∙ ap known c.time.ensures) i)

@@ -13,8 +13,8 @@ pub spots_each-requires : goal.spots_each-requires
 spots_each-requires c =
     let k = c.args.costing.now in
     subst (All (λ j. j < 2 ^ 31)) (sym (c.deref.ensures.value ∙ c.in_ok-places.ensures))
-    (few_read (optional_poly c.bent_update-poly.result) (arm_of c.args.arm.now) k.prepared.left
-    (cost-left (program k.ground.now) k.rule k.prepared c.requires.rows c.requires.ground.valid))
+    (few_read (optional_poly c.bent_update-poly.result) (arm_of c.args.arm.now) k.prepared.now.left
+    (cost-left (program k.ground.now) k.rule k.prepared.now c.requires.rows c.requires.ground.valid))
 
 pub returns : goal.returns
 returns c =
@@ -25,6 +25,6 @@ returns c =
     (λ spots h. h ∙ needed-each (cost_setting k) k.rule arm c.deref.result.now c.args.before.now
     (c.deref.ensures.value
     ∙ (c.in_ok-places.ensures
-    ∙ (λ i. places_read ((c.bent_update-poly.ensures ∙ cost-poly p k.rule k.prepared c.requires.rows) i) arm
-    ((cost-own p k.rule k.prepared c.requires.rows).left i)))))
+    ∙ (λ i. places_read ((c.bent_update-poly.ensures ∙ cost-poly p k.rule k.prepared.now c.requires.rows) i) arm
+    ((cost-own p k.rule k.prepared.now c.requires.rows).left i)))))
     c.spots_each.ensures

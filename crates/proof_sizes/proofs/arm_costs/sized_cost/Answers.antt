@@ -20,7 +20,7 @@ pre-before-requires-clause-graph g c = (program c.args.costing.now.ground.now, c
 pub pre-before-requires-clause-number : goal.pre-before-requires-clause-number
 pre-before-requires-clause-number g c =
     let k = c.args.costing.now in
-    cost-linked (program k.ground.now) k.rule k.prepared c.requires.rule.rows k.ground.now.graph c.requires.rule.ground.graph
+    cost-linked (program k.ground.now) k.rule k.prepared.now c.requires.rule.rows k.ground.now.graph c.requires.rule.ground.graph
 
 pub returns-in-Some : goal.returns-in-Some
 returns-in-Some g c =
@@ -38,7 +38,7 @@ returns-in-Some g c =
 pub composed_within-requires-clause-readable : goal.composed_within-requires-clause-readable
 composed_within-requires-clause-readable g c =
     let k = c.args.costing.now in
-    cost-readable (program k.ground.now) k.rule k.prepared c.requires.rule.rows c.requires.rule.ground.valid c.args.arm.now
+    cost-readable (program k.ground.now) k.rule k.prepared.now c.requires.rule.rows c.requires.rule.ground.valid c.args.arm.now
     c.requires.numbers
 
 pub returns-in-Rewritten : goal.returns-in-Rewritten

@@ -19,7 +19,7 @@ pub empty-is_empty-requires-clause-rows_small : goal.empty-is_empty-requires-cla
 empty-is_empty-requires-clause-rows_small c =
     let k = c.args.costing.now in
     subst (λ (rs : List Row). AreSmall (map form_of rs)) (sym c.deref.ensures.value)
-    (cost-arms (program k.ground.now) k.rule k.prepared c.requires.rule.rows c.requires.rule.ground.valid).small
+    (cost-arms (program k.ground.now) k.rule k.prepared.now c.requires.rule.rows c.requires.rule.ground.valid).small
 
 pub returns-then-is_empty : goal.returns-then-is_empty
 returns-then-is_empty c = λ table.
@@ -27,7 +27,7 @@ returns-then-is_empty c = λ table.
     subst (ComposesCost (cost_setting k) table k.rule (EmptyCost c.args.multipliers.now)) (sym (bound_of-Const 0))
     (free (cost_setting k) table k.rule c.args.multipliers.now
     (subst (λ (fs : List Form). Implies fs c.args.multipliers.now minus_one)
-    (ap (map form_of) c.deref.ensures.value ∙ (cost-own (program k.ground.now) k.rule k.prepared c.requires.rule.rows).rows)
+    (ap (map form_of) c.deref.ensures.value ∙ (cost-own (program k.ground.now) k.rule k.prepared.now c.requires.rule.rows).rows)
     (c.empty-is_empty.ensures.0 c.if-is_empty.true)))
 
 pub returns-else-is_empty : goal.returns-else-is_empty
@@ -36,5 +36,5 @@ returns-else-is_empty c = λ table.
     not-free (cost_setting k) table k.rule c.args.multipliers.now
     (λ h. let f = c.empty-is_empty.ensures.1
     (subst (λ (fs : List Form). Implies fs c.args.multipliers.now minus_one)
-    (sym (ap (map form_of) c.deref.ensures.value ∙ (cost-own (program k.ground.now) k.rule k.prepared c.requires.rule.rows).rows)) h) in
+    (sym (ap (map form_of) c.deref.ensures.value ∙ (cost-own (program k.ground.now) k.rule k.prepared.now c.requires.rule.rows).rows)) h) in
     let no : ⊥ = cc in no)

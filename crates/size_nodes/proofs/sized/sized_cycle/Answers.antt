@@ -12,6 +12,7 @@ use Rattle.size_nodes.specs.BentArms.{first_bent}
 use Rattle.size_nodes.specs.Members.{AreMembersOfProgram}
 use Rattle.size_nodes.specs.Sizings.{IsLoopSizing, IsCycleSizing}
 use Rattle.size_nodes.proofs.MemberRules.{rules-are}
+use Rattle.size_nodes.proofs.RuleFlows.{flows-ascend}
 use Rattle.size_nodes.proofs.LoopAnswers.{is-missing, is-bent, is-sized}
 use Rattle.size_nodes.proofs.sized.sized_cycle.Goals as goal
 
@@ -53,3 +54,10 @@ returns g c =
     (ap (map flow_of) c.deref-2.ensures.value ∙ c.in_ok-flows.ensures p given)
     (c.deref-3.ensures.value ∙ (c.in_ok-rules.ensures ∙ rules-are p ms given.shape)) h)
     c.sized_by_flows.ensures
+
+pub sized_by_flows-requires : goal.sized_by_flows-requires
+sized_by_flows-requires g c =
+    let given = c.requires in
+    let ms = map member_of c.args.members.now in
+    flows-ascend (setting_of given.0) ms (g.K.Known.table c.args.known.now).size c.deref-2.result.now given.1.shape.ascending
+    (ap (map flow_of) c.deref-2.ensures.value ∙ c.in_ok-flows.ensures given.0 given.1)
