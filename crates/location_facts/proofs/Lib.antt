@@ -38,6 +38,8 @@ pub mod ProofSteps
 pub mod FirstFaults
 -- rules under a later list
 pub mod LaterRules
+-- points and rays that stand against facts
+pub mod ElementRules
 -- values that were worked out by hand
 pub mod WorkedFacts
 pub mod WorkedFaults

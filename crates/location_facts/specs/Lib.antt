@@ -15,4 +15,5 @@ pub mod WorkedKept
 pub mod CombinedRows
 pub mod Replies
 pub mod Implied
+pub mod Elements
 pub mod Later

@@ -11,14 +11,18 @@ ghost use Rattle.proof_tree.specs.Composing.{AreRowsOf};
 ghost use Rattle.rule_questions.specs.EmptyAnswers.{IsPrepared};
 ghost use Rattle.location_facts.specs.declared.fact.LocFact.{LocFact as Fact};
 ghost use Rattle.location_facts.specs.Faults.{proofs_of, rules_into as rules_to};
-ghost use Rattle.location_facts.specs.Implied.{AreInOrder, AreProofsUnder, HasProofs, TellsGoal, TellsProofs};
+ghost use Rattle.location_facts.specs.Elements.{IsMeasured, AreElements};
+ghost use Rattle.location_facts.specs.Implied.{AreInOrder, AreProofsUnder, HasProofs, IsPushed, TellsGoal, TellsProofs};
+ghost use Rattle.location_facts.specs.Implied.{proof_in};
 ghost use Rattle.location_facts.specs.Kept.{IsImpliedByAll, IsNext};
 ghost use Rattle.location_facts.specs.Later.{AreLater, AnyLater, HasRows, TellsRule, TellsAgain, IsSameProof};
+ghost use Rattle.location_facts.specs.Later.{StandsOf, proofs_in, elements_in};
 ghost use Rattle.location_facts.specs.Rows.{row_before as row_of, row_after as goal_of, facts_at as facts_of_symbol};
 
 use crate::checks::rules_into;
+use crate::elements::{Element, is_refuted};
 use crate::fact::{FactProof, LocFact, LocFacts};
-use crate::implied::{Under, proof_under, rule_under};
+use crate::implied::{Answered, Under, answer_under, rule_under};
 use crate::rounds::push_shown;
 use guard_prep::RuleRows;
 use its_model::Program;
@@ -32,8 +36,19 @@ pub(crate) struct Earlier<'a> {
     pub proofs: &'a [FactProof],
 }
 
+/// What is told of whether all rules imply a fact.
+#[derive(Debug, Drop)]
+pub(crate) enum Told {
+    /// They do, as a proof for each rule into its symbol shows.
+    Shown(Vec<FactProof>),
+    /// One of them doesn't, as this element shows.
+    Against(Element),
+    /// One of them doesn't.
+    Missed,
+}
+
 /// The next list behind one that was found under an earlier list, with its proofs. Where no fact at a rule's source went
-/// since, its proofs stand; the other rules are asked.
+/// since, its proofs stand; the other rules are asked, but not of facts against which a point or a ray of theirs stands.
 pub(crate) fn later_facts(
     alloc: Global,
     p: &Program,
@@ -54,6 +69,7 @@ pub(crate) fn later_facts(
     let unders = later_rules(alloc, p, preps, old, &found.kept, pivots)?;
     let mut kept = Vec::new(alloc);
     let mut proofs = Vec::new(alloc);
+    let mut elements = Vec::new(alloc);
     for i in 0..found.kept.len() {
         let fact = found.kept[i];
         let before = &found.proofs[i];
@@ -61,10 +77,32 @@ pub(crate) fn later_facts(
             fact,
             proofs: before,
         };
-        let shown = later_proofs(alloc, p, preps, &unders, earlier, pivots)?;
-        push_shown(&mut kept, &mut proofs, fact, shown)?;
+        let told = later_proofs(alloc, p, preps, &unders, &elements, earlier, pivots)?;
+        push_told(&mut kept, &mut proofs, &mut elements, fact, told)?;
     }
     Ok(LocFacts { kept, proofs })
+}
+
+// Appends a fact with its proofs, where it has them, and else the element that stands against it, where there is one.
+fn push_told(
+    kept: &mut Vec<LocFact>,
+    proofs: &mut Vec<Vec<FactProof>>,
+    elements: &mut Vec<Element>,
+    fact: LocFact,
+    told: Told,
+) -> Result<(), Memory>
+    ensures facts { IfOk result (λ _.
+        IsPushed fact (proofs_in told) kept.old.items kept.new.items proofs.old.items proofs.new.items) }
+    ensures elements { IfOk result (λ _. elements.new.items ≡ elements.old.items ++ elements_in told) }
+{
+    match told {
+        Told::Shown(list) => push_shown(kept, proofs, fact, Some(list)),
+        Told::Against(element) => {
+            elements.push(element)?;
+            Ok(())
+        }
+        Told::Missed => Ok(()),
+    }
 }
 
 // The rules of a program, each under a list where a fact at its source went since an earlier one.
@@ -122,24 +160,36 @@ fn count_at(facts: &[LocFact], symbol: u32) -> usize
     facts.iter().filter(|fact| fact.symbol == symbol).count()
 }
 
-// Proofs that a fact is kept for each rule into its symbol, where all of them imply it.
+// Proofs that a fact is kept for each rule into its symbol, where all of them imply it, and else which element stands
+// against it, where one is found.
 fn later_proofs(
     alloc: Global,
     p: &Program,
     preps: &[RuleRows],
     unders: &[Option<Under>],
+    elements: &[Element],
     earlier: Earlier,
     pivots: u32,
-) -> Result<Option<Vec<FactProof>>, Memory>
+) -> Result<Told, Memory>
     requires valid { IsValid (program_of p.now) }
     requires rows { AreRowsOf preps.now (program_of p.now) }
     requires later { AnyLater (program_of p.now) pivots unders.now }
     requires one_each { length earlier.proofs.now ≡ length (rules_to (program_of p.now) earlier.fact.symbol) }
-    ensures { IfOk result (λ proofs. (old kept : List Fact) → AreLater (program_of p.now) pivots old kept unders.now
+    requires measured { All (IsMeasured (program_of p.now)) elements.now }
+    ensures told { IfOk result (λ t. (old kept : List Fact) → AreLater (program_of p.now) pivots old kept unders.now
+        → AreElements (program_of p.now) pivots kept elements.now
         → IsImpliedByAll (program_of p.now) pivots old earlier.entry.fact
         → HasProofs (program_of p.now) old earlier.entry.fact earlier.entry.proofs.now
-        → TellsProofs (program_of p.now) pivots kept earlier.entry.fact proofs) }
+        → TellsProofs (program_of p.now) pivots kept earlier.entry.fact (proofs_in t)) }
+    ensures measured { IfOk result (λ t. All (IsMeasured (program_of p.now)) (elements_in t)) }
+    ensures elements { IfOk result (λ t. (old kept : List Fact) → AreLater (program_of p.now) pivots old kept unders.now
+        → IsImpliedByAll (program_of p.now) pivots old earlier.entry.fact
+        → HasProofs (program_of p.now) old earlier.entry.fact earlier.entry.proofs.now
+        → AreElements (program_of p.now) pivots kept (elements_in t)) }
 {
+    if is_refuted(p, preps, elements, earlier.fact) {
+        return Ok(Told::Missed);
+    }
     let into = rules_into(alloc, p, earlier.fact.symbol)?;
     let mut proofs = Vec::new(alloc);
     for k in 0..into.len() {
@@ -148,16 +198,17 @@ fn later_proofs(
         let under = &unders[rule as usize - 1];
         let before = &earlier.proofs[k];
         match later_proof(alloc, prep, under, earlier.fact, before, pivots)? {
-            Some(proof) => {
+            Answered::Shown(proof) => {
                 proofs.push(proof)?;
             }
-            None => return Ok(None),
+            Answered::Against(at) => return Ok(Told::Against(Element { rule, at })),
+            Answered::Missed => return Ok(Told::Missed),
         }
     }
-    Ok(Some(proofs))
+    Ok(Told::Shown(proofs))
 }
 
-// A proof that a rule keeps a fact: an earlier one where it stands, and else one that is found, where there is one.
+// Whether a rule keeps a fact: an earlier proof stands, or it is asked.
 fn later_proof(
     alloc: Global,
     prep: &RuleRows,
@@ -165,18 +216,20 @@ fn later_proof(
     fact: LocFact,
     earlier: &FactProof,
     pivots: u32,
-) -> Result<Option<FactProof>, Memory>
+) -> Result<Answered, Memory>
     requires prepared { IsPrepared prep.now }
     requires rows { HasRows prep.now.unknowns under.now }
-    ensures { IfOk result (λ proof. (rows : List Form)
+    ensures told { IfOk result (λ a. (rows : List Form)
         → TellsAgain pivots prep.now.unknowns rows (goal_of (map form_of prep.now.news.items) fact) under.now earlier.now
-        → TellsGoal pivots prep.now.unknowns rows (goal_of (map form_of prep.now.news.items) fact) proof) }
+        → TellsGoal pivots prep.now.unknowns rows (goal_of (map form_of prep.now.news.items) fact) (proof_in a)) }
+    ensures stands { IfOk result
+        (StandsOf prep.now.unknowns (goal_of (map form_of prep.now.news.items) fact) under.now) }
 {
     match under {
-        Some(asked) => proof_under(alloc, prep, asked, fact, pivots),
+        Some(asked) => answer_under(alloc, prep, asked, fact, pivots),
         None => {
             let copy = copied_proof(alloc, earlier)?;
-            Ok(Some(copy))
+            Ok(Answered::Shown(copy))
         }
     }
 }

@@ -12,7 +12,7 @@ ghost use Rattle.location_facts.specs.Kept.{IsNext, AreKept};
 use crate::candidates::all_candidates;
 use crate::checks::rules_into;
 use crate::fact::{FactProof, LocFact, LocFacts};
-use crate::implied::{Under, proof_under, rule_under};
+use crate::implied::{Answered, Under, answer_under, rule_under};
 use crate::later::later_facts;
 use guard_prep::RuleRows;
 use its_model::Program;
@@ -141,11 +141,12 @@ fn proofs_under(
         let rule = into[k];
         let prep = &preps[rule as usize - 1];
         let under = &rules[rule as usize - 1];
-        match proof_under(alloc, prep, under, fact, pivots)? {
-            Some(proof) => {
+        match answer_under(alloc, prep, under, fact, pivots)? {
+            Answered::Shown(proof) => {
                 proofs.push(proof)?;
             }
-            None => return Ok(None),
+            Answered::Against(_) => return Ok(None),
+            Answered::Missed => return Ok(None),
         }
     }
     Ok(Some(proofs))
