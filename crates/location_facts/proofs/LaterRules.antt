@@ -42,7 +42,7 @@ use Rattle.location_facts.proofs.UnderRules.{is-under, forms-read}
 
 module _ (Keeps : LocFact → Type 0) (s : ℕ) where
   -- of the facts that meet a condition those of a symbol are those of its facts that do
-  those-at : (facts those : List LocFact) → HasThose Keeps facts those → HasThose Keeps (facts_at s facts) (facts_at s those)
+  pub those-at : (facts those : List LocFact) → HasThose Keeps facts those → HasThose Keeps (facts_at s facts) (facts_at s those)
   those-at [] those h = ap (facts_at s) h
   those-at (g ∷ facts) those (inl (keeps, (rest, e, h))) =
       subst (λ (fs : List LocFact). HasThose Keeps (facts_at s (g ∷ facts)) (facts_at s fs)) (sym e)

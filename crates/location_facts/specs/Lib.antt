@@ -17,3 +17,4 @@ pub mod Replies
 pub mod Implied
 pub mod Elements
 pub mod Later
+pub mod Pointed

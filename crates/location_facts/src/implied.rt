@@ -1,10 +1,11 @@
 //! Which facts rules imply under a list of facts.
 
-ghost use Rattle.std.specs.Prelude.{◌≡◌, ◌++◌, ◌≤◌, ◌<◌, ◌+◌, ◌^◌, map, length, IfOk};
+ghost use Rattle.std.specs.Prelude.{◌≡◌, ◌++◌, ◌≤◌, ◌<◌, ◌+◌, ◌^◌, ℕ, true, map, length, IfOk};
 ghost use Rattle.std.specs.List.{All};
 ghost use Rattle.lp_builder.specs.Descriptions.{IsWritable};
 ghost use Rattle.poly_terms.specs.Views.{form_of};
 ghost use Rattle.rule_questions.specs.EmptyAnswers.{IsPrepared};
+ghost use Rattle.location_facts.specs.Pointed.{HasPoint};
 ghost use Rattle.location_facts.specs.Implied.{TellsEmpty, TellsGoal, proof_in, StandsIn};
 ghost use Rattle.location_facts.specs.Rows.{row_before as row_of, row_after as goal_of, facts_at as facts_of_symbol};
 
@@ -18,11 +19,12 @@ use rule_questions::constant_row;
 use std::alloc::Global;
 
 /// A rule under a list of facts: its combined rows, and multipliers that show that they have no point, where the linear
-/// program that asks for them is solved.
+/// program that asks for them is solved. Where they are known to have one it says so.
 #[derive(Debug, Drop)]
 pub(crate) struct Under {
     pub rows: Vec<Row>,
     pub empty: Option<Vec<u64>>,
+    pub has_point: bool,
 }
 
 /// What is answered of whether a rule implies a fact.
@@ -36,23 +38,25 @@ pub(crate) enum Answered {
     Missed,
 }
 
-// Multipliers that show that rows have no point, where the linear program that asks for them is solved.
+// Multipliers that show that rows have no point, where the linear program that asks for them is solved, and whether a
+// point of them was found.
 fn emptiness(
     alloc: Global,
     unknowns: u32,
     rows: &[Row],
     pivots: u32,
-) -> Result<Option<Vec<u64>>, Memory>
+) -> Result<(Option<Vec<u64>>, bool), Memory>
     requires few_unknowns { unknowns + 1 < 2 ^ 31 }
     requires few_rows { length rows.now + 1 < 2 ^ 31 }
     requires rows { All (λ r. IsWritable unknowns (form_of r)) rows.now }
-    ensures { IfOk result (TellsEmpty pivots unknowns (map form_of rows.now)) }
+    ensures empty { IfOk result (λ e. TellsEmpty pivots unknowns (map form_of rows.now) e.0) }
+    ensures point { IfOk result (λ e. e.1 ≡ true → HasPoint (map form_of rows.now)) }
 {
     let goal = constant_row(alloc, -1);
     match ask(alloc, unknowns, rows, &goal, pivots)? {
-        Reply::Follows(multipliers, _) => Ok(Some(multipliers)),
-        Reply::Fails(_) => Ok(None),
-        Reply::Tripped => Ok(None),
+        Reply::Follows(multipliers, _) => Ok((Some(multipliers), false)),
+        Reply::Fails(_) => Ok((None, true)),
+        Reply::Tripped => Ok((None, false)),
     }
 }
 
@@ -126,8 +130,38 @@ pub(crate) fn rule_under(
         ≡ map form_of prep.now.rows.items ++ map row_of (facts_of_symbol source kept.now)) }
     ensures writable { IfOk result (λ u. All (λ r. IsWritable prep.now.unknowns (form_of r)) u.rows.items) }
     ensures empty { IfOk result (λ u. TellsEmpty pivots prep.now.unknowns (map form_of u.rows.items) u.empty) }
+    ensures point { IfOk result (λ u. u.has_point ≡ true → HasPoint (map form_of u.rows.items)) }
 {
     let rows = combined_rows(alloc, &prep.rows, source, kept)?;
-    let empty = emptiness(alloc, prep.unknowns, &rows, pivots)?;
-    Ok(Under { rows, empty })
+    let (empty, has_point) = emptiness(alloc, prep.unknowns, &rows, pivots)?;
+    Ok(Under {
+        rows,
+        empty,
+        has_point,
+    })
+}
+
+/// A rule under a list of facts where its combined rows have a point. Nothing is asked.
+pub(crate) fn pointed_under(
+    alloc: Global,
+    prep: &RuleRows,
+    source: u32,
+    kept: &[LocFact],
+) -> Result<Under, Memory>
+    requires few { length (map form_of prep.now.rows.items ++ map row_of (facts_of_symbol source kept.now)) ≤ 371 }
+    requires writable { All (IsWritable prep.now.unknowns)
+        (map form_of prep.now.rows.items ++ map row_of (facts_of_symbol source kept.now)) }
+    requires point { HasPoint (map form_of prep.now.rows.items ++ map row_of (facts_of_symbol source kept.now)) }
+    ensures rows { IfOk result (λ u. map form_of u.rows.items
+        ≡ map form_of prep.now.rows.items ++ map row_of (facts_of_symbol source kept.now)) }
+    ensures writable { IfOk result (λ u. All (λ r. IsWritable prep.now.unknowns (form_of r)) u.rows.items) }
+    ensures empty { IfOk result (λ u. (pivots : ℕ)
+        → TellsEmpty pivots prep.now.unknowns (map form_of u.rows.items) u.empty) }
+{
+    let rows = combined_rows(alloc, &prep.rows, source, kept)?;
+    Ok(Under {
+        rows,
+        empty: None,
+        has_point: true,
+    })
 }

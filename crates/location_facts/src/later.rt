@@ -1,6 +1,6 @@
 //! The next list of facts behind one that was found: what a rule said before stands while the facts at its source do.
 
-ghost use Rattle.std.specs.Prelude.{◌≡◌, ◌++◌, ◌≤◌, List, length, map, IfOk};
+ghost use Rattle.std.specs.Prelude.{◌≡◌, ◌⊎◌, ◌++◌, ◌≤◌, ℕ, List, length, map, true, Some, slice_get, IfOk};
 ghost use Rattle.std.specs.List.{All};
 ghost use Rattle.lp_builder.specs.Descriptions.{IsWritable};
 ghost use Rattle.poly_terms.specs.linear_forms.Forms.{Form};
@@ -17,12 +17,13 @@ ghost use Rattle.location_facts.specs.Implied.{proof_in};
 ghost use Rattle.location_facts.specs.Kept.{IsImpliedByAll, IsNext};
 ghost use Rattle.location_facts.specs.Later.{AreLater, AnyLater, HasRows, TellsRule, TellsAgain, IsSameProof};
 ghost use Rattle.location_facts.specs.Later.{StandsOf, proofs_in, elements_in};
+ghost use Rattle.location_facts.specs.Pointed.{HasPoint, TellsPoint, ArePointed};
 ghost use Rattle.location_facts.specs.Rows.{row_before as row_of, row_after as goal_of, facts_at as facts_of_symbol};
 
 use crate::checks::rules_into;
 use crate::elements::{Element, is_refuted};
 use crate::fact::{FactProof, LocFact, LocFacts};
-use crate::implied::{Answered, Under, answer_under, rule_under};
+use crate::implied::{Answered, Under, answer_under, pointed_under, rule_under};
 use crate::rounds::push_shown;
 use guard_prep::RuleRows;
 use its_model::Program;
@@ -48,13 +49,15 @@ pub(crate) enum Told {
 }
 
 /// The next list behind one that was found under an earlier list, with its proofs. Where no fact at a rule's source went
-/// since, its proofs stand; the other rules are asked, but not of facts against which a point or a ray of theirs stands.
+/// since, its proofs stand; the other rules are asked, but not of facts against which a point or a ray of theirs stands,
+/// and those that are marked not whether they have a point, since they have one. One that shows one is marked.
 pub(crate) fn later_facts(
     alloc: Global,
     p: &Program,
     preps: &[RuleRows],
     old: &[LocFact],
     found: &LocFacts,
+    points: &mut Vec<bool>,
     pivots: u32,
 ) -> Result<LocFacts, Memory>
     requires valid { IsValid (program_of p.now) }
@@ -62,11 +65,13 @@ pub(crate) fn later_facts(
     requires ordered { AreInOrder (program_of p.now) found.now.kept.items }
     requires next { IsNext (program_of p.now) pivots old.now found.now.kept.items }
     requires proofs { AreProofsUnder (program_of p.now) old.now found.now.kept.items (proofs_of found.now) }
+    requires points { ArePointed (program_of p.now) old.now points.old.items }
     ensures next { IfOk result (λ f. IsNext (program_of p.now) pivots found.now.kept.items f.kept.items) }
     ensures proofs { IfOk result (λ f.
         AreProofsUnder (program_of p.now) found.now.kept.items f.kept.items (proofs_of f)) }
+    ensures points { IfOk result (λ _. ArePointed (program_of p.now) found.now.kept.items points.new.items) }
 {
-    let unders = later_rules(alloc, p, preps, old, &found.kept, pivots)?;
+    let unders = later_rules(alloc, p, preps, old, &found.kept, points, pivots)?;
     let mut kept = Vec::new(alloc);
     let mut proofs = Vec::new(alloc);
     let mut elements = Vec::new(alloc);
@@ -105,49 +110,95 @@ fn push_told(
     }
 }
 
-// The rules of a program, each under a list where a fact at its source went since an earlier one.
+// The rules of a program, each under a list where a fact at its source went since an earlier one. Those that are marked
+// have a point under the list, and those that show one are marked.
 fn later_rules(
     alloc: Global,
     p: &Program,
     preps: &[RuleRows],
     old: &[LocFact],
     kept: &[LocFact],
+    points: &mut Vec<bool>,
     pivots: u32,
 ) -> Result<Vec<Option<Under>>, Memory>
     requires valid { IsValid (program_of p.now) }
     requires rows { AreRowsOf preps.now (program_of p.now) }
     requires ordered { AreInOrder (program_of p.now) kept.now }
     requires next { IsNext (program_of p.now) pivots old.now kept.now }
-    ensures { IfOk result (λ us. AreLater (program_of p.now) pivots old.now kept.now us.items) }
+    requires points { ArePointed (program_of p.now) kept.now points.old.items }
+    ensures rules { IfOk result (λ us. AreLater (program_of p.now) pivots old.now kept.now us.items) }
+    ensures points { IfOk result (λ _. ArePointed (program_of p.now) kept.now points.new.items) }
 {
     let mut unders = Vec::new(alloc);
     for i in 0..p.rules.len() {
         let prep = &preps[i];
         let rule = &p.rules[i];
-        let under = later_rule(alloc, prep, rule.source, old, kept, pivots)?;
+        let is_pointed = is_marked(points, i);
+        let under = later_rule(alloc, prep, rule.source, old, kept, is_pointed, pivots)?;
+        let has_point = has_point(&under);
+        mark(points, i, has_point);
         unders.push(under)?;
     }
     Ok(unders)
 }
 
-// A rule under a list, where a fact at its source went since an earlier one.
+// Whether a rule has a mark.
+fn is_marked(points: &[bool], i: usize) -> bool
+    ensures { result ≡ true → slice_get points.now i ≡ Some true }
+{
+    if i < points.len() {
+        return points[i];
+    }
+    false
+}
+
+// Marks a rule, if it has a point.
+fn mark(points: &mut Vec<bool>, i: usize, has_point: bool)
+    ensures { (j : ℕ) → slice_get points.new.items j ≡ Some true
+        → (slice_get points.old.items j ≡ Some true) ⊎ ((j ≡ i) × (has_point ≡ true)) }
+{
+    if has_point && i < points.len() {
+        points[i] = true;
+    }
+}
+
+// Whether a rule that is under a list says that it has a point.
+fn has_point(under: &Option<Under>) -> bool
+    ensures { result ≡ true → (rows : List Form) → TellsPoint rows under.now → HasPoint rows }
+{
+    match under {
+        Some(asked) => asked.has_point,
+        None => false,
+    }
+}
+
+// A rule under a list, where a fact at its source went since an earlier one. Where it has a point nothing is asked.
 fn later_rule(
     alloc: Global,
     prep: &RuleRows,
     source: u32,
     old: &[LocFact],
     kept: &[LocFact],
+    is_pointed: bool,
     pivots: u32,
 ) -> Result<Option<Under>, Memory>
     requires prepared { IsPrepared prep.now }
     requires few { length (map form_of prep.now.rows.items ++ map row_of (facts_of_symbol source kept.now)) ≤ 371 }
     requires writable { All (IsWritable prep.now.unknowns)
         (map form_of prep.now.rows.items ++ map row_of (facts_of_symbol source kept.now)) }
-    ensures { IfOk result
+    requires point { is_pointed ≡ true
+        → HasPoint (map form_of prep.now.rows.items ++ map row_of (facts_of_symbol source kept.now)) }
+    ensures told { IfOk result
         (TellsRule pivots prep.now.unknowns (map form_of prep.now.rows.items) source old.now kept.now) }
+    ensures point { IfOk result
+        (TellsPoint (map form_of prep.now.rows.items ++ map row_of (facts_of_symbol source kept.now))) }
 {
     if count_at(old, source) == count_at(kept, source) {
         return Ok(None);
+    }
+    if is_pointed {
+        let under = pointed_under(alloc, prep, source, kept)?;
+        return Ok(Some(under));
     }
     let under = rule_under(alloc, prep, source, kept, pivots)?;
     Ok(Some(under))

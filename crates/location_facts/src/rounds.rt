@@ -43,8 +43,9 @@ pub fn facts(
 {
     let mut kept = all_candidates(alloc, p)?;
     let mut found = next_facts(alloc, p, preps, pivots, &kept)?;
+    let mut points = vec![in alloc; false; p.rules.len()]?;
     while found.kept.len() < kept.len() {
-        let next = later_facts(alloc, p, preps, &kept, &found, pivots)?;
+        let next = later_facts(alloc, p, preps, &kept, &found, &mut points, pivots)?;
         kept = found.kept;
         found = next;
     }

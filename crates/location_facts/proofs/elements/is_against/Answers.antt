@@ -29,8 +29,7 @@ returns c =
     let cast : to_z w128 (of_z w128 c.from.result) ≡ c.args.fact.least = omega (arith, ints) in
     let value = fact-value (map form_of c.args.prep.now.news.items) c.args.fact z d c.value_at-plus.result
     c.value_at-minus.result c.product-least.result plus minus
-    (c.product-least.ensures ∙ ap (λ (x : ℤ). d *ℤ x) cast) in
-    (
+    (c.product-least.ensures ∙ ap (λ (x : ℤ). d *ℤ x) cast) in (
       λ h. (let l = c.is_below.ensures.0 h in omega (arith, ints, value, l)),
       λ h. c.is_below.ensures.1 (omega (arith, ints, value, h)),
     )
