@@ -54,7 +54,7 @@ goal-built k n rows fixed b p e holds built = record {
 }
 
 -- rows that can be written have no coefficient past the unknowns
-rows-fit : (n : ℕ) (rows : List Row) → All (λ r. IsWritable n (form_of r)) rows
+pub rows-fit : (n : ℕ) (rows : List Row) → All (λ r. IsWritable n (form_of r)) rows
     → All (λ f. length f.coefs ≤ n) (map form_of rows)
 rows-fit n rows h = All-map (λ (f : Form). length f.coefs ≤ n) form_of rows (λ k d l. (h k d l).fits)
 

@@ -27,10 +27,11 @@ use Rattle.location_facts.specs.declared.fact.LocFact.{LocFact}
 use Rattle.location_facts.specs.declared.fact.FactProof.{FactProof}
 use Rattle.location_facts.specs.declared.fact.LocFacts.{LocFacts}
 use Rattle.location_facts.specs.declared.fact.FactProof.TheVariants.{Empty, Implied}
+use Rattle.location_facts.specs.declared.implied.Answered.{Answered}
 use Rattle.location_facts.specs.declared.implied.Under.{Under}
 use Rattle.location_facts.specs.Certificates.{IsWithinLimit}
 use Rattle.location_facts.specs.Faults.{proofs_of, rules_into, ShowsFact}
-use Rattle.location_facts.specs.Implied.{TellsEmpty, TellsGoal, HasProofs, AreProofsUnder}
+use Rattle.location_facts.specs.Implied.{TellsEmpty, TellsGoal, IsUnder, HasProofs, AreProofsUnder, proof_in}
 use Rattle.location_facts.specs.Kept.{HasThose, IsImplied, IsImpliedByAll}
 use Rattle.location_facts.specs.Later.{IsSameProof, IsLater, AreLater, HasRows, TellsRule, TellsAgain}
 use Rattle.location_facts.specs.Rows.{row_before, row_after, facts_at, combined}
@@ -41,7 +42,7 @@ use Rattle.location_facts.proofs.UnderRules.{is-under, forms-read}
 
 module _ (Keeps : LocFact → Type 0) (s : ℕ) where
   -- of the facts that meet a condition those of a symbol are those of its facts that do
-  those-at : (facts those : List LocFact) → HasThose Keeps facts those → HasThose Keeps (facts_at s facts) (facts_at s those)
+  pub those-at : (facts those : List LocFact) → HasThose Keeps facts those → HasThose Keeps (facts_at s facts) (facts_at s those)
   those-at [] those h = ap (facts_at s) h
   those-at (g ∷ facts) those (inl (keeps, (rest, e, h))) =
       subst (λ (fs : List LocFact). HasThose Keeps (facts_at s (g ∷ facts)) (facts_at s fs)) (sym e)
@@ -211,6 +212,21 @@ told-again p preps pivots old kept f ps into k t m o earlier x are e l g within 
 
     few : k < length ps
     few = subst (λ (n : ℕ). k < n) (sym has.one_each) low
+
+-- and by its answer
+pub told-answer : (p : plain.Program) (preps : List RuleRows) (pivots : ℕ) (old kept : List LocFact) (f : LocFact)
+    (ps : List FactProof) (into : List ℕ) (k t : ℕ) (m : RuleRows) (o : Option Under) (earlier : FactProof)
+    (a b : Answered) → a ≡ b → AreRowsOf preps p → into ≡ rules_into p f.symbol → k < length into → t ≡ get_or into k t
+    → (1 ≤ t) × (t ≤ length p.rules) → m ≡ get_or preps (t - 1) m → IsLater pivots (forms_at p t) old kept o
+    → IsImpliedByAll p pivots old f → HasProofs p old f ps → earlier ≡ get_or ps k earlier
+    → ((rows : List Form) → TellsAgain pivots m.unknowns rows (row_after (map form_of m.news.items) f) o earlier
+    → TellsGoal pivots m.unknowns rows (row_after (map form_of m.news.items) f) (proof_in a))
+    → TellsGoal pivots (forms_at p t).unknowns (combined (forms_at p t) kept) (row_after (forms_at p t).news f)
+    (proof_in b)
+told-answer p preps pivots old kept f ps into k t m o earlier a b same are e l g within at-m is all has at-k told =
+    subst (λ (y : Answered). TellsGoal pivots (forms_at p t).unknowns (combined (forms_at p t) kept)
+    (row_after (forms_at p t).news f) (proof_in y)) same
+    (told-again p preps pivots old kept f ps into k t m o earlier (proof_in a) are e l g within at-m is all has at-k told)
 
 -- the proofs that are found of a fact are there
 pub proofs-there : (p : plain.Program) (old : List LocFact) (found : LocFacts) (i : ℕ) (f : LocFact)

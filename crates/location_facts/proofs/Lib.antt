@@ -38,6 +38,9 @@ pub mod ProofSteps
 pub mod FirstFaults
 -- rules under a later list
 pub mod LaterRules
+-- points and rays that stand against facts, and points that are kept
+pub mod ElementRules
+pub mod PointRules
 -- values that were worked out by hand
 pub mod WorkedFacts
 pub mod WorkedFaults

@@ -88,40 +88,45 @@ combined-writable p t r m is kept valid there same tried =
         fact-writable (get_or (facts_at r.source kept) k d) m.unknowns (within _ _ s c.plus) (within _ _ s c.minus)
         (c.low, c.high)
 
--- the goal of a fact can be written
-pub goal-writable-after : (m : RuleRows) → IsPrepared m → (f : LocFact) (g : Form)
-    → g ≡ row_after (map form_of m.news.items) f → IsGoalSmall g → IsWritable m.unknowns g
-goal-writable-after m is f g e small = record {
-  fits = subst (λ (h : Form). length h.coefs ≤ m.unknowns) (sym e)
-      (length-sum (value_after (map form_of m.news.items) f.plus).coefs
+module _ (m : RuleRows) (is : IsPrepared m) where
+  widths : All (λ (h : Form). length h.coefs ≤ m.unknowns) (map form_of m.news.items)
+  widths =
+      subst (λ (fs : List Form). All (λ (h : Form). length h.coefs ≤ m.unknowns) fs)
+      (sym (ap (λ (q : Prepared). q.news) is.same))
+      (All-weaker (IsSmallForm (unknowns_of is.rule)) (λ (h : Form). length h.coefs ≤ m.unknowns)
+      (λ h s. let w = s.width in let u = ap (λ (q : Prepared). q.unknowns) is.same in omega (arith, w, u))
+      (news_of is.rule) (All-from_recursion (IsSmallForm (unknowns_of is.rule)) (news_of is.rule)
+      (rows-are-small.news is.rule is.preparable)))
+
+  in-list : (fs : List Form) (i : ℕ) → All (λ (h : Form). length h.coefs ≤ m.unknowns) fs
+      → length (slice_index_or fs i zero_form).coefs ≤ m.unknowns
+  in-list fs i h = go (cases_lt i (length fs))
+    where
+      go : (i < length fs) ⊎ (length fs ≤ i) → length (slice_index_or fs i zero_form).coefs ≤ m.unknowns
+      go (inl l) = h i zero_form l
+      go (inr l) =
+          subst (λ (x : Form). length x.coefs ≤ m.unknowns) (sym (get_or_past fs i zero_form l)) (omega arith)
+
+  new-width : (i : ℕ) → length (value_after (map form_of m.news.items) i).coefs ≤ m.unknowns
+  new-width zero = omega arith
+  new-width (suc i) = in-list (map form_of m.news.items) i widths
+
+  -- the goal of a fact has no coefficient past the unknowns
+  pub goal-fits-after : (f : LocFact) → length (row_after (map form_of m.news.items) f).coefs ≤ m.unknowns
+  goal-fits-after f =
+      length-sum (value_after (map form_of m.news.items) f.plus).coefs
       (opposite (value_after (map form_of m.news.items) f.minus)).coefs m.unknowns (new-width f.plus)
-      (opposite-width (value_after (map form_of m.news.items) f.minus) m.unknowns (new-width f.minus)));
-  coefs = All-weaker (λ (a : ℤ). nat_abs a ≤ 2 ^ 65) (λ (a : ℤ). unsigned_abs a < 2 ^ 127)
-      (λ a l. narrow (nat_abs a) l) g.coefs small.coefs;
-  constant = narrow (nat_abs g.constant) small.constant;
-}
-  where
-    narrow : (k : ℕ) → k ≤ 2 ^ 65 → k < 2 ^ 127
-    narrow k l = omega (arith, l)
+      (opposite-width (value_after (map form_of m.news.items) f.minus) m.unknowns (new-width f.minus))
 
-    widths : All (λ (h : Form). length h.coefs ≤ m.unknowns) (map form_of m.news.items)
-    widths =
-        subst (λ (fs : List Form). All (λ (h : Form). length h.coefs ≤ m.unknowns) fs)
-        (sym (ap (λ (q : Prepared). q.news) is.same))
-        (All-weaker (IsSmallForm (unknowns_of is.rule)) (λ (h : Form). length h.coefs ≤ m.unknowns)
-        (λ h s. let w = s.width in let u = ap (λ (q : Prepared). q.unknowns) is.same in omega (arith, w, u))
-        (news_of is.rule) (All-from_recursion (IsSmallForm (unknowns_of is.rule)) (news_of is.rule)
-        (rows-are-small.news is.rule is.preparable)))
-
-    in-list : (fs : List Form) (i : ℕ) → All (λ (h : Form). length h.coefs ≤ m.unknowns) fs
-        → length (slice_index_or fs i zero_form).coefs ≤ m.unknowns
-    in-list fs i h = go (cases_lt i (length fs))
-      where
-        go : (i < length fs) ⊎ (length fs ≤ i) → length (slice_index_or fs i zero_form).coefs ≤ m.unknowns
-        go (inl l) = h i zero_form l
-        go (inr l) =
-            subst (λ (x : Form). length x.coefs ≤ m.unknowns) (sym (get_or_past fs i zero_form l)) (omega arith)
-
-    new-width : (i : ℕ) → length (value_after (map form_of m.news.items) i).coefs ≤ m.unknowns
-    new-width zero = omega arith
-    new-width (suc i) = in-list (map form_of m.news.items) i widths
+  -- it can be written
+  pub goal-writable-after : (f : LocFact) (g : Form) → g ≡ row_after (map form_of m.news.items) f → IsGoalSmall g
+      → IsWritable m.unknowns g
+  goal-writable-after f g e small = record {
+    fits = subst (λ (h : Form). length h.coefs ≤ m.unknowns) (sym e) (goal-fits-after f);
+    coefs = All-weaker (λ (a : ℤ). nat_abs a ≤ 2 ^ 65) (λ (a : ℤ). unsigned_abs a < 2 ^ 127)
+        (λ a l. narrow (nat_abs a) l) g.coefs small.coefs;
+    constant = narrow (nat_abs g.constant) small.constant;
+  }
+    where
+      narrow : (k : ℕ) → k ≤ 2 ^ 65 → k < 2 ^ 127
+      narrow k l = omega (arith, l)

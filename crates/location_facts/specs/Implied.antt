@@ -13,11 +13,14 @@ use Rattle.lp_builder.specs.Descriptions.{IsWritable}
 use Rattle.rule_questions.specs.ProgramQuestions.{forms_in, forms_at}
 use Rattle.location_facts.specs.declared.fact.LocFact.{LocFact}
 use Rattle.location_facts.specs.declared.fact.FactProof.{FactProof}
+use Rattle.location_facts.specs.declared.implied.Answered.{Answered}
+use Rattle.location_facts.specs.declared.implied.Answered.TheVariants.{Shown, Against, Missed}
 use Rattle.location_facts.specs.declared.implied.Under.{Under}
 use Rattle.location_facts.specs.Candidates.{IsCandidate, order_number}
 use Rattle.location_facts.specs.Certificates.{IsWithinLimit, Shows}
 use Rattle.location_facts.specs.Faults.{rules_into, StandsAt, ProofsShow}
 use Rattle.location_facts.specs.Kept.{goal_program, IsSolvedWithin, IsImplied, IsImpliedByAll}
+use Rattle.location_facts.specs.Replies.{IsAgainst}
 use Rattle.location_facts.specs.Rows.{combined}
 
 -- multipliers within the limit show that rows have no point, and the linear program that asks for them is solved; or it
@@ -40,6 +43,18 @@ abbrev pub TellsGoal : ℕ → ℕ → List Form → Form → Option FactProof �
 TellsGoal pivots unknowns rows goal None = ¬ IsGoalImplied pivots unknowns rows goal
 TellsGoal pivots unknowns rows goal (Some proof) =
     IsGoalImplied pivots unknowns rows goal × IsWithinLimit proof × Shows rows goal proof
+
+-- the proof of an answer, where it has one
+abbrev pub proof_in : Answered → Option FactProof
+proof_in (Shown proof) = Some proof
+proof_in (Against z) = None
+proof_in Missed = None
+
+-- the point or ray of an answer, where it has one, stands against the goal
+abbrev pub StandsIn : ℕ → List Form → Form → Answered → Type 0
+StandsIn unknowns rows goal (Shown proof) = ⊤
+StandsIn unknowns rows goal (Against z) = IsAgainst unknowns rows goal z.parts.items z.den
+StandsIn unknowns rows goal Missed = ⊤
 
 -- a rule under a list of facts: its combined rows, which can be written, and whether they have no point
 pub record IsUnder (pivots : ℕ) (r : RuleForms) (kept : List LocFact) (u : Under) : Type 0 where

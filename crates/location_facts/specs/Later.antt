@@ -1,5 +1,6 @@
 -- Rules under a later list of facts: what one said under the list before stands where no fact at its source went.
-use Rattle.std.specs.Prelude.{◌≡◌, ⊤, ℕ, ◌≤◌, List, ◌++◌, length, map, Option, Some, None, slice_get}
+use Rattle.std.specs.Prelude.{◌≡◌, ⊤, ℕ, ◌≤◌, List, ◌++◌, length, map, Vec, Option, Some, None, slice_get, [], ◌∷◌}
+use Rattle.std.specs.declared.alloc.Global.{Global}
 use Rattle.std.specs.List.{All}
 use Rattle.poly_terms.specs.linear_forms.Forms.{Form}
 use Rattle.poly_terms.specs.linear_forms.RuleQuestions.{RuleForms}
@@ -10,8 +11,13 @@ use Rattle.rule_questions.specs.ProgramQuestions.{forms_in}
 use Rattle.location_facts.specs.declared.fact.LocFact.{LocFact}
 use Rattle.location_facts.specs.declared.fact.FactProof.{FactProof}
 use Rattle.location_facts.specs.declared.fact.FactProof.TheVariants.{Empty, Implied}
+use Rattle.location_facts.specs.declared.elements.Element.{Element}
+use Rattle.location_facts.specs.declared.implied.Answered.{Answered}
+use Rattle.location_facts.specs.declared.implied.Answered.TheVariants as answers
 use Rattle.location_facts.specs.declared.implied.Under.{Under}
-use Rattle.location_facts.specs.Implied.{TellsEmpty, TellsGoal, IsUnder}
+use Rattle.location_facts.specs.declared.later.Told.{Told}
+use Rattle.location_facts.specs.declared.later.Told.TheVariants.{Shown, Against, Missed}
+use Rattle.location_facts.specs.Implied.{TellsEmpty, TellsGoal, IsUnder, StandsIn}
 use Rattle.location_facts.specs.Rows.{row_before, facts_at}
 
 -- a proof has the numbers of another one
@@ -58,3 +64,26 @@ abbrev pub TellsAgain : ℕ → ℕ → List Form → Form → Option Under → 
 TellsAgain pivots unknowns rows goal None earlier = TellsGoal pivots unknowns rows goal (Some earlier)
 TellsAgain pivots unknowns rows goal (Some u) earlier =
     (map form_of u.rows.items ≡ rows) × TellsEmpty pivots unknowns (map form_of u.rows.items) u.empty
+
+-- an answer has no element
+abbrev pub HasNoElement : Answered → Type 0
+HasNoElement (answers.Shown proof) = ⊤
+HasNoElement (answers.Against z) = ⊥
+HasNoElement answers.Missed = ⊤
+
+-- the element of an answer, where it has one, stands against the goal over the rows of the rule, which was asked
+abbrev pub StandsOf : ℕ → Form → Option Under → Answered → Type 0
+StandsOf unknowns goal None a = HasNoElement a
+StandsOf unknowns goal (Some u) a = StandsIn unknowns (map form_of u.rows.items) goal a
+
+-- the proofs that are told, where there are some
+abbrev pub proofs_in : Told → Option (Vec FactProof Global)
+proofs_in (Shown proofs) = Some proofs
+proofs_in (Against e) = None
+proofs_in Missed = None
+
+-- the element that is told, where there is one
+abbrev pub elements_in : Told → List Element
+elements_in (Shown proofs) = []
+elements_in (Against e) = e ∷ []
+elements_in Missed = []

@@ -15,4 +15,6 @@ pub mod WorkedKept
 pub mod CombinedRows
 pub mod Replies
 pub mod Implied
+pub mod Elements
 pub mod Later
+pub mod Pointed

@@ -1,94 +1,115 @@
 //! Which facts rules imply under a list of facts.
 
-ghost use Rattle.std.specs.Prelude.{◌≡◌, ◌++◌, ◌≤◌, ◌<◌, ◌+◌, ◌^◌, map, length, IfOk};
+ghost use Rattle.std.specs.Prelude.{◌≡◌, ◌++◌, ◌≤◌, ◌<◌, ◌+◌, ◌^◌, ℕ, true, map, length, IfOk};
 ghost use Rattle.std.specs.List.{All};
 ghost use Rattle.lp_builder.specs.Descriptions.{IsWritable};
 ghost use Rattle.poly_terms.specs.Views.{form_of};
 ghost use Rattle.rule_questions.specs.EmptyAnswers.{IsPrepared};
-ghost use Rattle.location_facts.specs.Implied.{TellsEmpty, TellsGoal};
+ghost use Rattle.location_facts.specs.Pointed.{HasPoint};
+ghost use Rattle.location_facts.specs.Implied.{TellsEmpty, TellsGoal, proof_in, StandsIn};
 ghost use Rattle.location_facts.specs.Rows.{row_before as row_of, row_after as goal_of, facts_at as facts_of_symbol};
 
 use crate::asking::{Reply, ask};
 use crate::fact::{FactProof, LocFact};
 use crate::rows::{combined_rows, row_after};
+use farkas_cert::Scaled;
 use guard_prep::RuleRows;
 use poly_terms::{Memory, Row};
 use rule_questions::constant_row;
 use std::alloc::Global;
 
 /// A rule under a list of facts: its combined rows, and multipliers that show that they have no point, where the linear
-/// program that asks for them is solved.
+/// program that asks for them is solved. Where they are known to have one it says so.
 #[derive(Debug, Drop)]
 pub(crate) struct Under {
     pub rows: Vec<Row>,
     pub empty: Option<Vec<u64>>,
+    pub has_point: bool,
 }
 
-// Multipliers that show that rows have no point, where the linear program that asks for them is solved.
+/// What is answered of whether a rule implies a fact.
+#[derive(Debug, Drop)]
+pub(crate) enum Answered {
+    /// It does, as the proof shows.
+    Shown(FactProof),
+    /// It doesn't: at this point or ray of its rows the fact is below 0 afterwards.
+    Against(Scaled),
+    /// It doesn't.
+    Missed,
+}
+
+// Multipliers that show that rows have no point, where the linear program that asks for them is solved, and whether a
+// point of them was found.
 fn emptiness(
     alloc: Global,
     unknowns: u32,
     rows: &[Row],
     pivots: u32,
-) -> Result<Option<Vec<u64>>, Memory>
+) -> Result<(Option<Vec<u64>>, bool), Memory>
     requires few_unknowns { unknowns + 1 < 2 ^ 31 }
     requires few_rows { length rows.now + 1 < 2 ^ 31 }
     requires rows { All (λ r. IsWritable unknowns (form_of r)) rows.now }
-    ensures { IfOk result (TellsEmpty pivots unknowns (map form_of rows.now)) }
+    ensures empty { IfOk result (λ e. TellsEmpty pivots unknowns (map form_of rows.now) e.0) }
+    ensures point { IfOk result (λ e. e.1 ≡ true → HasPoint (map form_of rows.now)) }
 {
     let goal = constant_row(alloc, -1);
     match ask(alloc, unknowns, rows, &goal, pivots)? {
-        Reply::Follows(multipliers, _) => Ok(Some(multipliers)),
-        Reply::Fails(_) => Ok(None),
-        Reply::Tripped => Ok(None),
+        Reply::Follows(multipliers, _) => Ok((Some(multipliers), false)),
+        Reply::Fails(_) => Ok((None, true)),
+        Reply::Tripped => Ok((None, false)),
     }
 }
 
-// A proof that a goal follows from rows, where it is implied and emptiness says no.
-fn goal_proof(
+// Whether a goal follows from rows, where emptiness says no.
+fn goal_answer(
     alloc: Global,
     unknowns: u32,
     rows: &[Row],
     goal: &Row,
     pivots: u32,
-) -> Result<Option<FactProof>, Memory>
+) -> Result<Answered, Memory>
     requires few_unknowns { unknowns + 1 < 2 ^ 31 }
     requires few_rows { length rows.now + 1 < 2 ^ 31 }
     requires rows { All (λ r. IsWritable unknowns (form_of r)) rows.now }
     requires goal { IsWritable unknowns (form_of goal.now) }
-    ensures { IfOk result (λ proof. TellsEmpty pivots unknowns (map form_of rows.now) None
-        → TellsGoal pivots unknowns (map form_of rows.now) (form_of goal.now) proof) }
+    ensures told { IfOk result (λ a. TellsEmpty pivots unknowns (map form_of rows.now) None
+        → TellsGoal pivots unknowns (map form_of rows.now) (form_of goal.now) (proof_in a)) }
+    ensures stands { IfOk result (StandsIn unknowns (map form_of rows.now) (form_of goal.now)) }
 {
     match ask(alloc, unknowns, rows, goal, pivots)? {
-        Reply::Follows(multipliers, times) => Ok(Some(FactProof::Implied(multipliers, times))),
-        Reply::Fails(_) => Ok(None),
-        Reply::Tripped => Ok(None),
+        Reply::Follows(multipliers, times) => {
+            Ok(Answered::Shown(FactProof::Implied(multipliers, times)))
+        }
+        Reply::Fails(at) => Ok(Answered::Against(at)),
+        Reply::Tripped => Ok(Answered::Missed),
     }
 }
 
-/// A proof that a rule implies a fact, where it does.
-pub(crate) fn proof_under(
+/// Whether a rule implies a fact.
+pub(crate) fn answer_under(
     alloc: Global,
     prep: &RuleRows,
     under: &Under,
     fact: LocFact,
     pivots: u32,
-) -> Result<Option<FactProof>, Memory>
+) -> Result<Answered, Memory>
     requires prepared { IsPrepared prep.now }
     requires few { length under.now.rows.items ≤ 371 }
     requires rows { All (λ r. IsWritable prep.now.unknowns (form_of r)) under.now.rows.items }
-    ensures { IfOk result (λ proof. TellsEmpty pivots prep.now.unknowns (map form_of under.now.rows.items)
+    ensures told { IfOk result (λ a. TellsEmpty pivots prep.now.unknowns (map form_of under.now.rows.items)
         under.now.empty → TellsGoal pivots prep.now.unknowns (map form_of under.now.rows.items)
-        (goal_of (map form_of prep.now.news.items) fact) proof) }
+        (goal_of (map form_of prep.now.news.items) fact) (proof_in a)) }
+    ensures stands { IfOk result (StandsIn prep.now.unknowns (map form_of under.now.rows.items)
+        (goal_of (map form_of prep.now.news.items) fact)) }
 {
     match &under.empty {
         Some(multipliers) => {
             let copies = multipliers.as_slice().to_vec(alloc)?;
-            Ok(Some(FactProof::Empty(copies)))
+            Ok(Answered::Shown(FactProof::Empty(copies)))
         }
         None => {
             let goal = row_after(alloc, &prep.news, fact)?;
-            goal_proof(alloc, prep.unknowns, &under.rows, &goal, pivots)
+            goal_answer(alloc, prep.unknowns, &under.rows, &goal, pivots)
         }
     }
 }
@@ -109,8 +130,38 @@ pub(crate) fn rule_under(
         ≡ map form_of prep.now.rows.items ++ map row_of (facts_of_symbol source kept.now)) }
     ensures writable { IfOk result (λ u. All (λ r. IsWritable prep.now.unknowns (form_of r)) u.rows.items) }
     ensures empty { IfOk result (λ u. TellsEmpty pivots prep.now.unknowns (map form_of u.rows.items) u.empty) }
+    ensures point { IfOk result (λ u. u.has_point ≡ true → HasPoint (map form_of u.rows.items)) }
 {
     let rows = combined_rows(alloc, &prep.rows, source, kept)?;
-    let empty = emptiness(alloc, prep.unknowns, &rows, pivots)?;
-    Ok(Under { rows, empty })
+    let (empty, has_point) = emptiness(alloc, prep.unknowns, &rows, pivots)?;
+    Ok(Under {
+        rows,
+        empty,
+        has_point,
+    })
+}
+
+/// A rule under a list of facts where its combined rows have a point. Nothing is asked.
+pub(crate) fn pointed_under(
+    alloc: Global,
+    prep: &RuleRows,
+    source: u32,
+    kept: &[LocFact],
+) -> Result<Under, Memory>
+    requires few { length (map form_of prep.now.rows.items ++ map row_of (facts_of_symbol source kept.now)) ≤ 371 }
+    requires writable { All (IsWritable prep.now.unknowns)
+        (map form_of prep.now.rows.items ++ map row_of (facts_of_symbol source kept.now)) }
+    requires point { HasPoint (map form_of prep.now.rows.items ++ map row_of (facts_of_symbol source kept.now)) }
+    ensures rows { IfOk result (λ u. map form_of u.rows.items
+        ≡ map form_of prep.now.rows.items ++ map row_of (facts_of_symbol source kept.now)) }
+    ensures writable { IfOk result (λ u. All (λ r. IsWritable prep.now.unknowns (form_of r)) u.rows.items) }
+    ensures empty { IfOk result (λ u. (pivots : ℕ)
+        → TellsEmpty pivots prep.now.unknowns (map form_of u.rows.items) u.empty) }
+{
+    let rows = combined_rows(alloc, &prep.rows, source, kept)?;
+    Ok(Under {
+        rows,
+        empty: None,
+        has_point: true,
+    })
 }

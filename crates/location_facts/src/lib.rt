@@ -9,6 +9,7 @@ mod asking;
 mod candidates;
 mod checks;
 mod copies;
+mod elements;
 mod fact;
 mod faults;
 mod implied;

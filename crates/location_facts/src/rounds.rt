@@ -12,7 +12,7 @@ ghost use Rattle.location_facts.specs.Kept.{IsNext, AreKept};
 use crate::candidates::all_candidates;
 use crate::checks::rules_into;
 use crate::fact::{FactProof, LocFact, LocFacts};
-use crate::implied::{Under, proof_under, rule_under};
+use crate::implied::{Answered, Under, answer_under, rule_under};
 use crate::later::later_facts;
 use guard_prep::RuleRows;
 use its_model::Program;
@@ -43,8 +43,9 @@ pub fn facts(
 {
     let mut kept = all_candidates(alloc, p)?;
     let mut found = next_facts(alloc, p, preps, pivots, &kept)?;
+    let mut points = vec![in alloc; false; p.rules.len()]?;
     while found.kept.len() < kept.len() {
-        let next = later_facts(alloc, p, preps, &kept, &found, pivots)?;
+        let next = later_facts(alloc, p, preps, &kept, &found, &mut points, pivots)?;
         kept = found.kept;
         found = next;
     }
@@ -141,11 +142,12 @@ fn proofs_under(
         let rule = into[k];
         let prep = &preps[rule as usize - 1];
         let under = &rules[rule as usize - 1];
-        match proof_under(alloc, prep, under, fact, pivots)? {
-            Some(proof) => {
+        match answer_under(alloc, prep, under, fact, pivots)? {
+            Answered::Shown(proof) => {
                 proofs.push(proof)?;
             }
-            None => return Ok(None),
+            Answered::Against(_) => return Ok(None),
+            Answered::Missed => return Ok(None),
         }
     }
     Ok(Some(proofs))

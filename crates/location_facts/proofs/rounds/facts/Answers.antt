@@ -6,6 +6,7 @@ use Rattle.location_facts.specs.Implied.{AreProofsUnder}
 use Rattle.location_facts.specs.Kept.{IsImpliedByAll, IsNext, EndsWith, GoesOn}
 use Rattle.location_facts.proofs.KeptLists.{those-most}
 use Rattle.location_facts.proofs.NextFacts.{first-ordered, ends-here, proved-here}
+use Rattle.location_facts.proofs.PointRules.{pointed-none}
 use Rattle.location_facts.proofs.RoundSteps.{those-ascend}
 use Rattle.location_facts.proofs.rounds.facts.Goals as goal
 
@@ -21,6 +22,8 @@ loop-alloc-init c = record {
       c.deref.ensures.value c.in_ok-found.ensures.next;
   proofs = subst (λ (fs : List LocFact). AreProofsUnder (program_of c.args.p.now) fs c.in_ok-found.found.kept.items
       (proofs_of c.in_ok-found.found)) c.deref.ensures.value c.in_ok-found.ensures.proofs;
+  points = pointed-none (program_of c.args.p.now) c.in_ok-kept.kept.items _ c.in_ok-points.points.items
+      (c.in_ok-points.ensures.items_if_clones_equal (λ y h. h));
 }
 
 pub later_facts-requires-clause-ordered : goal.later_facts-requires-clause-ordered
@@ -37,6 +40,7 @@ loop-alloc-preserved c = record {
   ends = λ end h. c.loop-alloc.invariant.ends end (GoesOn c.loop-alloc.invariant.next h);
   next = c.in_ok-next.ensures.next;
   proofs = c.in_ok-next.ensures.proofs;
+  points = c.in_ok-next.ensures.points;
 }
 
 pub returns-clause-kept : goal.returns-clause-kept

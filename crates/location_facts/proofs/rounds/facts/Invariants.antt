@@ -4,10 +4,11 @@ use Rattle.location_facts.specs.declared.fact.LocFact.{LocFact}
 use Rattle.location_facts.specs.Faults.{proofs_of}
 use Rattle.location_facts.specs.Implied.{AreInOrder, AreProofsUnder}
 use Rattle.location_facts.specs.Kept.{IsNext, EndsWith, AreKept}
+use Rattle.location_facts.specs.Pointed.{ArePointed}
 use Rattle.location_facts.proofs.rounds.facts.Given as goal
 
 -- the list is in order, and the end of the sequence that goes on from it is what is kept; the next list behind it is
--- found
+-- found, and rules with a mark have a point
 abbrev pub invariant-loop-alloc : goal.invariant-loop-alloc
 invariant-loop-alloc l = record {
   ordered : AreInOrder (program_of l.p) l.kept.items;
@@ -15,6 +16,7 @@ invariant-loop-alloc l = record {
       → AreKept (program_of l.p) l.pivots end;
   next : IsNext (program_of l.p) l.pivots l.kept.items l.found.kept.items;
   proofs : AreProofsUnder (program_of l.p) l.kept.items l.found.kept.items (proofs_of l.found);
+  points : ArePointed (program_of l.p) l.kept.items l.points.items;
 }
 
 abbrev pub decreases-loop-alloc : goal.decreases-loop-alloc
