@@ -9,8 +9,8 @@ ghost use Rattle.proof_check.specs.PlainChecks.{empty_checks};
 ghost use Rattle.proof_facts.specs.NodeAnswers.{Refuses};
 ghost use Rattle.proof_tree.specs.proof_nodes.AcceptsPlain.{HasEmptyShape};
 
-use gap_checks::is_rule;
 use farkas_cert::empty;
+use gap_checks::is_rule;
 use proof_facts::{Ground, NodeFault, are_multipliers, prep, zero_time};
 use proof_tree::{EmptyNode, Fact, Reason};
 use std::alloc::Global;

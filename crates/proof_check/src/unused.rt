@@ -13,8 +13,8 @@ ghost use Rattle.proof_check.specs.Singles.{IsNoSingle};
 ghost use Rattle.proof_tree.specs.Views.{fact_of, facts_of};
 ghost use Rattle.proof_tree.specs.proof_nodes.AcceptsPlain.{IsOneTime, never_facts as never_facts_of, places_at};
 
-use gap_checks::arity_at;
 use bound_expr::Bound;
+use gap_checks::arity_at;
 use its_model::Program;
 use proof_facts::{NodeFault, zero_sizes};
 use proof_tree::{Fact, Reason, target_of};

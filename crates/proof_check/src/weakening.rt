@@ -11,11 +11,11 @@ ghost use Rattle.proof_tree.specs.Views.{fact_of, facts_of};
 ghost use Rattle.proof_tree.specs.proof_nodes.AcceptsPlain.{weakened};
 ghost use Rattle.proof_tree.specs.proof_setting.Setting.{setting_of};
 
-use gap_checks::arity_at;
 use crate::unused::only;
 use crate::writable::is_writable;
 use bound_expr::Bound;
 use bound_table::below;
+use gap_checks::arity_at;
 use its_model::Program;
 use proof_facts::{NodeFault, bound_at, one};
 use proof_tree::{Fact, Reason};

@@ -8,9 +8,9 @@ ghost use Rattle.gap_checks.specs.GapTests.{IsFirstFailing};
 ghost use Rattle.proof_tree.specs.Views.{member_of, spot_of};
 ghost use Rattle.proof_tree.specs.proof_nodes.AcceptsSizes.{AcceptsLow, AcceptsUp, HasMemberShape, IsSpot};
 
-use gap_checks::{arity_at, is_rule};
 use crate::arm_numbers::has_arm_numbers;
 use crate::arms::{Side, accepts_arm};
+use gap_checks::{arity_at, is_rule};
 use its_model::Program;
 use model::Memory;
 use proof_facts::{Ground, prep};
