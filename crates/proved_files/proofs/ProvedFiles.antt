@@ -71,8 +71,8 @@ module _ (p : Program) (pivots : ℕ) (o : Outcome) (valid : IsValid p) (h : IsO
       (gaps-within p o.gaps.items h.lemmas.gaps_hold
       (all-numbered (HasItsPlaces p) o.gaps.items
       (λ j more most.
-          named-places p pivots valid h.lemmas.finds o.gaps.items 1 0 (length o.gaps.items) o.times.items h.lemmas.gaps
-          h.lemmas.times j more most)))
+      named-places p pivots valid h.lemmas.finds o.gaps.items 1 0 (length o.gaps.items) o.times.items h.lemmas.gaps
+      h.lemmas.times j more most)))
 
   -- which are few
   few-gaps : length (map gap_of o.gaps.items) ≤ 1000
