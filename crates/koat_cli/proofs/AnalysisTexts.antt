@@ -30,7 +30,7 @@ use Rattle.time_bounds.specs.bound_rounds.Answers.{Target, TimeOf, SizesOf, Lack
 use Rattle.time_bounds.specs.bound_rounds.Finds.{Find, bounds_of}
 use Rattle.time_bounds.specs.bound_rounds.Keys.{Bounds}
 use Rattle.time_bounds.specs.bound_rounds.Rounds.{IsAskedFor, IsNoBound}
-use Rattle.time_bounds.specs.bound_rounds.Searches as searches
+use Rattle.time_bounds.specs.bound_rounds.Searches.{OfTime}
 use Rattle.time_bounds.specs.bound_rounds.Searches.{Ranking, Ranked, Unranked, RankTripped}
 use Rattle.time_bounds.specs.bound_rounds.Sets.{AreShutOf}
 use Rattle.report_text.specs.bound_text.Texts.{FitsTypes}
@@ -40,7 +40,6 @@ use Rattle.report_text.specs.Printable.{IsPrintableSize, IsPrintableTotal, IsPri
 use Rattle.report_text.proofs.OneReport.{one_report}
 use Rattle.time_bounds.specs.ProgramRules.{ranking_of}
 use Rattle.time_bounds.specs.ProgramSearches.{searches_of_program}
-use Rattle.time_bounds.specs.Reasons.{time_reason}
 use Rattle.time_bounds.specs.Totals.{total_of}
 use Rattle.time_bounds.specs.Analysis.{AreTimesOf, AreSizesOf, AreSizeRowsOf, IsAnalysis, bound_in}
 use Rattle.time_bounds.specs.PrintableLaws.{IsPrintableBound, ArePrintableBounds, ArePrintable}
@@ -146,40 +145,40 @@ module _ (p : Program) (pivots : ℕ) (valid : IsValid p) (fs : List Find)
   -- the gap that an answer to the question of a set gives as the reason
   answer_fits : (t : ℕ) (g : Gap) (set : List ℕ) (shut : List SymbolPlace) → AreShutOf p (bounds_of p fs) set shut
       → HasShortNumbers g → (answer : Ranking) → (searches_of_program p pivots).Ranks set t shut answer
-      → TellsRanking (setting_of p) (bounds_of p fs) answer (Lacks (searches.NoFunction g))
+      → TellsRanking (setting_of p) (bounds_of p fs) answer (Lacks (OfTime (NoFunction g)))
       → IsPrintableGap (length p.symbols) g
   answer_fits t g set shut are short (Ranked node) answered tells = absurd (apart _ tells.1)
     where
-      apart : (m : ℕ) → searches.NoFunction g ≡ searches.TooLarge m → ⊥
+      apart : (m : ℕ) → OfTime (NoFunction g) ≡ OfTime (TimeLarge m) → ⊥
       apart m x = cc
   answer_fits t g set shut are short (Unranked f) answered tells =
       gap_fits p pivots (bounds_of p fs) t set shut answered.0 g valid are
       (subst (IsReadOff (ranked_set p set t shut) shut pivots answered.0) (sym (same tells))
       (gap_read (ranked_set p set t shut) shut pivots answered.0 f answered.2.0 answered.2.1 answered.2.2)) short
     where
-      same : Lacks (searches.NoFunction g) ≡ Lacks (searches.NoFunction f) → g ≡ f
+      same : Lacks (OfTime (NoFunction g)) ≡ Lacks (OfTime (NoFunction f)) → g ≡ f
       same x = cc
   answer_fits t g set shut are short (RankTripped x) answered tells = absurd (apart tells)
     where
-      apart : Lacks (searches.NoFunction g) ≡ Lacks (searches.Tripped x) → ⊥
+      apart : Lacks (OfTime (NoFunction g)) ≡ Lacks (OfTime (TimeTripped x)) → ⊥
       apart y = cc
 
   -- what the answer about a rule tells
   told_fits : (t : ℕ) (g : Gap) → HasShortNumbers g
-      → TellsTime (searches_of_program p pivots) (setting_of p) (bounds_of p fs) t (Lacks (searches.NoFunction g))
+      → TellsTime (searches_of_program p pivots) (setting_of p) (bounds_of p fs) t (Lacks (OfTime (NoFunction g)))
       → IsPrintableGap (length p.symbols) g
   told_fits t g short h =
       answer_fits t g h.asked.set h.asked.shut h.asked.are_shut short h.asked.answer h.asked.answered h.tells
 
   -- why a time is missing
-  no_time_fits : (t : ℕ) (why : NoTime) → IsNoBound (searches_of_program p pivots) (setting_of p) fs t 0 (time_reason why)
+  no_time_fits : (t : ℕ) (why : NoTime) → IsNoBound (searches_of_program p pivots) (setting_of p) fs t 0 (OfTime why)
       → ReasonFits why → IsPrintableNoTime (length p.symbols) why
   no_time_fits t (TimeTripped x) h fits = fits
   no_time_fits t (TimeLarge m) h fits = fits
   no_time_fits t (NoFunction g) h fits = by h.target h.asked h.tells
     where
       by : (x : Target) → IsAskedFor (searches_of_program p pivots) (setting_of p) t 0 x
-          → Tells (searches_of_program p pivots) (setting_of p) (bounds_of p fs) x (Lacks (searches.NoFunction g))
+          → Tells (searches_of_program p pivots) (setting_of p) (bounds_of p fs) x (Lacks (OfTime (NoFunction g)))
           → IsPrintableGap (length p.symbols) g
       by (TimeOf u) asked tells = told_fits u g fits tells
       by (SizesOf keys) asked tells = absurd asked

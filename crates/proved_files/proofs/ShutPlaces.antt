@@ -20,8 +20,8 @@ use Rattle.proof_text.specs.Spelled.{IsPlaceOf}
 use Rattle.bound_rounds.specs.Answers.{Target, TimeOf, SizesOf, Answer, Lacks, Tells, TellsTime, TellsRanking}
 use Rattle.bound_rounds.specs.Finds.{Find, bounds_of}
 use Rattle.bound_rounds.specs.Rounds.{IsAskedFor, IsNoBound}
-use Rattle.bound_rounds.specs.Searches.{Searches, Ranking, Ranked, Unranked, RankTripped, NoBound, NoFunction, Tripped}
-use Rattle.bound_rounds.specs.Searches.{TooLarge}
+use Rattle.bound_rounds.specs.Searches.{Searches, Ranking, Ranked, Unranked, RankTripped, OfTime}
+use Rattle.outcome.specs.Reports.{NoFunction, TimeTripped, TimeLarge}
 use Rattle.bound_rounds.specs.Sets.{IsShut}
 use Rattle.bound_rounds.specs.Right.{AreRight, IsGapOf}
 use Rattle.bound_rounds.proofs.AcceptedRanks.{is_question}
@@ -36,10 +36,10 @@ abbrev pub HasItsPlaces : Program → Gap → Type 0
 HasItsPlaces p g = All (IsPlaceOf p) g.shut
 
 -- reasons that are the same name the same gap, and no others
-same-gap : (g h : Gap) → ◌≡◌ {A = Answer} (Lacks (NoFunction g)) (Lacks (NoFunction h)) → g ≡ h
+same-gap : (g h : Gap) → ◌≡◌ {A = Answer} (Lacks (OfTime (NoFunction g))) (Lacks (OfTime (NoFunction h))) → g ≡ h
 same-gap g h e = cc
 
-not-large : (g : Gap) (n : ℕ) → NoFunction g ≡ TooLarge n → ⊥
+not-large : (g : Gap) (n : ℕ) → OfTime (NoFunction g) ≡ OfTime (TimeLarge n) → ⊥
 not-large g n e = cc
 
 -- of two numbers in order the second is the first, or it is greater
@@ -66,14 +66,14 @@ module _ (p : Program) (pivots : ℕ) (valid : IsValid p) where
 
   -- so are those of the gap for which a rule has no time
   places-of : (fs : List Find) (t : ℕ) (g : Gap)
-      → IsNoBound (searches_of_program p pivots) (setting_of p) fs t 0 (NoFunction g) → HasItsPlaces p g
+      → IsNoBound (searches_of_program p pivots) (setting_of p) fs t 0 (OfTime (NoFunction g)) → HasItsPlaces p g
   places-of fs t g h = by-target h.target h.asked h.tells
     where
-      by-answer : (u : ℕ) → IsRule p u → (a : TellsTime (searches_of_program p pivots) (setting_of p) (bounds_of p fs) u (Lacks (NoFunction g)))
+      by-answer : (u : ℕ) → IsRule p u → (a : TellsTime (searches_of_program p pivots) (setting_of p) (bounds_of p fs) u (Lacks (OfTime (NoFunction g))))
           → (r : Ranking) → (searches_of_program p pivots).Ranks a.asked.set u a.asked.shut r
-          → TellsRanking (setting_of p) (bounds_of p fs) r (Lacks (NoFunction g)) → HasItsPlaces p g
+          → TellsRanking (setting_of p) (bounds_of p fs) r (Lacks (OfTime (NoFunction g))) → HasItsPlaces p g
       by-answer u rule a (Ranked node) answered tells = absurd (not-large g _ tells.1)
-      by-answer u rule a (RankTripped x) answered tells = absurd (let e : ◌≡◌ {A = Answer} (Lacks (NoFunction g)) (Lacks (Tripped x)) = tells in let no_way : ⊥ = cc in no_way)
+      by-answer u rule a (RankTripped x) answered tells = absurd (let e : ◌≡◌ {A = Answer} (Lacks (OfTime (NoFunction g))) (Lacks (OfTime (TimeTripped x))) = tells in let no_way : ⊥ = cc in no_way)
       by-answer u rule a (Unranked k) answered tells =
           let right = (program_searches_right.each p pivots valid).rank a.asked.set u a.asked.shut (Unranked k)
           (is_question (setting_of p) (bounds_of p fs) (Constant 1, refl) u a.asked.set rule a.asked.is_set) answered in
@@ -85,7 +85,7 @@ module _ (p : Program) (pivots : ℕ) (valid : IsValid p) where
           subst (HasItsPlaces p) (sym (same-gap g k tells)) shut
 
       by-target : (target : Target) → IsAskedFor (searches_of_program p pivots) (setting_of p) t 0 target
-          → Tells (searches_of_program p pivots) (setting_of p) (bounds_of p fs) target (Lacks (NoFunction g))
+          → Tells (searches_of_program p pivots) (setting_of p) (bounds_of p fs) target (Lacks (OfTime (NoFunction g)))
           → HasItsPlaces p g
       by-target (TimeOf u) asked tells =
           by-answer u (subst (IsRule p) (sym asked.1) asked.0) tells tells.asked.answer tells.asked.answered tells.tells
