@@ -1,6 +1,6 @@
 //! Reading the bound that pieces spell.
 
-ghost use Rattle.std.specs.Prelude.{◌≡◌, ◌+◌, ℕ, List, Some, length, IfOk, IsTrue};
+ghost use Rattle.std.specs.Prelude.{◌≡◌, ◌+◌, ℕ, List, Some, IfOk, IsTrue};
 ghost use Rattle.std.specs.Option.{option_map};
 ghost use Rattle.bound_text.specs.Pieces as plain;
 ghost use Rattle.bound_text.specs.Printing.{piece_of};

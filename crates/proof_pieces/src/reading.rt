@@ -1,14 +1,11 @@
 //! What is carried of a bound while its pieces are read.
 
 ghost use Rattle.std.specs.Prelude.{◌≡◌, IfOk, Option, None, if◌then◌else◌, ◌||◌, true};
-ghost use Rattle.bound_text.specs.Depths.{FindsDeep};
 ghost use Rattle.bound_text.specs.Fronts.{Front};
 ghost use Rattle.bound_text.specs.Printing.{piece_of};
 ghost use Rattle.bound_text.specs.Steps.{beginning};
-ghost use Rattle.proof_pieces.specs.Bounds.{bound_levels};
 ghost use Rattle.proof_pieces.specs.BoundSteps.{pieces_in};
 ghost use Rattle.proof_pieces.specs.Carried.{Carries, IsSettledTree, StepsOn, has_reader};
-ghost use Rattle.proof_pieces.specs.Shadows.{Shadows};
 
 use crate::bound_reading::{Stepped, step};
 use crate::follower::Follower;
