@@ -138,10 +138,13 @@ module _ {p : Program} {ss : List Symbol} {Q : State → Type 0} {R : Type 0} (s
           made_back 40 ((item.Piece 44 ∷ item.Made 40 ∷ []) ∷ [] ∷ []) refl more (
             (λ y. absurd (read_back 44 y (λ r behind is none' cut more'.
                 ended_so p (depth_behind depth q) 0 rest r behind last is cut))),
-            ((λ y. k (x ∷ []) w.0 (depth_behind depth q) rest w.1
-                (λ kept. spells kept.0
-                ∙ ap (λ (bs : List ℕ). bs ++ rest) (sym (append-nil (spelled p.start_names (piece_of q)))))
-                (turned_to (ap (λ (b : Bound). st c (record l { bound = b }) d) w.2) y)), tt),
+            (
+              (λ y. k (x ∷ []) w.0 (depth_behind depth q) rest w.1
+                  (λ kept. spells kept.0
+                  ∙ ap (λ (bs : List ℕ). bs ++ rest) (sym (append-nil (spelled p.start_names (piece_of q)))))
+                  (turned_to (ap (λ (b : Bound). st c (record l { bound = b }) d) w.2) y)),
+              tt,
+            ),
           )
       go q len false rest last spells none more ih =
           let x : Inner = record { piece = q; len = len } in
@@ -151,8 +154,11 @@ module _ {p : Program} {ss : List Symbol} {Q : State → Type 0} {R : Type 0} (s
                 (sym (ap (bound_answer (length p.start_names)) (append_assoc xs (x ∷ []) ys)) ∙ stands)
                 (λ kept. spells kept.0 ∙ ap (λ (bs : List ℕ). spelled p.start_names (piece_of q) ++ bs) (spells' kept.1)
                 ∙ sym (append_assoc (spelled p.start_names (piece_of q)) (bytes_of p.start_names (pieces_in ys)) rest')) z)),
-            ((λ y. absurd (goes_so p ends (held c l d (xs ++ x ∷ [])) (depth_behind depth q) (pieces_behind before false) rest
-                last y)), tt),
+            (
+              (λ y. absurd (goes_so p ends (held c l d (xs ++ x ∷ [])) (depth_behind depth q) (pieces_behind before false) rest
+                  last y)),
+              tt,
+            ),
           )
 
   -- a bound is within the limits, and the bytes are its text

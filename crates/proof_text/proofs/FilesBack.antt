@@ -149,12 +149,15 @@ module _ {p : Program} (sure : Sure p) {Q : State → Type 0} {R : Type 0} (pric
             ∙ sym (flatten (Then (Bytes (codes "gap ")) (Then (Bytes (gap_text p g)) (Then (Bytes (codes "\n"))
             (Bytes (gap_lines p gs))))) (codes "end\n")))
             (subst (λ (hs : List Gap). Q (st (line priced paid lemmas hs) n e)) (append_assoc gaps (g ∷ []) gs) q))))))),
-        ((λ x. word_back word.End (λ e. cc) (λ c cs. refl) x (λ s r1 none e1 y. sign_back sign.LineFeed y (λ r2 e2 z.
-            let n = no_more z in
-            k [] (record l { symbol = s }) d tt (omega (arith, count))
-            (when_none (priced && not paid) kind.Syntax none) (on (codes "end") e1 (on (codes "\n") e2 n.0))
-            (subst (λ (hs : List Gap). Q (st (line priced paid lemmas hs) (record l { symbol = s }) d))
-            (sym (append-nil gaps)) n.1)))), tt),
+        (
+          (λ x. word_back word.End (λ e. cc) (λ c cs. refl) x (λ s r1 none e1 y. sign_back sign.LineFeed y (λ r2 e2 z.
+              let n = no_more z in
+              k [] (record l { symbol = s }) d tt (omega (arith, count))
+              (when_none (priced && not paid) kind.Syntax none) (on (codes "end") e1 (on (codes "\n") e2 n.0))
+              (subst (λ (hs : List Gap). Q (st (line priced paid lemmas hs) (record l { symbol = s }) d))
+              (sym (append-nil gaps)) n.1)))),
+          tt,
+        ),
       )
 
   -- the lemmas that are left, the gaps and the last line
@@ -183,9 +186,11 @@ module _ {p : Program} (sure : Sure p) {Q : State → Type 0} {R : Type 0} (pric
             (turned_to (ap (λ (w : Proof). st (line priced (paid || has_cost v) (lemmas ++ w ∷ []) [])
             (record m { node = Start }) g) is) (mark_back 2 (mode_to (feed_mode j) u)))
             (λ vs gs n e all most dear gaps_all some settled e5 q.
-            k (v ∷ vs) gs n e
-            (within, subst (λ (n : ℕ). AreLemmasWithin p n vs)
-            (let e : length (lemmas ++ v ∷ []) ≡ suc (length lemmas) = omega (arith, more) in e) all)
+            k (v ∷ vs) gs n e (
+              within,
+              subst (λ (n : ℕ). AreLemmasWithin p n vs)
+                  (let e : length (lemmas ++ v ∷ []) ≡ suc (length lemmas) = omega (arith, more) in e) all,
+            )
             (omega (arith, more, most)) (either (has_cost v) (some_has_cost vs) costs dear) gaps_all some
             (ap (λ (w : Bool). priced && not w) (sym (or_assoc paid (has_cost v) (some_has_cost vs))) ∙ settled)
             (on (codes "lemma ") (on (codes "lemma") e1 e2) (on (node_text p v) e3 (on (codes "\n") e4 e5))
@@ -195,12 +200,15 @@ module _ {p : Program} (sure : Sure p) {Q : State → Type 0} {R : Type 0} (pric
             (or_assoc paid (has_cost v) (some_has_cost vs))
             (subst (λ (ws : List Proof). Q (st (line priced ((paid || has_cost v) || some_has_cost vs) ws gs) n e))
             (append_assoc lemmas (v ∷ []) vs) q)))))))),
-        ((λ x. gaps_back (suc (length whole)) (omega arith) paid lemmas [] l d (omega arith) x
-            (λ gs m g all most settled e q.
-            k [] gs m g tt (omega (arith, count)) (λ c. cc) all (omega (arith, most))
-            (ap (λ (w : Bool). priced && not w) (sym (or_false paid)) ∙ settled) e
-            (subst (λ (w : Bool). Q (st (line priced w (lemmas ++ []) gs) m g)) (or_false paid)
-            (subst (λ (ws : List Proof). Q (st (line priced paid ws gs) m g)) (sym (append-nil lemmas)) q)))), tt),
+        (
+          (λ x. gaps_back (suc (length whole)) (omega arith) paid lemmas [] l d (omega arith) x
+              (λ gs m g all most settled e q.
+              k [] gs m g tt (omega (arith, count)) (λ c. cc) all (omega (arith, most))
+              (ap (λ (w : Bool). priced && not w) (sym (or_false paid)) ∙ settled) e
+              (subst (λ (w : Bool). Q (st (line priced w (lemmas ++ []) gs) m g)) (or_false paid)
+              (subst (λ (ws : List Proof). Q (st (line priced paid ws gs) m g)) (sym (append-nil lemmas)) q)))),
+          tt,
+        ),
       )
     where
       either : (a b : Bool) → (a ≡ true → priced ≡ true) → (b ≡ true → priced ≡ true) → (a || b) ≡ true → priced ≡ true
@@ -279,9 +287,12 @@ whole_back p sure bytes f a =
             (λ z. version_back 1 (omega arith) one_only z (λ r2 e2 w. sign_back sign.LineFeed (mark_back 0 w) (λ r3 e3 u.
                 lines false (record nothing_read { number = 1 }) r3 (on (codes "koat-proof") e0 (on (codes " ") e1
                 (on (codes "1") e2 e3))) u))),
-            ((λ z. version_back 2 (omega arith) two_only z (λ r2 e2 w. sign_back sign.LineFeed (mark_back 1 w) (λ r3 e3 u.
-                lines true (record nothing_read { number = 2 }) r3 (on (codes "koat-proof") e0 (on (codes " ") e1
-                (on (codes "2") e2 e3))) u))), tt),
+            (
+              (λ z. version_back 2 (omega arith) two_only z (λ r2 e2 w. sign_back sign.LineFeed (mark_back 1 w) (λ r3 e3 u.
+                  lines true (record nothing_read { number = 2 }) r3 (on (codes "koat-proof") e0 (on (codes " ") e1
+                  (on (codes "2") e2 e3))) u))),
+              tt,
+            ),
           )))),
       tt,
     )
@@ -379,10 +390,11 @@ tokens_cut p (suc f) m at (b ∷ bytes) few =
         (tokens_in (lexer_of p) ((lexer_of p).mode_behind m l.piece) (at + 1) (l.len - 1) bytes))) found
         ∙ ap (λ (k : ℕ). q ∷ pieces (tokens_in (lexer_of p) (mode_with m q) (at + 1) k bytes)) less_one
         ∙ ap (λ (ts : List (Token Piece)). q ∷ pieces ts) s.1 in
-        subst (λ (qs : List Piece). Cuts p m qs (b ∷ bytes)) (sym same)
-        (drop n bytes,
-        record { first = b; others = bytes; some = n; begins = refl; cut = found; behind = refl },
-        ih (mode_with m q) s.0 (drop n bytes) (omega (arith, few, few')))
+        subst (λ (qs : List Piece). Cuts p m qs (b ∷ bytes)) (sym same) (
+          drop n bytes,
+          record { first = b; others = bytes; some = n; begins = refl; cut = found; behind = refl },
+          ih (mode_with m q) s.0 (drop n bytes) (omega (arith, few, few')),
+        )
 
 -- where nothing stands against what is read, nothing stood
 unbroken : (p : Program) (es : List (Event Piece)) (s : State) → Passes (proof_fold p) (at s) es

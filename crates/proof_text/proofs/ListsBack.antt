@@ -139,9 +139,13 @@ module _ {p : Program} {ss : List Symbol} {s : State} {whole : List ℕ} {Q : St
   number_back a k =
       made_back 8 ((item.Piece 28 ∷ []) ∷ (item.Piece 29 ∷ []) ∷ (item.Piece 30 ∷ []) ∷ (item.Piece 31 ∷ []) ∷ []) refl a (
         (λ y. class_back 0 y (λ n rest none is e z. k n rest none e z)),
-        ((λ y. class_back 1 y (λ n rest none is e z. k n rest none e z)),
-        ((λ y. class_back 2 y (λ n rest none is e z. k n rest none e z)),
-        ((λ y. class_back 3 y (λ n rest none is e z. k n rest none e z)), tt))),
+        (
+          (λ y. class_back 1 y (λ n rest none is e z. k n rest none e z)),
+          (
+            (λ y. class_back 2 y (λ n rest none is e z. k n rest none e z)),
+            ((λ y. class_back 3 y (λ n rest none is e z. k n rest none e z)), tt),
+          ),
+        ),
       )
 
   pub positive_back : Along p (item.Made 20 ∷ ss) s (mode_in x) whole Q
@@ -150,8 +154,10 @@ module _ {p : Program} {ss : List Symbol} {s : State} {whole : List ℕ} {Q : St
   positive_back a k =
       made_back 20 ((item.Piece 29 ∷ []) ∷ (item.Piece 30 ∷ []) ∷ (item.Piece 31 ∷ []) ∷ []) refl a (
         (λ y. class_back 1 y (λ n rest none is e z. k n rest (some_number n (omega (arith, is))) none e z)),
-        ((λ y. class_back 2 y (λ n rest none is e z. k n rest (some_number n (omega (arith, is))) none e z)),
-        ((λ y. class_back 3 y (λ n rest none is e z. k n rest (some_number n (omega (arith, is))) none e z)), tt)),
+        (
+          (λ y. class_back 2 y (λ n rest none is e z. k n rest (some_number n (omega (arith, is))) none e z)),
+          ((λ y. class_back 3 y (λ n rest none is e z. k n rest (some_number n (omega (arith, is))) none e z)), tt),
+        ),
       )
 
 -- the number of a rule that there is, and one that isn't too large, is small
@@ -167,98 +173,101 @@ pub number_small : (b : Base) (n : ℕ) → when (nat_lt (limit_of b) n) kind.Nu
 number_small b n h = let m = limit_most b in let k = none_small (limit_of b) n h in omega (arith, m, k)
 
 module _ {p : Program} {ss : List Symbol} {whole : List ℕ} {Q : State → Type 0} {R : Type 0} (b : Base) (l : Last) (d : Draft)
-    where
-  -- the number of a rule
-  pub rule_back : Sure p → Along p (item.Made 9 ∷ ss) (st b l d) mode.Plain whole Q
-      → ((r : ℕ) (rest : List ℕ) → IsRule p r → whole ≡ decimal r ++ rest
-      → Along p ss (st b (record l { number = r }) (record d { rule = r })) mode.Plain rest Q → R) → R
-  rule_back sure a k =
-      made_back 9 ((item.Mark 19 ∷ item.Made 8 ∷ item.Mark 20 ∷ []) ∷ []) refl a (
-        (λ x. number_back Bare (λ n h. rule_small p b n h) (mark_back 19 x) (λ r rest none e y.
-            let f = or_none (when (nat_lt (limit_of b) r) kind.NumberTooLarge)
-            (when (not (is_some (rule_at p r))) kind.BadReference) none in
-            let is = rule_there p r f.1 in
-            let low = rule_low p r sure is in
-            k r rest is e
-            (turned_to (ap (λ (n : ℕ). st b (record l { number = r }) (record d { rule = n })) (same_32 r (omega (arith, low))))
-            (mark_back 20 y)))),
-        tt,
-      )
+  where
+    -- the number of a rule
+    pub rule_back : Sure p → Along p (item.Made 9 ∷ ss) (st b l d) mode.Plain whole Q
+        → ((r : ℕ) (rest : List ℕ) → IsRule p r → whole ≡ decimal r ++ rest
+        → Along p ss (st b (record l { number = r }) (record d { rule = r })) mode.Plain rest Q → R) → R
+    rule_back sure a k =
+        made_back 9 ((item.Mark 19 ∷ item.Made 8 ∷ item.Mark 20 ∷ []) ∷ []) refl a (
+          (λ x. number_back Bare (λ n h. rule_small p b n h) (mark_back 19 x) (λ r rest none e y.
+              let f = or_none (when (nat_lt (limit_of b) r) kind.NumberTooLarge)
+              (when (not (is_some (rule_at p r))) kind.BadReference) none in
+              let is = rule_there p r f.1 in
+              let low = rule_low p r sure is in
+              k r rest is e
+              (turned_to (ap (λ (n : ℕ). st b (record l { number = r }) (record d { rule = n })) (same_32 r (omega (arith, low))))
+              (mark_back 20 y)))),
+          tt,
+        )
 
-  -- one of a set
-  pub set_rule_back : Sure p → Along p (item.Made 13 ∷ ss) (st b l d) mode.Plain whole Q
-      → ((r : ℕ) (rest : List ℕ) → IsRule p r → whole ≡ decimal r ++ rest
-      → Along p ss (st b (record l { number = r }) (record d { set = d.set ++ r ∷ [] })) mode.Plain rest Q → R) → R
-  set_rule_back sure a k =
-      made_back 13 ((item.Mark 19 ∷ item.Made 8 ∷ item.Mark 21 ∷ []) ∷ []) refl a (
-        (λ x. number_back Bare (λ n h. rule_small p b n h) (mark_back 19 x) (λ r rest none e y.
-            let f = or_none (when (nat_lt (limit_of b) r) kind.NumberTooLarge)
-            (when (not (is_some (rule_at p r))) kind.BadReference) none in
-            let is = rule_there p r f.1 in
-            let low = rule_low p r sure is in
-            k r rest is e
-            (turned_to (ap (λ (n : ℕ). st b (record l { number = r }) (record d { set = d.set ++ n ∷ [] }))
-            (same_32 r (omega (arith, low)))) (mark_back 21 y)))),
-        tt,
-      )
+    -- one of a set
+    pub set_rule_back : Sure p → Along p (item.Made 13 ∷ ss) (st b l d) mode.Plain whole Q
+        → ((r : ℕ) (rest : List ℕ) → IsRule p r → whole ≡ decimal r ++ rest
+        → Along p ss (st b (record l { number = r }) (record d { set = d.set ++ r ∷ [] })) mode.Plain rest Q → R) → R
+    set_rule_back sure a k =
+        made_back 13 ((item.Mark 19 ∷ item.Made 8 ∷ item.Mark 21 ∷ []) ∷ []) refl a (
+          (λ x. number_back Bare (λ n h. rule_small p b n h) (mark_back 19 x) (λ r rest none e y.
+              let f = or_none (when (nat_lt (limit_of b) r) kind.NumberTooLarge)
+              (when (not (is_some (rule_at p r))) kind.BadReference) none in
+              let is = rule_there p r f.1 in
+              let low = rule_low p r sure is in
+              k r rest is e
+              (turned_to (ap (λ (n : ℕ). st b (record l { number = r }) (record d { set = d.set ++ n ∷ [] }))
+              (same_32 r (omega (arith, low)))) (mark_back 21 y)))),
+          tt,
+        )
 
-  -- a denominator
-  pub plain_back : Along p (item.Made 10 ∷ ss) (st b l d) mode.Plain whole Q
-      → ((n : ℕ) (rest : List ℕ) → n ≤ limit_of b → whole ≡ decimal n ++ rest
-      → Along p ss (st b (record l { number = n }) (record d { den = n })) mode.Plain rest Q → R) → R
-  plain_back a k =
-      made_back 10 ((item.Mark 22 ∷ item.Made 8 ∷ item.Mark 23 ∷ []) ∷ []) refl a (
-        (λ x. number_back Bare (λ n h. number_small b n h) (mark_back 22 x) (λ n rest none e y.
-            let small = none_small (limit_of b) n none in
-            k n rest small e
-            (turned_to (ap (λ (m : ℕ). st b (record l { number = n }) (record d { den = m })) (same_64 b n small))
-            (mark_back 23 y)))),
-        tt,
-      )
+    -- a denominator
+    pub plain_back : Along p (item.Made 10 ∷ ss) (st b l d) mode.Plain whole Q
+        → ((n : ℕ) (rest : List ℕ) → n ≤ limit_of b → whole ≡ decimal n ++ rest
+        → Along p ss (st b (record l { number = n }) (record d { den = n })) mode.Plain rest Q → R) → R
+    plain_back a k =
+        made_back 10 ((item.Mark 22 ∷ item.Made 8 ∷ item.Mark 23 ∷ []) ∷ []) refl a (
+          (λ x. number_back Bare (λ n h. number_small b n h) (mark_back 22 x) (λ n rest none e y.
+              let small = none_small (limit_of b) n none in
+              k n rest small e
+              (turned_to (ap (λ (m : ℕ). st b (record l { number = n }) (record d { den = m })) (same_64 b n small))
+              (mark_back 23 y)))),
+          tt,
+        )
 
-  -- a multiplier of a list
-  pub list_number_back : Along p (item.Made 17 ∷ ss) (st b l d) mode.Plain whole Q
-      → ((n : ℕ) (rest : List ℕ) → n ≤ limit_of b → whole ≡ decimal n ++ rest
-      → Along p ss (st b (record l { number = n }) (record d { numbers = d.numbers ++ n ∷ [] })) mode.Plain rest Q → R) → R
-  list_number_back a k =
-      made_back 17 ((item.Mark 22 ∷ item.Made 8 ∷ item.Mark 25 ∷ []) ∷ []) refl a (
-        (λ x. number_back Bare (λ n h. number_small b n h) (mark_back 22 x) (λ n rest none e y.
-            let small = none_small (limit_of b) n none in
-            k n rest small e
-            (turned_to (ap (λ (m : ℕ). st b (record l { number = n }) (record d { numbers = d.numbers ++ m ∷ [] }))
-            (same_64 b n small)) (mark_back 25 y)))),
-        tt,
-      )
+    -- a multiplier of a list
+    pub list_number_back : Along p (item.Made 17 ∷ ss) (st b l d) mode.Plain whole Q
+        → ((n : ℕ) (rest : List ℕ) → n ≤ limit_of b → whole ≡ decimal n ++ rest
+        → Along p ss (st b (record l { number = n }) (record d { numbers = d.numbers ++ n ∷ [] })) mode.Plain rest Q → R) → R
+    list_number_back a k =
+        made_back 17 ((item.Mark 22 ∷ item.Made 8 ∷ item.Mark 25 ∷ []) ∷ []) refl a (
+          (λ x. number_back Bare (λ n h. number_small b n h) (mark_back 22 x) (λ n rest none e y.
+              let small = none_small (limit_of b) n none in
+              k n rest small e
+              (turned_to (ap (λ (m : ℕ). st b (record l { number = n }) (record d { numbers = d.numbers ++ m ∷ [] }))
+              (same_64 b n small)) (mark_back 25 y)))),
+          tt,
+        )
 
-  -- a number that may have a sign
-  pub integer_back : (x : Within) → Along p (item.Made 19 ∷ ss) (st b l d) (mode_in x) whole Q
-      → ((z : ℤ) (n : ℕ) (v : Bool) (rest : List ℕ) → nat_abs z ≤ limit_of b → whole ≡ signed_decimal z ++ rest
-      → Along p ss (st b (now l n v) (record d { integers = d.integers ++ z ∷ [] })) (mode_in x) rest Q → R) → R
-  integer_back x a k =
-      made_back 19 ((item.Mark 26 ∷ item.Made 8 ∷ item.Mark 27 ∷ []) ∷
-      (item.Mark 26 ∷ item.Piece 42 ∷ item.Made 20 ∷ item.Mark 27 ∷ []) ∷ []) refl a (
-        (λ y. number_back x (λ n h. number_small b n h) (mark_back 26 y) (λ n rest none e z.
-            let small = none_small (limit_of b) n none in
-            k (pos n) n false rest small e
-            (turned_to (ap (λ (j : ℕ). st b (record l { number = n; negative = false })
-            (record d { integers = d.integers ++ pos j ∷ [] })) (same_63 b n small)) (mark_back 27 z)))),
-        ((λ y. sign_back sign.Minus (mark_back 26 y) (λ r1 e1 z.
-            positive_back x (λ n h. number_small b n h) (mode_to (minus_mode x) z) (λ n rest some none e w.
-            signed n some rest (none_small (limit_of b) n none) (on (codes "-") e1 e) (mark_back 27 w)))), tt),
-      )
-    where
-      minus_mode : (x : Within) → mode_with (mode_in x) (ASign sign.Minus) ≡ mode_in x
-      minus_mode Bare = refl
-      minus_mode Shut = refl
+    -- a number that may have a sign
+    pub integer_back : (x : Within) → Along p (item.Made 19 ∷ ss) (st b l d) (mode_in x) whole Q
+        → ((z : ℤ) (n : ℕ) (v : Bool) (rest : List ℕ) → nat_abs z ≤ limit_of b → whole ≡ signed_decimal z ++ rest
+        → Along p ss (st b (now l n v) (record d { integers = d.integers ++ z ∷ [] })) (mode_in x) rest Q → R) → R
+    integer_back x a k =
+        made_back 19 ((item.Mark 26 ∷ item.Made 8 ∷ item.Mark 27 ∷ []) ∷
+        (item.Mark 26 ∷ item.Piece 42 ∷ item.Made 20 ∷ item.Mark 27 ∷ []) ∷ []) refl a (
+          (λ y. number_back x (λ n h. number_small b n h) (mark_back 26 y) (λ n rest none e z.
+              let small = none_small (limit_of b) n none in
+              k (pos n) n false rest small e
+              (turned_to (ap (λ (j : ℕ). st b (record l { number = n; negative = false })
+              (record d { integers = d.integers ++ pos j ∷ [] })) (same_63 b n small)) (mark_back 27 z)))),
+          (
+            (λ y. sign_back sign.Minus (mark_back 26 y) (λ r1 e1 z.
+                positive_back x (λ n h. number_small b n h) (mode_to (minus_mode x) z) (λ n rest some none e w.
+                signed n some rest (none_small (limit_of b) n none) (on (codes "-") e1 e) (mark_back 27 w)))),
+            tt,
+          ),
+        )
+      where
+        minus_mode : (x : Within) → mode_with (mode_in x) (ASign sign.Minus) ≡ mode_in x
+        minus_mode Bare = refl
+        minus_mode Shut = refl
 
-      signed : (n : ℕ) → 1 ≤ n → (rest : List ℕ) → n ≤ limit_of b → whole ≡ 45 ∷ (decimal n ++ rest)
-          → Along p ss (st b (record l { number = n; negative = true })
-          (record d { integers = d.integers ++ neg_ℤ (pos (min n (2 ^ 63 - 1))) ∷ [] })) (mode_in x) rest Q → R
-      signed zero some rest small e y = absurd (omega (arith, some))
-      signed (suc n) some rest small e y =
-          k (negsuc n) (suc n) true rest small e
-          (turned_to (ap (λ (j : ℕ). st b (record l { number = suc n; negative = true })
-          (record d { integers = d.integers ++ neg_ℤ (pos j) ∷ [] })) (same_63 b (suc n) small)) y)
+        signed : (n : ℕ) → 1 ≤ n → (rest : List ℕ) → n ≤ limit_of b → whole ≡ 45 ∷ (decimal n ++ rest)
+            → Along p ss (st b (record l { number = n; negative = true })
+            (record d { integers = d.integers ++ neg_ℤ (pos (min n (2 ^ 63 - 1))) ∷ [] })) (mode_in x) rest Q → R
+        signed zero some rest small e y = absurd (omega (arith, some))
+        signed (suc n) some rest small e y =
+            k (negsuc n) (suc n) true rest small e
+            (turned_to (ap (λ (j : ℕ). st b (record l { number = suc n; negative = true })
+            (record d { integers = d.integers ++ neg_ℤ (pos j) ∷ [] })) (same_63 b (suc n) small)) y)
 
 module _ {p : Program} {ss : List Symbol} {Q : State → Type 0} {R : Type 0} (sure : Sure p) (b : Base) where
   -- further rules of a set
@@ -272,12 +281,15 @@ module _ {p : Program} {ss : List Symbol} {Q : State → Type 0} {R : Type 0} (s
       made_back 14 ((item.Piece 35 ∷ []) ∷ (item.Piece 32 ∷ item.Made 13 ∷ item.Made 14 ∷ []) ∷ []) refl a (
         (λ x. sign_back sign.CloseSquare x (λ rest e y. k [] l rest tt e
             (turned_to (ap (λ (rs : List ℕ). st b l (record d { set = rs })) (sym (append-nil d.set))) y))),
-        ((λ x. sign_back sign.Blank x (λ r1 e1 y. set_rule_back b l d sure y (λ r r2 is e2 z.
-            let one = less 32 e1 in let two = shorter (decimal r) r2 e2 in
-            more_rules_back f (omega (arith, few, one, two)) (record l { number = r }) (record d { set = d.set ++ r ∷ [] }) z
-            (λ rs m rest all e w. k (r ∷ rs) m rest (is, all)
-            (on (codes " ") e1 (on (decimal r) e2 e) ∙ sym (word_then (decimal r) (map decimal rs) (93 ∷ rest)))
-            (turned_to (ap (λ (ns : List ℕ). st b m (record d { set = ns })) (append_assoc d.set (r ∷ []) rs)) w))))), tt),
+        (
+          (λ x. sign_back sign.Blank x (λ r1 e1 y. set_rule_back b l d sure y (λ r r2 is e2 z.
+              let one = less 32 e1 in let two = shorter (decimal r) r2 e2 in
+              more_rules_back f (omega (arith, few, one, two)) (record l { number = r }) (record d { set = d.set ++ r ∷ [] }) z
+              (λ rs m rest all e w. k (r ∷ rs) m rest (is, all)
+              (on (codes " ") e1 (on (decimal r) e2 e) ∙ sym (word_then (decimal r) (map decimal rs) (93 ∷ rest)))
+              (turned_to (ap (λ (ns : List ℕ). st b m (record d { set = ns })) (append_assoc d.set (r ∷ []) rs)) w))))),
+          tt,
+        ),
       )
 
   -- a set of rules
@@ -290,13 +302,15 @@ module _ {p : Program} {ss : List Symbol} {Q : State → Type 0} {R : Type 0} (s
             made_back 12 ((item.Piece 35 ∷ []) ∷ (item.Made 13 ∷ item.Made 14 ∷ []) ∷ []) refl y (
               (λ z. sign_back sign.CloseSquare z (λ rest e w. k [] l rest tt (on (codes "[") e1 e)
                   (turned_to (ap (λ (rs : List ℕ). st b l (record d { set = rs })) (sym (append-nil d.set))) w))),
-              ((λ z. set_rule_back b l d sure z (λ r r2 is e2 w.
-                  more_rules_back (suc (length r2)) (omega arith) (record l { number = r })
-                  (record d { set = d.set ++ r ∷ [] }) w
-                  (λ rs m rest all e v. k (r ∷ rs) m rest (is, all)
-                  (on (codes "[") e1 (on (decimal r) e2 e ∙ sym (words_then (decimal r) (map decimal rs) rest)))
-                  (turned_to (ap (λ (ns : List ℕ). st b m (record d { set = ns })) (append_assoc d.set (r ∷ []) rs)) v)))),
-              tt),
+              (
+                (λ z. set_rule_back b l d sure z (λ r r2 is e2 w.
+                    more_rules_back (suc (length r2)) (omega arith) (record l { number = r })
+                    (record d { set = d.set ++ r ∷ [] }) w
+                    (λ rs m rest all e v. k (r ∷ rs) m rest (is, all)
+                    (on (codes "[") e1 (on (decimal r) e2 e ∙ sym (words_then (decimal r) (map decimal rs) rest)))
+                    (turned_to (ap (λ (ns : List ℕ). st b m (record d { set = ns })) (append_assoc d.set (r ∷ []) rs)) v)))),
+                tt,
+              ),
             ))),
         tt,
       )
@@ -313,14 +327,16 @@ module _ {p : Program} {ss : List Symbol} {Q : State → Type 0} {R : Type 0} (b
       made_back 18 ((item.Piece 35 ∷ []) ∷ (item.Piece 32 ∷ item.Made 17 ∷ item.Made 18 ∷ []) ∷ []) refl a (
         (λ x. sign_back sign.CloseSquare x (λ rest e y. k [] l rest tt e
             (turned_to (ap (λ (ns : List ℕ). st b l (record d { numbers = ns })) (sym (append-nil d.numbers))) y))),
-        ((λ x. sign_back sign.Blank x (λ r1 e1 y. list_number_back b l d y (λ n r2 is e2 z.
-            let one = less 32 e1 in let two = shorter (decimal n) r2 e2 in
-            more_numbers_back f (omega (arith, few, one, two)) (record l { number = n })
-            (record d { numbers = d.numbers ++ n ∷ [] }) z
-            (λ ns m rest all e w. k (n ∷ ns) m rest (is, all)
-            (on (codes " ") e1 (on (decimal n) e2 e) ∙ sym (word_then (decimal n) (map decimal ns) (93 ∷ rest)))
-            (turned_to (ap (λ (ks : List ℕ). st b m (record d { numbers = ks })) (append_assoc d.numbers (n ∷ []) ns)) w))))),
-        tt),
+        (
+          (λ x. sign_back sign.Blank x (λ r1 e1 y. list_number_back b l d y (λ n r2 is e2 z.
+              let one = less 32 e1 in let two = shorter (decimal n) r2 e2 in
+              more_numbers_back f (omega (arith, few, one, two)) (record l { number = n })
+              (record d { numbers = d.numbers ++ n ∷ [] }) z
+              (λ ns m rest all e w. k (n ∷ ns) m rest (is, all)
+              (on (codes " ") e1 (on (decimal n) e2 e) ∙ sym (word_then (decimal n) (map decimal ns) (93 ∷ rest)))
+              (turned_to (ap (λ (ks : List ℕ). st b m (record d { numbers = ks })) (append_assoc d.numbers (n ∷ []) ns)) w))))),
+          tt,
+        ),
       )
 
   -- a list of multipliers
@@ -332,12 +348,14 @@ module _ {p : Program} {ss : List Symbol} {Q : State → Type 0} {R : Type 0} (b
         (λ x. sign_back sign.OpenSquare x (λ r1 e1 y.
             made_back 16 ((item.Piece 35 ∷ []) ∷ (item.Made 17 ∷ item.Made 18 ∷ []) ∷ []) refl (mark_back 24 y) (
               (λ z. sign_back sign.CloseSquare z (λ rest e w. k [] l rest tt (on (codes "[") e1 e) w)),
-              ((λ z. list_number_back b l (record d { numbers = []; integers = [] }) z (λ n r2 is e2 w.
-                  more_numbers_back (suc (length r2)) (omega arith) (record l { number = n })
-                  (record d { numbers = n ∷ []; integers = [] }) w
-                  (λ ns m rest all e v. k (n ∷ ns) m rest (is, all)
-                  (on (codes "[") e1 (on (decimal n) e2 e ∙ sym (words_then (decimal n) (map decimal ns) rest))) v))),
-              tt),
+              (
+                (λ z. list_number_back b l (record d { numbers = []; integers = [] }) z (λ n r2 is e2 w.
+                    more_numbers_back (suc (length r2)) (omega arith) (record l { number = n })
+                    (record d { numbers = n ∷ []; integers = [] }) w
+                    (λ ns m rest all e v. k (n ∷ ns) m rest (is, all)
+                    (on (codes "[") e1 (on (decimal n) e2 e ∙ sym (words_then (decimal n) (map decimal ns) rest))) v))),
+                tt,
+              ),
             ))),
         tt,
       )
@@ -354,15 +372,18 @@ module _ {p : Program} {ss : List Symbol} {Q : State → Type 0} {R : Type 0} (b
       made_back 22 ((item.Piece 35 ∷ []) ∷ (item.Piece 32 ∷ item.Made 19 ∷ item.Made 22 ∷ []) ∷ []) refl y (
         (λ w. sign_back sign.CloseSquare w (λ rest e u. k [] z n v rest tt small (on (signed_decimal z) e1 e)
             (mode_to (close_mode x) u))),
-        ((λ w. sign_back sign.Blank w (λ r2 e2 u.
-            let one = shorter (signed_decimal z) r1 e1 in let two = less 32 e2 in
-            more_integers_back f (omega (arith, few, one, two)) x (now l n v) (record d { integers = d.integers ++ z ∷ [] })
-            (mode_to (blank_mode x) u)
-            (λ zs y' j i rest all least e t. k (z ∷ zs) y' j i rest (small, all) least
-            (on (signed_decimal z) e1 (on (codes " ") e2 e)
-            ∙ sym (append_assoc (signed_decimal z) (32 ∷ each_before zs) (signed_decimal y' ++ (93 ∷ rest))))
-            (turned_to (ap (λ (ks : List ℤ). st b (now l j i) (record d { integers = ks }))
-            (append_assoc d.integers (z ∷ []) (zs ++ y' ∷ []))) t)))), tt),
+        (
+          (λ w. sign_back sign.Blank w (λ r2 e2 u.
+              let one = shorter (signed_decimal z) r1 e1 in let two = less 32 e2 in
+              more_integers_back f (omega (arith, few, one, two)) x (now l n v) (record d { integers = d.integers ++ z ∷ [] })
+              (mode_to (blank_mode x) u)
+              (λ zs y' j i rest all least e t. k (z ∷ zs) y' j i rest (small, all) least
+              (on (signed_decimal z) e1 (on (codes " ") e2 e)
+              ∙ sym (append_assoc (signed_decimal z) (32 ∷ each_before zs) (signed_decimal y' ++ (93 ∷ rest))))
+              (turned_to (ap (λ (ks : List ℤ). st b (now l j i) (record d { integers = ks }))
+              (append_assoc d.integers (z ∷ []) (zs ++ y' ∷ []))) t)))),
+          tt,
+        ),
       ))
 
   -- coefficients and a constant

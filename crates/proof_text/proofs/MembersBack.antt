@@ -95,16 +95,19 @@ module _ {p : Program} {ss : List Symbol} {Q : State → Type 0} {R : Type 0} (s
         (λ x. sign_back sign.CloseSquare x (λ rest e y. k [] l g r sp rest tt e
             (turned_to (ap (λ (ms : List Member). st b l (placed g r sp (record d { members = ms })))
             (sym (append-nil d.members))) y))),
-        ((λ x. sign_back sign.Semicolon x (λ r1 e1 y. sign_back sign.Blank y (λ r2 e2 z.
-            member_back sure b outside l g r sp d z (λ m n h r3 is e3 w.
-            let one = less 59 e1 in let two = less 32 e2 in let three = shorter (member_text m) r3 e3 in
-            more_members_back f (omega (arith, few, one, two, three)) n h m.spot.rule m.spot
-            (record d { members = d.members ++ m ∷ [] }) w
-            (λ ms o i j sq rest all e u. k (m ∷ ms) o i j sq rest (is, all)
-            (on (codes "; ") (on (codes ";") e1 e2) (on (member_text m) e3 e)
-            ∙ sym (next_then (member_text m) (map member_text ms) (93 ∷ rest)))
-            (turned_to (ap (λ (ks : List Member). st b o (placed i j sq (record d { members = ks })))
-            (append_assoc d.members (m ∷ []) ms)) u)))))), tt),
+        (
+          (λ x. sign_back sign.Semicolon x (λ r1 e1 y. sign_back sign.Blank y (λ r2 e2 z.
+              member_back sure b outside l g r sp d z (λ m n h r3 is e3 w.
+              let one = less 59 e1 in let two = less 32 e2 in let three = shorter (member_text m) r3 e3 in
+              more_members_back f (omega (arith, few, one, two, three)) n h m.spot.rule m.spot
+              (record d { members = d.members ++ m ∷ [] }) w
+              (λ ms o i j sq rest all e u. k (m ∷ ms) o i j sq rest (is, all)
+              (on (codes "; ") (on (codes ";") e1 e2) (on (member_text m) e3 e)
+              ∙ sym (next_then (member_text m) (map member_text ms) (93 ∷ rest)))
+              (turned_to (ap (λ (ks : List Member). st b o (placed i j sq (record d { members = ks })))
+              (append_assoc d.members (m ∷ []) ms)) u)))))),
+          tt,
+        ),
       )
 
   -- the places of a loop
@@ -136,9 +139,14 @@ module _ {p : Program} {ss : List Symbol} {Q : State → Type 0} {R : Type 0} (s
             (numbers_within b outside ms all)
             (on (codes "empty ") (on (codes "empty") e1 e2) e
             ∙ sym (append_assoc (codes "empty ") (numbers_text ms) rest)) (mark_back 38 w))))),
-        ((λ x. word_back word.Never (λ e. cc) (λ c cs. refl) x (λ s rest none e y.
-            k NeverCost (record l { symbol = s }) (record { den = 0; numbers = []; integers = []; form = no_draft.form }) rest
-            tt e (mark_back 39 y))),
-        ((λ x. arm_back sure b outside l (record no_draft { rule = r }) x (λ y n g rest is e z.
-            k (ArmCost y) n g rest is e (mark_back 40 z))), tt)),
+        (
+          (λ x. word_back word.Never (λ e. cc) (λ c cs. refl) x (λ s rest none e y.
+              k NeverCost (record l { symbol = s }) (record { den = 0; numbers = []; integers = []; form = no_draft.form }) rest
+              tt e (mark_back 39 y))),
+          (
+            (λ x. arm_back sure b outside l (record no_draft { rule = r }) x (λ y n g rest is e z.
+                k (ArmCost y) n g rest is e (mark_back 40 z))),
+            tt,
+          ),
+        ),
       )

@@ -191,15 +191,18 @@ module _ {p : Program} {ss : List Symbol} {Q : State → Type 0} {R : Type 0} (s
       made_back 25 ((item.Piece 35 ∷ []) ∷ (item.Piece 40 ∷ item.Piece 32 ∷ item.Made 24 ∷ item.Made 25 ∷ []) ∷ []) refl a (
         (λ x. sign_back sign.CloseSquare x (λ rest e y. k [] l rest tt e
             (turned_to (ap (λ (fs : List SymbolForm). st b l (bare (record d { forms = fs }))) (sym (append-nil d.forms))) y))),
-        ((λ x. sign_back sign.Semicolon x (λ r1 e1 y. sign_back sign.Blank y (λ r2 e2 z.
-            form_back sure b outside l d z (λ g m r3 is e3 w.
-            let one = less 59 e1 in let two = less 32 e2 in let three = shorter (form_text p g) r3 e3 in
-            more_forms_back f (omega (arith, few, one, two, three)) m (record d { forms = d.forms ++ g ∷ [] }) w
-            (λ fs n rest all e u. k (g ∷ fs) n rest (is, all)
-            (on (codes "; ") (on (codes ";") e1 e2) (on (form_text p g) e3 e)
-            ∙ sym (next_then (form_text p g) (map (form_text p) fs) (93 ∷ rest)))
-            (turned_to (ap (λ (gs : List SymbolForm). st b n (bare (record d { forms = gs })))
-            (append_assoc d.forms (g ∷ []) fs)) u)))))), tt),
+        (
+          (λ x. sign_back sign.Semicolon x (λ r1 e1 y. sign_back sign.Blank y (λ r2 e2 z.
+              form_back sure b outside l d z (λ g m r3 is e3 w.
+              let one = less 59 e1 in let two = less 32 e2 in let three = shorter (form_text p g) r3 e3 in
+              more_forms_back f (omega (arith, few, one, two, three)) m (record d { forms = d.forms ++ g ∷ [] }) w
+              (λ fs n rest all e u. k (g ∷ fs) n rest (is, all)
+              (on (codes "; ") (on (codes ";") e1 e2) (on (form_text p g) e3 e)
+              ∙ sym (next_then (form_text p g) (map (form_text p) fs) (93 ∷ rest)))
+              (turned_to (ap (λ (gs : List SymbolForm). st b n (bare (record d { forms = gs })))
+              (append_assoc d.forms (g ∷ []) fs)) u)))))),
+          tt,
+        ),
       )
 
   -- all forms
@@ -230,15 +233,18 @@ module _ {p : Program} {ss : List Symbol} {Q : State → Type 0} {R : Type 0} (s
       refl a (
         (λ x. sign_back sign.CloseSquare x (λ rest e y. k [] l rest tt e
             (turned_to (ap (λ (nss : List (List ℕ)). st b l (bare (record d { moves = nss }))) (sym (append-nil d.moves))) y))),
-        ((λ x. sign_back sign.Semicolon x (λ r1 e1 y. sign_back sign.Blank y (λ r2 e2 z.
-            numbers_back b l (bare d) z (λ ns m r3 is e3 w.
-            let one = less 59 e1 in let two = less 32 e2 in let three = shorter (numbers_text ns) r3 e3 in
-            more_moves_back f (omega (arith, few, one, two, three)) m (record d { moves = d.moves ++ ns ∷ [] }) (mark_back 30 w)
-            (λ nss n rest all e u. k (ns ∷ nss) n rest (numbers_within b outside ns is, all)
-            (on (codes "; ") (on (codes ";") e1 e2) (on (numbers_text ns) e3 e)
-            ∙ sym (next_then (numbers_text ns) (map numbers_text nss) (93 ∷ rest)))
-            (turned_to (ap (λ (gs : List (List ℕ)). st b n (bare (record d { moves = gs })))
-            (append_assoc d.moves (ns ∷ []) nss)) u)))))), tt),
+        (
+          (λ x. sign_back sign.Semicolon x (λ r1 e1 y. sign_back sign.Blank y (λ r2 e2 z.
+              numbers_back b l (bare d) z (λ ns m r3 is e3 w.
+              let one = less 59 e1 in let two = less 32 e2 in let three = shorter (numbers_text ns) r3 e3 in
+              more_moves_back f (omega (arith, few, one, two, three)) m (record d { moves = d.moves ++ ns ∷ [] }) (mark_back 30 w)
+              (λ nss n rest all e u. k (ns ∷ nss) n rest (numbers_within b outside ns is, all)
+              (on (codes "; ") (on (codes ";") e1 e2) (on (numbers_text ns) e3 e)
+              ∙ sym (next_then (numbers_text ns) (map numbers_text nss) (93 ∷ rest)))
+              (turned_to (ap (λ (gs : List (List ℕ)). st b n (bare (record d { moves = gs })))
+              (append_assoc d.moves (ns ∷ []) nss)) u)))))),
+          tt,
+        ),
       )
 
   -- all of them
@@ -267,28 +273,33 @@ module _ {p : Program} {ss : List Symbol} {Q : State → Type 0} {R : Type 0} (s
         (λ x. word_back word.Poly (λ e. cc) (λ c cs. refl) x (λ symbol rest none e y.
             k Poly (record l { symbol = symbol })
             (record { den = d.den; numbers = d.numbers; integers = d.integers; form = d.form }) rest tt e (mark_back 35 y))),
-        ((λ x. word_back word.Lin (λ e. cc) (λ c cs. refl) x (λ symbol r1 none e1 y.
-            sign_back sign.Blank y (λ r2 e2 z.
-            plain_back b (record l { symbol = symbol }) d z (λ den r3 few e3 w.
-            sign_back sign.Blank w (λ r4 e4 u.
-            integers_back b Bare (record l { symbol = symbol; number = den }) (record d { den = den }) u
-            (λ zs c n v r5 all small e5 t.
-            sign_back sign.Blank (mark_back 36 t) (λ r6 e6 o.
-            numbers_back b (now (record l { symbol = symbol }) n v) (record d {
-              den = den;
-              numbers = [];
-              integers = [];
-              form = form_in (zs ++ c ∷ []);
-            }) o (λ ms m rest every e7 i.
-            let f : Form = record { coefs = zs; constant = c } in
-            k (Linear den f ms) m (record { den = den; numbers = []; integers = []; form = no_form }) rest
-            (subst (λ (j : ℕ). den ≤ j) (in_limit b outside) few, form_within b outside f all small,
-            numbers_within b outside ms every)
-            (on (codes "lin") e1 (on (codes " ") e2 (on (decimal den) e3 (on (codes " ") e4 (on (form_numbers f) e5
-            (on (codes " ") e6 e7)))))
-            ∙ sym (flatten (Then (Bytes (codes "lin ")) (Then (Bytes (decimal den)) (Then (Bytes (codes " "))
-            (Then (Bytes (form_numbers f)) (Then (Bytes (codes " ")) (Bytes (numbers_text ms))))))) rest))
-            (turned_to
-            (ap (λ (g : Form). st b m (record d { den = den; numbers = []; integers = []; form = no_form; arm = Linear den g ms }))
-            (form_same f)) (mark_back 37 i)))))))))), tt),
+        (
+          (λ x. word_back word.Lin (λ e. cc) (λ c cs. refl) x (λ symbol r1 none e1 y.
+              sign_back sign.Blank y (λ r2 e2 z.
+              plain_back b (record l { symbol = symbol }) d z (λ den r3 few e3 w.
+              sign_back sign.Blank w (λ r4 e4 u.
+              integers_back b Bare (record l { symbol = symbol; number = den }) (record d { den = den }) u
+              (λ zs c n v r5 all small e5 t.
+              sign_back sign.Blank (mark_back 36 t) (λ r6 e6 o.
+              numbers_back b (now (record l { symbol = symbol }) n v) (record d {
+                den = den;
+                numbers = [];
+                integers = [];
+                form = form_in (zs ++ c ∷ []);
+              }) o (λ ms m rest every e7 i.
+              let f : Form = record { coefs = zs; constant = c } in
+              k (Linear den f ms) m (record { den = den; numbers = []; integers = []; form = no_form }) rest (
+                subst (λ (j : ℕ). den ≤ j) (in_limit b outside) few,
+                form_within b outside f all small,
+                numbers_within b outside ms every,
+              )
+              (on (codes "lin") e1 (on (codes " ") e2 (on (decimal den) e3 (on (codes " ") e4 (on (form_numbers f) e5
+              (on (codes " ") e6 e7)))))
+              ∙ sym (flatten (Then (Bytes (codes "lin ")) (Then (Bytes (decimal den)) (Then (Bytes (codes " "))
+              (Then (Bytes (form_numbers f)) (Then (Bytes (codes " ")) (Bytes (numbers_text ms))))))) rest))
+              (turned_to
+              (ap (λ (g : Form). st b m (record d { den = den; numbers = []; integers = []; form = no_form; arm = Linear den g ms }))
+              (form_same f)) (mark_back 37 i)))))))))),
+          tt,
+        ),
       )

@@ -60,22 +60,28 @@ module _ {p : Program} {ss : List Symbol} {Q : State → Type 0} {R : Type 0} (b
             (turned_to (ap (λ (j : ℕ). st b (now l n false) (record d { integers = d.integers ++ pos j ∷ [] }))
             (same_63 b n small)) (mark_back 27 y)) (
               (λ z. sign_back sign.CloseSquare z (λ rest e w. k [] n (now l n false) rest tt small (on (decimal n) e1 e) w)),
-              ((λ z. sign_back sign.Blank z (λ r2 e2 w.
-                  let one = shorter (decimal n) r1 e1 in let two = less 32 e2 in
-                  parts_back f (omega (arith, few, one, two)) (now l n false)
-                  (record d { integers = d.integers ++ pos n ∷ [] }) w
-                  (λ zs den m rest all least e u. k (pos n ∷ zs) den m rest (small, all) least
-                  (on (decimal n) e1 (on (codes " ") e2 e)
-                  ∙ sym (append_assoc (decimal n) (32 ∷ each_before zs) (decimal den ++ (93 ∷ rest))))
-                  (turned_to (ap (λ (ks : List ℤ). st b m (record d { integers = ks }))
-                  (append_assoc d.integers (pos n ∷ []) (zs ++ pos den ∷ []))) u)))), tt),
+              (
+                (λ z. sign_back sign.Blank z (λ r2 e2 w.
+                    let one = shorter (decimal n) r1 e1 in let two = less 32 e2 in
+                    parts_back f (omega (arith, few, one, two)) (now l n false)
+                    (record d { integers = d.integers ++ pos n ∷ [] }) w
+                    (λ zs den m rest all least e u. k (pos n ∷ zs) den m rest (small, all) least
+                    (on (decimal n) e1 (on (codes " ") e2 e)
+                    ∙ sym (append_assoc (decimal n) (32 ∷ each_before zs) (decimal den ++ (93 ∷ rest))))
+                    (turned_to (ap (λ (ks : List ℤ). st b m (record d { integers = ks }))
+                    (append_assoc d.integers (pos n ∷ []) (zs ++ pos den ∷ []))) u)))),
+                tt,
+              ),
             ))),
-        ((λ x. sign_back sign.Minus (mark_back 26 x) (λ r0 e0 y.
-            positive_back Bare (λ n h. number_small b n h) y (λ n r1 some none e1 z.
-            sign_back sign.Blank (mark_back 27 z) (λ r2 e2 w.
-            let one = less 45 e0 in let two = shorter (decimal n) r1 e1 in let three = less 32 e2 in
-            signed n some (none_small (limit_of b) n none) r2 (on (codes "-") e0 (on (decimal n) e1 e2)) w
-            (λ v m e' u c. parts_back f (omega (arith, few, one, two, three)) m e' u c))))), tt),
+        (
+          (λ x. sign_back sign.Minus (mark_back 26 x) (λ r0 e0 y.
+              positive_back Bare (λ n h. number_small b n h) y (λ n r1 some none e1 z.
+              sign_back sign.Blank (mark_back 27 z) (λ r2 e2 w.
+              let one = less 45 e0 in let two = shorter (decimal n) r1 e1 in let three = less 32 e2 in
+              signed n some (none_small (limit_of b) n none) r2 (on (codes "-") e0 (on (decimal n) e1 e2)) w
+              (λ v m e' u c. parts_back f (omega (arith, few, one, two, three)) m e' u c))))),
+          tt,
+        ),
       )
     where
       signed : (n : ℕ) → 1 ≤ n → n ≤ limit_of b → (r2 : List ℕ) → whole ≡ 45 ∷ (decimal n ++ (32 ∷ r2))
@@ -140,15 +146,18 @@ module _ {p : Program} {ss : List Symbol} {Q : State → Type 0} {R : Type 0} (b
       made_back 36 ((item.Piece 35 ∷ []) ∷ (item.Piece 40 ∷ item.Piece 32 ∷ item.Made 37 ∷ item.Made 36 ∷ []) ∷ []) refl a (
         (λ x. sign_back sign.CloseSquare x (λ rest e y. k [] l rest tt e
             (turned_to (ap (λ (zs : List ScaledPoint). st b l (bare (record d { points = zs }))) (sym (append-nil d.points))) y))),
-        ((λ x. sign_back sign.Semicolon x (λ r1 e1 y. sign_back sign.Blank y (λ r2 e2 z.
-            point_back b inside l d z (λ v m r3 is e3 w.
-            let one = less 59 e1 in let two = less 32 e2 in let three = shorter (point_text v) r3 e3 in
-            more_points_back f (omega (arith, few, one, two, three)) m (record d { points = d.points ++ v ∷ [] }) w
-            (λ zs n rest all e u. k (v ∷ zs) n rest (is, all)
-            (on (codes "; ") (on (codes ";") e1 e2) (on (point_text v) e3 e)
-            ∙ sym (next_then (point_text v) (map point_text zs) (93 ∷ rest)))
-            (turned_to (ap (λ (ys : List ScaledPoint). st b n (bare (record d { points = ys })))
-            (append_assoc d.points (v ∷ []) zs)) u)))))), tt),
+        (
+          (λ x. sign_back sign.Semicolon x (λ r1 e1 y. sign_back sign.Blank y (λ r2 e2 z.
+              point_back b inside l d z (λ v m r3 is e3 w.
+              let one = less 59 e1 in let two = less 32 e2 in let three = shorter (point_text v) r3 e3 in
+              more_points_back f (omega (arith, few, one, two, three)) m (record d { points = d.points ++ v ∷ [] }) w
+              (λ zs n rest all e u. k (v ∷ zs) n rest (is, all)
+              (on (codes "; ") (on (codes ";") e1 e2) (on (point_text v) e3 e)
+              ∙ sym (next_then (point_text v) (map point_text zs) (93 ∷ rest)))
+              (turned_to (ap (λ (ys : List ScaledPoint). st b n (bare (record d { points = ys })))
+              (append_assoc d.points (v ∷ []) zs)) u)))))),
+          tt,
+        ),
       )
 
   -- all points
@@ -245,14 +254,16 @@ module _ {p : Program} {ss : List Symbol} {Q : State → Type 0} {R : Type 0} (s
       made_back 34 ((item.Piece 35 ∷ []) ∷ (item.Piece 32 ∷ item.Piece 43 ∷ item.Made 34 ∷ []) ∷ []) refl a (
         (λ x. sign_back sign.CloseSquare x (λ rest e y. k [] rest tt e
             (turned_to (ap (λ (xs : List SymbolPlace). st b l (record d { shut = xs })) (sym (append-nil d.shut))) y))),
-        ((λ x. sign_back sign.Blank x (λ r1 e1 y. place_read sure b l d y (λ s r2 is e2 z.
-            let one = less 32 e1 in let two = shorter (place_text p s) r2 e2 in
-            more_places_back f (omega (arith, few, one, two)) (record d { shut = d.shut ++ s ∷ [] }) z
-            (λ xs rest all e w. k (s ∷ xs) rest (is, all)
-            (on (codes " ") e1 (on (place_text p s) e2 e)
-            ∙ sym (word_then (place_text p s) (map (place_text p) xs) (93 ∷ rest)))
-            (turned_to (ap (λ (ys : List SymbolPlace). st b l (record d { shut = ys })) (append_assoc d.shut (s ∷ []) xs)) w))))),
-        tt),
+        (
+          (λ x. sign_back sign.Blank x (λ r1 e1 y. place_read sure b l d y (λ s r2 is e2 z.
+              let one = less 32 e1 in let two = shorter (place_text p s) r2 e2 in
+              more_places_back f (omega (arith, few, one, two)) (record d { shut = d.shut ++ s ∷ [] }) z
+              (λ xs rest all e w. k (s ∷ xs) rest (is, all)
+              (on (codes " ") e1 (on (place_text p s) e2 e)
+              ∙ sym (word_then (place_text p s) (map (place_text p) xs) (93 ∷ rest)))
+              (turned_to (ap (λ (ys : List SymbolPlace). st b l (record d { shut = ys })) (append_assoc d.shut (s ∷ []) xs)) w))))),
+          tt,
+        ),
       )
 
   -- the places that are shut
@@ -265,11 +276,13 @@ module _ {p : Program} {ss : List Symbol} {Q : State → Type 0} {R : Type 0} (s
       made_back 33 ((item.Piece 35 ∷ []) ∷ (item.Piece 43 ∷ item.Made 34 ∷ []) ∷ []) refl y (
         (λ z. sign_back sign.CloseSquare z (λ rest e w. k [] rest tt (on (codes "[") e1 e)
             (turned_to (ap (λ (xs : List SymbolPlace). st b l (record d { shut = xs })) (sym (append-nil d.shut))) w))),
-        ((λ z. place_read sure b l d z (λ s r2 is e2 w.
-            more_places_back (suc (length r2)) (omega arith) (record d { shut = d.shut ++ s ∷ [] }) w
-            (λ xs rest all e v. k (s ∷ xs) rest (is, all)
-            (on (codes "[") e1 (on (place_text p s) e2 e
-            ∙ sym (words_then (place_text p s) (map (place_text p) xs) rest)))
-            (turned_to (ap (λ (ys : List SymbolPlace). st b l (record d { shut = ys })) (append_assoc d.shut (s ∷ []) xs)) v)))),
-        tt),
+        (
+          (λ z. place_read sure b l d z (λ s r2 is e2 w.
+              more_places_back (suc (length r2)) (omega arith) (record d { shut = d.shut ++ s ∷ [] }) w
+              (λ xs rest all e v. k (s ∷ xs) rest (is, all)
+              (on (codes "[") e1 (on (place_text p s) e2 e
+              ∙ sym (words_then (place_text p s) (map (place_text p) xs) rest)))
+              (turned_to (ap (λ (ys : List SymbolPlace). st b l (record d { shut = ys })) (append_assoc d.shut (s ∷ []) xs)) v)))),
+          tt,
+        ),
       ))
