@@ -157,11 +157,14 @@ module _ (symbols : List NameBytes) (b : ℕ) (bytes : List ℕ) where
           let l = found_len (sym e ∙ h) in
           let long : length (prefix continues_name bytes) ≡ some = omega (arith, l) in
           let front : word_of (b ∷ prefix continues_name bytes) ≡ w = cc in
-          let place : symbol_of symbols (b ∷ prefix continues_name bytes) ≡ symbol = cc in
-          (front, place, v,
-          ap (λ (xs : List ℕ). b ∷ xs) (sym (prefix-rest continues_name bytes)
-          ∙ ap (λ (xs : List ℕ). prefix continues_name bytes ++ xs) (sym (drop-prefix continues_name bytes)
-          ∙ ap (λ (k : ℕ). drop k bytes) long)))
+          let place : symbol_of symbols (b ∷ prefix continues_name bytes) ≡ symbol = cc in (
+            front,
+            place,
+            v,
+            ap (λ (xs : List ℕ). b ∷ xs) (sym (prefix-rest continues_name bytes)
+                ∙ ap (λ (xs : List ℕ). prefix continues_name bytes ++ xs) (sym (drop-prefix continues_name bytes)
+                ∙ ap (λ (k : ℕ). drop k bytes) long)),
+          )
       go (ANumber v e) =
           absurd (number (has_leading_zero (b ∷ prefix is_ascii_digit bytes))
           (value_up_to (2 ^ 127) (b ∷ prefix is_ascii_digit bytes)) (found_piece (sym e ∙ h)))

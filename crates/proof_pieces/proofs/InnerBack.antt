@@ -206,8 +206,7 @@ pub inner_only : (symbols names : List Name) (depth before b : ℕ) (bytes : Lis
     → (q : BoundPiece) × (len : ℕ) × (last : Bool)
     × ((lexeme_in symbols names (mode.InBound depth before) b bytes).piece ≡ Some (InBound q len last))
 inner_only symbols names depth before b bytes on =
-    let l = bound_lexeme (length names) depth before (b ∷ bytes) (lexeme_at names b bytes) in
-    (
+    let l = bound_lexeme (length names) depth before (b ∷ bytes) (lexeme_at names b bytes) in (
       bound_piece (length names) before (lexeme_at names b bytes).piece,
       (lexeme_at names b bytes).len,
       ends_before (depth_behind depth (bound_piece (length names) before (lexeme_at names b bytes).piece))

@@ -237,8 +237,7 @@ other_back n level before v depth more marks ms rest own on h =
     let f = factor_back v n level depth marks ms own
     (times_back n before (factor_marks v level marks ms)
     (ended_back n level before (times_marks before (factor_marks v level marks ms)) h)) in
-    let r = on f.1 in
-    (
+    let r = on f.1 in (
       (λ some. fits_both n level depth more f.0 r.0),
       ended_stands n level before (times_marks before (factor_marks v level marks ms)) h,
       r.2,

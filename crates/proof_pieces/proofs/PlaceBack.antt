@@ -115,8 +115,7 @@ place_back symbols names b bytes symbol n some small h = go (begins_name b) h
         let l = ap (λ (k : Lexeme (Option Piece)). k.len) e in
         let long : length (prefix continues_name bytes) ≡ some = omega (arith, l) in
         let is : place_in symbols (b ∷ prefix continues_name bytes) (behind_last_dot None (b ∷ prefix continues_name bytes))
-        ≡ Place symbol (behind.Number n) = cc in
-        (
+        ≡ Place symbol (behind.Number n) = cc in (
           place_written symbols (b ∷ prefix continues_name bytes) symbol n small is,
           ap (λ (xs : List ℕ). b ∷ xs) (sym (prefix-rest continues_name bytes)
               ∙ ap (λ (xs : List ℕ). prefix continues_name bytes ++ xs) (sym (drop-prefix continues_name bytes)

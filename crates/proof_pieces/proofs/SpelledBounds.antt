@@ -192,8 +192,7 @@ module _ (n len : ℕ) (b : Bound) where
       let exact : step f t.piece ≡ Some g =
       sym (carried_fronts_are_marked.within f t.piece large h.nodes m.0) ∙ led in
       let leads = step_leads f g t.piece (is_front n (pieces done) f e) exact in
-      let kept = kept_piece f g t.piece (pieces ts) exact c.0 d.0 in
-      (
+      let kept = kept_piece f g t.piece (pieces ts) exact c.0 d.0 in (
         ap (λ (o : Option Front). next step o t.piece) e ∙ exact,
         record {
           kept = keeps n f g t.piece leads h.kept kept large;
@@ -220,15 +219,17 @@ module _ (n len : ℕ) (b : Bound) where
           → finish f ≡ c → ended (bounds_in n) o c (record { kind = Syntax; at = len }) ≡ Stands b
           → ⊤ × Ended n b done
       go xs None i (Some c) fin s =
-          let same : c ≡ b = cc in
-          (tt, record {
-            front = f;
-            reaches = e;
-            finishes = fin ∙ ap (λ (x : Bound). Some x) same;
-            holds = record { kept = h.kept; nodes = h.nodes; bases = h.bases };
-            shallow = nothing (deep_among bound_levels (front_marks f) (onto done []))
-                (none_among (map as_told (deep_among bound_levels (front_marks f) (onto done [])) ++ []) i);
-          })
+          let same : c ≡ b = cc in (
+            tt,
+            record {
+              front = f;
+              reaches = e;
+              finishes = fin ∙ ap (λ (x : Bound). Some x) same;
+              holds = record { kept = h.kept; nodes = h.nodes; bases = h.bases };
+              shallow = nothing (deep_among bound_levels (front_marks f) (onto done []))
+                  (none_among (map as_told (deep_among bound_levels (front_marks f) (onto done [])) ++ []) i);
+            },
+          )
       go xs None i None fin s = cc
       go xs (Some x) i c fin s = absurd (never_stands c x (record { kind = Syntax; at = len }) s)
   comes (t ∷ ts) done f e h stands_so =
