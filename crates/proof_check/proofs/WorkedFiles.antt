@@ -75,7 +75,7 @@ Fails g x = IsFirstFault three_rules (forms_at three_rules) g x
 -- the one with which a check fails alone is the first
 alone-first : {R : Type 0} (cs : List (CheckOf R)) (r : R) → FailsAlone cs r → IsFirstAmong cs r
 alone-first [] r h = absurd h
-alone-first (c ∷ cs) r (inl h) = inl (h.0.0, h.0.1)
+alone-first (c ∷ cs) r (inl h) = inl (h.0, h.1)
 alone-first (c ∷ cs) r (inr h) = inr (h.0, alone-first cs r h.1)
 
 -- the gap that is off
@@ -155,9 +155,9 @@ files-answered = record {
   cited_not_off = λ g x h.
       ((file-refusals-in-line.none setting (forms_at three_rules) cited).0 cited-accepted).1.none g (fault_of x) h;
   lemma_refused = self-refused;
-  other_lemma = λ h. omega (arith, (self-alone 1 1 Shape h).0.0);
-  other_node = λ h. omega (arith, (self-alone 2 2 Shape h).0.1);
-  other_reason = λ h. other-reason (self-alone 2 1 NotEmpty h).1;
+  other_lemma = λ h. omega (arith, (self-alone 1 1 Shape h).0);
+  other_node = λ h. omega (arith, (self-alone 2 2 Shape h).1);
+  other_reason = λ h. other-reason (self-alone 2 1 NotEmpty h).2;
   lemma_first = λ g x h.
       file-refusals-in-line.not_both setting (forms_at three_rules) off_lemma 2 1 g Shape (fault_of x) self-refused h;
   lemma_not_accepted = λ facts h.
