@@ -1,6 +1,7 @@
 //! Gaps: whether one holds, and else what is wrong with it first.
 //! Contract to the layer above: `gap_fault` answers over the program and its rows, as `proof_nodes` says when a gap holds
-//! and in which order it is looked at; a gap that holds excludes every function that ranks its rule over its set.
+//! and in which order it is looked at; a gap that holds excludes every affine function that looks at no shut
+//! place and ranks its rule over its set.
 #![tactic(auto)]
 
 mod balancing;

@@ -7,7 +7,8 @@ use proof_tree::{Gap, RankNode, Trip};
 pub enum RankAnswer {
     /// This one, as a node that rests on nothing yet.
     Ranked(RankNode),
-    /// None does. The gap has the parts of the dual that excludes every function, and a point of each rule of the set.
+    /// None does that looks at no shut place. The gap has the parts of the dual that excludes every such function, and a
+    /// point of each rule of the set.
     NoRank(Gap),
     /// A linear program passed a limit.
     Tripped(Trip),

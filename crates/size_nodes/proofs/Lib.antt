@@ -12,8 +12,8 @@ pub mod SpreadAnswers
 pub mod MembersAfter
 -- the graph and the limits of a member of a loop
 pub mod LoopMembers
--- parts that are pushed
-pub mod PushedParts
+-- parts that are joined
+pub mod JoinedParts
 -- what flows into members
 pub mod LoopFlows
 -- what the rules of a loop do

@@ -40,7 +40,7 @@ use Rattle.bound_rounds.proofs.AcceptedRanks.{is_question}
 use Rattle.time_bounds.specs.declared.asking.Asked.{Asked}
 use Rattle.time_bounds.specs.ProgramRules.{ranking_of}
 use Rattle.time_bounds.specs.ProgramSearches.{searches_of_program}
-use Rattle.time_bounds.specs.Questions.{HasShape, IsAsked, IsAnswered}
+use Rattle.time_bounds.specs.Questions.{HasShape, IsAsked, AnswersQuestion}
 use Rattle.time_bounds.specs.TriedRules.{IsMissing}
 use Rattle.time_bounds.proofs.RightSizings.{program_searches_right}
 pub use Rattle.model.proofs.Cases.{IfOk-both as both}
@@ -61,7 +61,7 @@ large_told p b node n e =
 
 -- a question that was answered is one of the relation
 pub asked_of : (p : Program) (b : Bounds) (pivots : ℕ) (empties : List EmptyAnswer) (t : ℕ) (a : Asked) → AreEmptyAnswers p pivots empties
-    → IsAsked p b t a → IsAnswered p pivots empties t a → AnsweredQuestion (searches_of_program p pivots) (setting_of p) b t
+    → IsAsked p b t a → AnswersQuestion p pivots empties t a → AnsweredQuestion (searches_of_program p pivots) (setting_of p) b t
 asked_of p b pivots empties t a answers asked answered = record {
   set = a.set.items;
   shut = places_of a.shut.items;
@@ -73,7 +73,7 @@ asked_of p b pivots empties t a answers asked answered = record {
 
 -- what its answer tells is told of the time
 pub told_time : (p : Program) (b : Bounds) (pivots : ℕ) (empties : List EmptyAnswer) (t : ℕ) (a : Asked) (x : Answer)
-    → AreEmptyAnswers p pivots empties → IsAsked p b t a → IsAnswered p pivots empties t a
+    → AreEmptyAnswers p pivots empties → IsAsked p b t a → AnswersQuestion p pivots empties t a
     → TellsRanking (setting_of p) b (ranking_of a.answer) x → TellsTime (searches_of_program p pivots) (setting_of p) b t x
 unfolding asked_of
 told_time p b pivots empties t a x answers asked answered tells =
@@ -105,7 +105,7 @@ shape_of p set strict shut pivots empties (ranks.Tripped t) v rules h = tt
 -- an answer to a question is one to a question that is the same
 pub answered_of : (p : Program) (pivots t : ℕ) (a : Asked) (empties : List EmptyAnswer) (set : List ℕ) (shut : List (ℕ × ℕ)) (answers : List EmptyAnswer)
     → IsValid p → IsRuleSet p a.set.items t → set ≡ a.set.items → shut ≡ a.shut.items → answers ≡ empties
-    → IsRankAnswer (ranked_set p set t (places_of shut)) (places_of shut) pivots answers a.answer → IsAnswered p pivots empties t a
+    → IsRankAnswer (ranked_set p set t (places_of shut)) (places_of shut) pivots answers a.answer → AnswersQuestion p pivots empties t a
 answered_of p pivots t a empties set shut answers v rules e f g h =
     let moved = subst (λ (xs : List EmptyAnswer). IsRankAnswer (ranked_set p a.set.items t (places_of a.shut.items)) (places_of a.shut.items) pivots xs a.answer) g
     (subst (λ (ys : List (ℕ × ℕ)). IsRankAnswer (ranked_set p a.set.items t (places_of ys)) (places_of ys) pivots answers a.answer) f
@@ -114,7 +114,7 @@ answered_of p pivots t a empties set shut answers v rules e f g h =
 
 -- what is missing, by an answer that gives no time
 pub missing_of : (p : Program) (b : Bounds) (pivots : ℕ) (empties : List EmptyAnswer) (t : ℕ) (a : Asked) (answer : RankAnswer) (why : NoBound)
-    → IsAsked p b t a → IsAnswered p pivots empties t a → a.answer ≡ answer
+    → IsAsked p b t a → AnswersQuestion p pivots empties t a → a.answer ≡ answer
     → TellsRanking (setting_of p) b (ranking_of answer) (Lacks why)
     → IsMissing p b pivots empties t (record { set = a.set; shut = a.shut; answer = answer })
 missing_of p b pivots empties t a answer why asked answered e tells = record {

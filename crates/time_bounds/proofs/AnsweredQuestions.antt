@@ -5,7 +5,7 @@ use Rattle.std.specs.Prelude.{IfSome}
 use Rattle.model.specs.Programs.{Program}
 use Rattle.proof_tree.specs.declared.answer.EmptyAnswer.{EmptyAnswer}
 use Rattle.time_bounds.specs.declared.asking.Asked.{Asked}
-use Rattle.time_bounds.specs.Questions.{IsAnswered, AreKept}
+use Rattle.time_bounds.specs.Questions.{AnswersQuestion, AreKept}
 
 -- where nothing was asked nothing is kept
 pub none_kept : (p : Program) (pivots : ℕ) (empties : List EmptyAnswer) (k n : ℕ) → AreKept p pivots empties k (replicate n None)
@@ -14,25 +14,25 @@ none_kept p pivots empties k (suc n) = none_kept p pivots empties (suc k) n
 
 -- a question that is kept of a rule, by what was kept of all
 pub kept_at : (p : Program) (pivots : ℕ) (empties : List EmptyAnswer) (k : ℕ) (kept : List (Option Asked)) (i : ℕ) (a : Asked)
-    → AreKept p pivots empties k kept → i < length kept → Some a ≡ get_or kept i (Some a) → IsAnswered p pivots empties (k + i) a
+    → AreKept p pivots empties k kept → i < length kept → Some a ≡ get_or kept i (Some a) → AnswersQuestion p pivots empties (k + i) a
 kept_at p pivots empties k [] i a h l e = absurd (omega (arith, l))
 kept_at p pivots empties k (None ∷ kept) zero a h l e = absurd (let f : ⊥ = cc in f)
 kept_at p pivots empties k (Some b ∷ kept) zero a h l e =
     let same : b ≡ a = cc in
-    subst (λ (n : ℕ). IsAnswered p pivots empties n a) (let z : k ≡ k + 0 = omega arith in z)
-    (subst (λ (x : Asked). IsAnswered p pivots empties k x) same h.0)
+    subst (λ (n : ℕ). AnswersQuestion p pivots empties n a) (let z : k ≡ k + 0 = omega arith in z)
+    (subst (λ (x : Asked). AnswersQuestion p pivots empties k x) same h.0)
 kept_at p pivots empties k (None ∷ kept) (suc i) a h l e =
-    subst (λ (n : ℕ). IsAnswered p pivots empties n a) (let z : suc k + i ≡ k + suc i = omega arith in z)
+    subst (λ (n : ℕ). AnswersQuestion p pivots empties n a) (let z : suc k + i ≡ k + suc i = omega arith in z)
     (kept_at p pivots empties (suc k) kept i a h (omega (arith, l)) e)
 kept_at p pivots empties k (Some b ∷ kept) (suc i) a h l e =
-    subst (λ (n : ℕ). IsAnswered p pivots empties n a) (let z : suc k + i ≡ k + suc i = omega arith in z)
+    subst (λ (n : ℕ). AnswersQuestion p pivots empties n a) (let z : suc k + i ≡ k + suc i = omega arith in z)
     (kept_at p pivots empties (suc k) kept i a h.1 (omega (arith, l)) e)
 
 -- so of whatever was kept of a rule
 pub kept_read : (p : Program) (pivots : ℕ) (empties : List EmptyAnswer) (kept : List (Option Asked)) (i t : ℕ) (o : Option Asked)
     → AreKept p pivots empties 1 kept → i < length kept → o ≡ get_or kept i o → t ≡ i + 1
-    → IfSome o (λ a. IsAnswered p pivots empties t a)
+    → IfSome o (λ a. AnswersQuestion p pivots empties t a)
 kept_read p pivots empties kept i t None h l e same = tt
 kept_read p pivots empties kept i t (Some a) h l e same =
-    subst (λ (n : ℕ). IsAnswered p pivots empties n a) (let z : 1 + i ≡ t = omega (arith, same) in z)
+    subst (λ (n : ℕ). AnswersQuestion p pivots empties n a) (let z : 1 + i ≡ t = omega (arith, same) in z)
     (kept_at p pivots empties 1 kept i a h l e)

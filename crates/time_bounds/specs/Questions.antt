@@ -60,7 +60,7 @@ HasShape (ranks.NoRank gap) = ⊤
 HasShape (ranks.Tripped t) = ⊤
 
 -- the answer is one to the question of this set and these shut places
-pub record IsAnswered (p : Program) (pivots : ℕ) (empties : List EmptyAnswer) (t : ℕ) (a : Asked) : Type 0 where
+pub record AnswersQuestion (p : Program) (pivots : ℕ) (empties : List EmptyAnswer) (t : ℕ) (a : Asked) : Type 0 where
   pub answer : IsRankAnswer (ranked_set p a.set.items t (places_of a.shut.items)) (places_of a.shut.items) pivots
       empties
       a.answer
@@ -82,7 +82,7 @@ abbrev pub AreKept : Program → ℕ → List EmptyAnswer → ℕ → List (Opti
 AreKept p pivots empties k [] = ⊤
 AreKept p pivots empties k (None ∷ kept) = AreKept p pivots empties (suc k) kept
 AreKept p pivots empties k (Some a ∷ kept) =
-    IsAnswered p pivots empties k a × AreKept p pivots empties (suc k) kept
+    AnswersQuestion p pivots empties k a × AreKept p pivots empties (suc k) kept
 
 -- a table of a program as rounds meet it: it has a time or none of the virtual entry and of each rule; that of the
 -- virtual entry is known, and so is that of each rule whose rows are known to have no point

@@ -17,13 +17,13 @@ use Rattle.time_bounds.specs.declared.tried_rules.Tried.TheVariants.{Known, Foun
 use Rattle.time_bounds.specs.Numbered.{EachNumbered}
 use Rattle.time_bounds.specs.ProgramRules.{ranking_of}
 use Rattle.time_bounds.specs.ProgramSearches.{searches_of_program}
-use Rattle.time_bounds.specs.Questions.{IsAnswered, IsAsked}
+use Rattle.time_bounds.specs.Questions.{AnswersQuestion, IsAsked}
 
 -- the rule's question was asked over bounds and answered, and the answer gives no time
 pub record IsMissing (p : Program) (b : Bounds) (pivots : ℕ) (empties : List EmptyAnswer) (t : ℕ) (a : Asked)
     : Type 0 where
   pub asked : IsAsked p b t a
-  pub answered : IsAnswered p pivots empties t a
+  pub answered : AnswersQuestion p pivots empties t a
   pub why : NoBound
   pub tells : TellsRanking (setting_of p) b (ranking_of a.answer) (Lacks why)
 

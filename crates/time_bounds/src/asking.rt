@@ -4,7 +4,7 @@ ghost use Rattle.std.specs.Prelude.{◌≡◌, ◌<◌, ◌≤◌, true, IfOk, I
 ghost use Rattle.rank_search.specs.RankAnswers.{IsRuleSet, MayAllRun};
 ghost use Rattle.bound_book.specs.ByKey.{bounds_in};
 ghost use Rattle.time_bounds.specs.Parts.{AreParts};
-ghost use Rattle.time_bounds.specs.Questions.{IsAnswered, IsAsked, IsReady, IsSameQuestion, IsTable, program_in};
+ghost use Rattle.time_bounds.specs.Questions.{AnswersQuestion, IsAsked, IsReady, IsSameQuestion, IsTable, program_in};
 
 use crate::context::Context;
 use crate::parts::{OpenSet, Parts, open_set};
@@ -33,9 +33,9 @@ pub(crate) fn ask(
     requires table { IsTable (program_in cx.now) table.now cx.now.empties.items }
     requires parts { AreParts (program_in cx.now) table.now parts.old }
     requires untimed { slice_index_or parts.old.untimed.items rule false ≡ true }
-    requires kept { IfSome before (λ a. IsAnswered (program_in cx.now) cx.now.pivots cx.now.empties.items rule a) }
+    requires kept { IfSome before (λ a. AnswersQuestion (program_in cx.now) cx.now.pivots cx.now.empties.items rule a) }
     ensures asked { IfOk result (λ a. IsAsked (program_in cx.now) (bounds_in table.now) rule a) }
-    ensures answered { IfOk result (λ a. IsAnswered (program_in cx.now) cx.now.pivots cx.now.empties.items rule a) }
+    ensures answered { IfOk result (λ a. AnswersQuestion (program_in cx.now) cx.now.pivots cx.now.empties.items rule a) }
     ensures parts { OnOk result (AreParts (program_in cx.now) table.now parts.new) }
 {
     let found = open_set(cx, table, parts, rule)?;
@@ -54,10 +54,10 @@ fn answered(
     requires ready { IsReady cx.now }
     requires rules { IsRuleSet (program_in cx.now) set.items rule }
     requires may_run { MayAllRun set.items cx.now.empties.items }
-    requires kept { IfSome before (λ a. IsAnswered (program_in cx.now) cx.now.pivots cx.now.empties.items rule a) }
+    requires kept { IfSome before (λ a. AnswersQuestion (program_in cx.now) cx.now.pivots cx.now.empties.items rule a) }
     ensures set { IfOk result (λ a. a.set.items ≡ set.items) }
     ensures shut { IfOk result (λ a. a.shut.items ≡ shut.items) }
-    ensures answered { IfOk result (λ a. IsAnswered (program_in cx.now) cx.now.pivots cx.now.empties.items rule a) }
+    ensures answered { IfOk result (λ a. AnswersQuestion (program_in cx.now) cx.now.pivots cx.now.empties.items rule a) }
 {
     match same_question(before, &set, &shut) {
         Some(old) => Ok(old),
@@ -113,7 +113,7 @@ fn new_answer(
     requires may_run { MayAllRun set.items cx.now.empties.items }
     ensures set { IfOk result (λ a. a.set.items ≡ set.items) }
     ensures shut { IfOk result (λ a. a.shut.items ≡ shut.items) }
-    ensures answered { IfOk result (λ a. IsAnswered (program_in cx.now) cx.now.pivots cx.now.empties.items rule a) }
+    ensures answered { IfOk result (λ a. AnswersQuestion (program_in cx.now) cx.now.pivots cx.now.empties.items rule a) }
 {
     let answer = find_rank(
         cx.alloc,

@@ -4,7 +4,7 @@ ghost use Rattle.std.specs.Prelude.{◌≡◌, ◌≤◌, length, IfOk, OnOk, If
 ghost use Rattle.bound_rounds.specs.Keys.{is_untimed};
 ghost use Rattle.bound_book.specs.ByKey.{bounds_in};
 ghost use Rattle.time_bounds.specs.Parts.{AreParts};
-ghost use Rattle.time_bounds.specs.Questions.{IsAnswered, IsAsked, AreKept, IsTable, IsReady, program_in};
+ghost use Rattle.time_bounds.specs.Questions.{AnswersQuestion, IsAsked, AreKept, IsTable, IsReady, program_in};
 ghost use Rattle.time_bounds.specs.TriedRules.{IsTried, AreTried};
 
 use crate::asking::{Asked, ask};
@@ -69,7 +69,7 @@ fn try_rule(
     requires table { IsTable (program_in cx.now) table.now cx.now.empties.items }
     requires parts { AreParts (program_in cx.now) table.now parts.old }
     requires rule { (1 ≤ rule) × (rule ≤ length cx.now.program.now.rules.items) }
-    requires kept { IfSome before (λ a. IsAnswered (program_in cx.now) cx.now.pivots cx.now.empties.items rule a) }
+    requires kept { IfSome before (λ a. AnswersQuestion (program_in cx.now) cx.now.pivots cx.now.empties.items rule a) }
     ensures tried { IfOk result (λ x. IsTried (program_in cx.now) (bounds_in table.now) cx.now.pivots
         cx.now.empties.items rule x) }
     ensures parts { OnOk result (AreParts (program_in cx.now) table.now parts.new) }
@@ -86,7 +86,7 @@ fn try_answer(cx: &Context, table: &Table, rule: u32, asked: Asked) -> Result<Tr
     requires ready { IsReady cx.now }
     requires untimed { is_untimed (bounds_in table.now) rule ≡ true }
     requires asked { IsAsked (program_in cx.now) (bounds_in table.now) rule asked }
-    requires answered { IsAnswered (program_in cx.now) cx.now.pivots cx.now.empties.items rule asked }
+    requires answered { AnswersQuestion (program_in cx.now) cx.now.pivots cx.now.empties.items rule asked }
     ensures { IfOk result (λ x. IsTried (program_in cx.now) (bounds_in table.now) cx.now.pivots
         cx.now.empties.items rule x) }
 {

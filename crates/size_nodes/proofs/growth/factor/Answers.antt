@@ -1,6 +1,6 @@
 use Rattle.std.proofs.Common.{map, arith}
 use Rattle.size_nodes.specs.Flows.{flow_of}
-use Rattle.size_nodes.proofs.PushedParts.{factor-begun}
+use Rattle.size_nodes.proofs.JoinedParts.{factor-begun}
 use Rattle.size_nodes.proofs.growth.factor.Goals as goal
 
 pub loop-flow-init : goal.loop-flow-init

@@ -5,7 +5,7 @@ use Rattle.bound_expr.proofs.Views.{bound_of-Max}
 use Rattle.size_nodes.specs.declared.flow.Flow.{Flow}
 use Rattle.size_nodes.specs.Flows.{flow_of}
 use Rattle.size_nodes.specs.Growths.{is_of, offset_part}
-use Rattle.size_nodes.proofs.PushedParts.{parts_more, parts_done, joined-map, offsets-joined}
+use Rattle.size_nodes.proofs.JoinedParts.{parts_more, parts_done, joined-map, offsets-joined}
 use Rattle.size_nodes.proofs.growth.maximum_offset.Goals as goal
 
 pub loop-flow-preserved : goal.loop-flow-preserved

@@ -1,7 +1,7 @@
 use Rattle.std.proofs.Common.{sym, ◌∙◌}
 use Rattle.size_nodes.specs.Flows.{flow_of}
 use Rattle.size_nodes.specs.Growths.{is_of}
-use Rattle.size_nodes.proofs.PushedParts.{pushed_where, kept_where}
+use Rattle.size_nodes.proofs.JoinedParts.{pushed_where, kept_where}
 use Rattle.size_nodes.proofs.growth.push_offset.Goals as goal
 
 pub returns-then-not-is_in : goal.returns-then-not-is_in

@@ -4,7 +4,7 @@ use Rattle.bound_expr.specs.Views.{bound_of}
 use Rattle.bound_expr.proofs.Views.{bound_of-Prod}
 use Rattle.proof_tree.specs.Sizes.{joined}
 use Rattle.size_nodes.specs.Growths.{growth_of, all_joined, addition_part}
-use Rattle.size_nodes.proofs.PushedParts.{one_pushed}
+use Rattle.size_nodes.proofs.JoinedParts.{one_pushed}
 use Rattle.size_nodes.proofs.loop_bound.loop_bound.Goals as goal
 
 pub returns : goal.returns

@@ -2,7 +2,7 @@ use Rattle.std.proofs.Common.{◌≤◌, ◌∙◌, length, arith}
 use Rattle.bound_expr.specs.Views.{bounds_of, parts_of}
 use Rattle.size_nodes.specs.declared.growth.Growth.{Growth}
 use Rattle.size_nodes.specs.Growths.{growth_of, power_part}
-use Rattle.size_nodes.proofs.PushedParts.{parts_more, parts_done, joined-map}
+use Rattle.size_nodes.proofs.JoinedParts.{parts_more, parts_done, joined-map}
 use Rattle.size_nodes.proofs.loop_bound.powers.Goals as goal
 
 pub loop-growth-preserved : goal.loop-growth-preserved

@@ -1,4 +1,4 @@
-use Rattle.size_nodes.proofs.PushedParts.{pushed_where, kept_where}
+use Rattle.size_nodes.proofs.JoinedParts.{pushed_where, kept_where}
 use Rattle.size_nodes.proofs.loop_bound.push_addition.Goals as goal
 
 pub returns-then-not-growth : goal.returns-then-not-growth

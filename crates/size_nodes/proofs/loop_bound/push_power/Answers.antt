@@ -1,5 +1,5 @@
 use Rattle.std.proofs.Common.{nat_lt}
-use Rattle.size_nodes.proofs.PushedParts.{pushed_where, kept_where, less_told, not_less_told}
+use Rattle.size_nodes.proofs.JoinedParts.{pushed_where, kept_where, less_told, not_less_told}
 use Rattle.size_nodes.proofs.loop_bound.push_power.Goals as goal
 
 pub returns-then-growth-le1 : goal.returns-then-growth-le1

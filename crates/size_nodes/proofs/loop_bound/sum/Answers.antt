@@ -4,7 +4,7 @@ use Rattle.bound_expr.specs.Views.{bound_of, bounds_of, parts_of}
 use Rattle.bound_expr.proofs.Views.{bound_of-Sum}
 use Rattle.size_nodes.specs.declared.growth.Growth.{Growth}
 use Rattle.size_nodes.specs.Growths.{growth_of, addition_part}
-use Rattle.size_nodes.proofs.PushedParts.{parts_more, parts_done, joined-map}
+use Rattle.size_nodes.proofs.JoinedParts.{parts_more, parts_done, joined-map}
 use Rattle.size_nodes.proofs.loop_bound.sum.Goals as goal
 
 pub loop-growth-preserved : goal.loop-growth-preserved
