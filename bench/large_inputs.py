@@ -87,3 +87,22 @@ def padded(begins, part, ends, most):
     """A proof file of one line that takes as many bytes as there may be, but for less than one part."""
     room = most - len(file_of(begins + ends))
     return file_of(begins + part * (room // len(part)) + ends)
+
+
+def unit(places, at, sign):
+    return "[" + " ".join(str(sign if place == at else 0) for place in range(places)) + " 0]"
+
+
+def self_loops(count, places):
+    """So many rules that lead from one symbol to it, over so many arguments that they keep."""
+    names = ", ".join(f"X{number}" for number in range(places))
+    return whole("f", [], " ".join([f"f({names}) -> Com_1(g({names}))"] + [f"g({names}) -> Com_1(g({names}))"] * count))
+
+
+def self_loop_proof(count, places):
+    """Sizes of all places of these rules, by one loop."""
+    arms = [f"up lin 1 {unit(places, at, 1)} [] low lin 1 {unit(places, at, -1)} []" for at in range(places)]
+    lines = [f"lemma spread 1.{at + 1} {arm} uses {{start}}" for at, arm in enumerate(arms)]
+    members = "; ".join(f"{rule}.{at + 1} {arm}" for rule in range(2, count + 2) for at, arm in enumerate(arms))
+    cites = "; ".join(f"cite {at + 1}" for at in range(places))
+    return file_of(*lines, f"lemma cycle [{members}] uses {{{cites}}}")
