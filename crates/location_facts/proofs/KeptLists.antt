@@ -1,5 +1,5 @@
 -- Lists of facts, round by round: those that meet a condition, one fact after the other.
-use Rattle.std.proofs.Common.{◌≡◌, inl, inr, ℕ, zero, suc, ◌+◌, ◌≤◌, refl, sym, ap, ◌∙◌, arith, subst, List, []}
+use Rattle.std.proofs.Common.{◌≡◌, inl, inr, ℕ, zero, suc, ◌≤◌, refl, sym, ap, ◌∙◌, arith, subst, List, []}
 use Rattle.std.proofs.Common.{◌∷◌, ◌++◌}
 use Rattle.std.proofs.Common.{length, Some}
 use Rattle.std.specs.Prelude.{slice_get}

@@ -31,7 +31,7 @@ use Rattle.location_facts.specs.declared.implied.Answered.{Answered}
 use Rattle.location_facts.specs.declared.implied.Under.{Under}
 use Rattle.location_facts.specs.Certificates.{IsWithinLimit}
 use Rattle.location_facts.specs.Faults.{proofs_of, rules_into, ShowsFact}
-use Rattle.location_facts.specs.Implied.{TellsEmpty, TellsGoal, IsUnder, HasProofs, AreProofsUnder, proof_in}
+use Rattle.location_facts.specs.Implied.{TellsEmpty, TellsGoal, HasProofs, AreProofsUnder, proof_in}
 use Rattle.location_facts.specs.Kept.{HasThose, IsImplied, IsImpliedByAll}
 use Rattle.location_facts.specs.Later.{IsSameProof, IsLater, AreLater, HasRows, TellsRule, TellsAgain}
 use Rattle.location_facts.specs.Rows.{row_before, row_after, facts_at, combined}

@@ -1,5 +1,5 @@
 -- Points and rays of the combined rows of rules, and what they say of facts.
-use Rattle.std.specs.Prelude.{◌≡◌, ℕ, ◌≤◌, List, length, pos}
+use Rattle.std.specs.Prelude.{ℕ, ◌≤◌, List, length, pos}
 use Rattle.std.specs.List.{All}
 use Rattle.poly_terms.specs.linear_forms.Certificates.{minus_one}
 use Rattle.poly_terms.specs.linear_forms.Limits.{point_limit}

@@ -25,7 +25,8 @@ use std::alloc::Global;
 ///
 /// The first round asks of each rule whether its combined rows have no point, and where they may have one, which facts at
 /// its target follow from them: one linear program each. A later round asks this of the rules at whose source a fact
-/// went. On programs with many rules and places these are many linear programs still.
+/// went, but of no rule whether it has a point where it has shown one, and of no fact against which a point or a ray
+/// stands. On programs with many rules and places these are many linear programs still.
 ///
 /// # Errors
 ///

@@ -1,7 +1,6 @@
 use Rattle.std.proofs.Common.{◌≡◌, ◌++◌, ap, ◌∙◌, List, map, subst, sym}
 use Rattle.std.specs.List.{All}
 use Rattle.poly_terms.specs.declared.poly.Row.{Row}
-use Rattle.poly_terms.specs.linear_forms.Forms.{Form}
 use Rattle.poly_terms.specs.Views.{form_of}
 use Rattle.lp_builder.specs.Descriptions.{IsWritable}
 use Rattle.rule_questions.proofs.EmptyProblems.{rows-all}

@@ -1,6 +1,6 @@
-use Rattle.std.proofs.Common.{◌≡◌, ◌++◌, arith, List, get_or, subst, sym}
+use Rattle.std.proofs.Common.{arith, List, subst, sym}
 use Rattle.std.specs.List.{All}
-use Rattle.std.proofs.lemmas.List.Elements.{All-append, All-nil}
+use Rattle.std.proofs.lemmas.List.Elements.{All-append}
 use Rattle.its_model.specs.Views.{program_of}
 use Rattle.location_facts.specs.declared.fact.LocFact.{LocFact}
 use Rattle.location_facts.specs.Elements.{IsMeasured, IsElement, AreElements}
