@@ -58,6 +58,10 @@ faults_are = record {
   nothing = refl;
   gap = refl;
   refused = refl;
+  syntax = refl;
+  deep = refl;
+  reference = refl;
+  limit = refl;
 }
 
 -- all of it

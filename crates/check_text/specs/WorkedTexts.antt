@@ -5,10 +5,11 @@ use Rattle.model.specs.Facts.{Fact, Time, Size, Cost}
 use Rattle.proof_tree.specs.proof_nodes.GapChecks.{WrongShape, MoveOff, FloorOff, NotKept, Unbalanced, LosesNothing}
 use Rattle.proof_tree.specs.proof_nodes.Reasons.{Shape, NotEmpty, Reached, NotZero, Move, Floor, ArmUp, ArmLow}
 use Rattle.proof_tree.specs.proof_nodes.Reasons.{MissingTime, MissingSize, Bent, Large, NotWeaker}
-use Rattle.proof_text.specs.proof_pieces.declared.kind.ProofKind.TheVariants.{NumberTooLarge}
+use Rattle.proof_text.specs.proof_pieces.declared.kind.ProofKind.TheVariants.{Syntax, NumberTooLarge, TooDeep}
+use Rattle.proof_text.specs.proof_pieces.declared.kind.ProofKind.TheVariants.{BadReference, Limit}
 use Rattle.proof_text.specs.Worked.{counting, gap_with}
 use Rattle.check_text.specs.Texts.{accepted_text, fact_lines, reason_text, fault_text, no_lemma_text, no_gap_text}
-use Rattle.check_text.specs.Texts.{proof_refusal_text}
+use Rattle.check_text.specs.Texts.{proof_kind_text, proof_refusal_text}
 
 -- a fact of each kind
 abbrev pub one_of_each : List Fact
@@ -53,6 +54,10 @@ pub record FaultsAreWorkedOut : Type 0 where
   pub gap : no_gap_text counting 3 (Unbalanced 1 1) ≡ codes "no gap 3: balance l1.1\n"
   pub refused : proof_refusal_text (record { kind = NumberTooLarge; at = 28 })
       ≡ codes "proof refused at 28: NumberTooLarge\n"
+  pub syntax : proof_kind_text Syntax ≡ codes "Syntax"
+  pub deep : proof_kind_text TooDeep ≡ codes "TooDeep"
+  pub reference : proof_kind_text BadReference ≡ codes "BadReference"
+  pub limit : proof_kind_text Limit ≡ codes "Limit"
 
 -- all of it
 pub record AnswersAreWorkedOut : Type 0 where

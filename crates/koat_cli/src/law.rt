@@ -35,7 +35,7 @@ pub fn held_files_are_answered()
 }
 
 /// The law that, statuses `WriteFault` and `Memory` aside, a call ends with `Usage` exactly where its words ask for
-/// nothing that is there; that one whose words ask for a generated program ends with `Done`; and that one whose words
+/// nothing; that one whose words ask for a generated program ends with `Done`; and that one whose words
 /// ask for the figures of its analysis ends with `Done` exactly where this has a time for every rule, and else with
 /// `Unknown`. Its contract is the law; it has no code but the law of replays.
 pub fn numbers_are_answered()
