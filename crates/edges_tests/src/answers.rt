@@ -1,6 +1,8 @@
 //! The program's answers, whole, on shelves and sinks in memory: every status with its text, and what follows a fault.
 
+use crate::hostile::REPORT;
 use crate::programs::{ONE_RULE, PROGRAMS};
+use crate::proofs::COUNTING;
 use koat_cli::{Status, run};
 use outside_io::{Held, MemoryShelf, MemorySink, Stop};
 use std::alloc::{AllocError, Global};
@@ -46,7 +48,8 @@ fn one_file(alloc: Global, name: &str, bytes: Vec<u8>) -> Result<Vec<Held>, Allo
     Ok(files)
 }
 
-fn words_of(alloc: Global, words: &[&str]) -> Result<Vec<String>, AllocError> {
+/// Words as a call takes them.
+pub(crate) fn words_of(alloc: Global, words: &[&str]) -> Result<Vec<String>, AllocError> {
     let mut all = Vec::new(alloc);
     for word in words {
         all.push(String::from_str(alloc, word)?)?;
@@ -248,38 +251,11 @@ fn statuses_are_numbered_from_0(rt: HostRuntime) {
     }
 }
 
-// Whether a report of which the sink takes so many bytes leaves others there, or another status.
-fn is_otherwise_stopped(alloc: Global, bytes: u64) -> Result<bool, AllocError> {
-    let files = one_file(alloc, "p", text_of(alloc, ONE_RULE)?)?;
-    let mut shelf = MemoryShelf::new(files, Vec::new(alloc));
-    let stop = Stop { call: 1, bytes };
-    let mut sink = MemorySink::new(alloc, 999, vec![in alloc; stop]?)?;
-    let words = words_of(alloc, &["analyse", "p"])?;
-    Ok(
-        run(alloc, &words, &mut shelf, &mut sink) != Status::WriteFault
-            || sink.bytes().len() as u64 != bytes
-            || !BOUNDED.starts_with(sink.bytes()),
-    )
-}
-
-#[test]
-fn the_first_put_may_stop_after_any_bytes(rt: HostRuntime) -> Result<(), Fail> {
-    let alloc = rt.alloc();
-    let mut other = 0;
-    for bytes in 0..BOUNDED.len() as u64 {
-        if is_otherwise_stopped(alloc, bytes)? {
-            other += u64::from(other < 1000);
-        }
-    }
-    assert_eq!(rt; other, 0);
-    Ok(())
-}
-
 #[test]
 fn another_call_may_follow_a_fault(rt: HostRuntime) -> Result<(), Fail> {
     let alloc = rt.alloc();
     let words = words_of(alloc, &["analyse", "p"])?;
-    let files = one_file(alloc, "p", text_of(alloc, ONE_RULE)?)?;
+    let files = one_file(alloc, "p", COUNTING.as_bytes().to_vec(alloc)?)?;
     let mut shelf = MemoryShelf::new(files, vec![in alloc; 1, 3]?);
     let stop = Stop { call: 2, bytes: 3 };
     let late = Stop { call: 3, bytes: 4 };
@@ -299,7 +275,7 @@ fn another_call_may_follow_a_fault(rt: HostRuntime) -> Result<(), Fail> {
     assert_eq!(rt; run(alloc, &words, &mut shelf, &mut sink), Status::Done);
     assert_eq!(rt; shelf.calls(), 4);
     let mut wanted = Vec::from_slice(alloc, b"read fault\nbouread")?;
-    wanted.extend_from_slice(BOUNDED)?;
+    wanted.extend_from_slice(REPORT)?;
     assert_eq!(rt; sink.bytes(), wanted.as_slice());
     Ok(())
 }

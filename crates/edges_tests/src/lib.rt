@@ -7,6 +7,8 @@ mod answers;
 #[cfg(test)]
 mod facts;
 #[cfg(test)]
+mod hostile;
+#[cfg(test)]
 mod processes;
 #[cfg(test)]
 mod programs;

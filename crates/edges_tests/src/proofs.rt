@@ -5,19 +5,22 @@ use outside_io::{Held, MemoryShelf, MemorySink};
 use std::alloc::{AllocError, Global};
 use std::test::Fail;
 
-// A program of one rule, and with a cost; one that counts down in a loop; and one whose second rule has no time.
-const ENTERING: &str = "(STARTTERM (FUNCTIONSYMBOLS l0))(RULES l0(A) -> Com_1(l1(A)))";
+/// A program of one rule.
+pub(crate) const ENTERING: &str = "(STARTTERM (FUNCTIONSYMBOLS l0))(RULES l0(A) -> Com_1(l1(A)))";
 
+// The same with a cost.
 const PRICED: &str = "(STARTTERM (FUNCTIONSYMBOLS l0))(RULES l0(A) -{A}> Com_1(l1(A)))";
 
-const COUNTING: &str =
+/// A program that counts down in a loop.
+pub(crate) const COUNTING: &str =
     "(STARTTERM (FUNCTIONSYMBOLS l0))(RULES l0(A) -> Com_1(l1(A)) l1(A) -> Com_1(l1(A-1)) :|: A >= 1)";
 
+// A program whose second rule has no time.
 const STAYING: &str =
     "(STARTTERM (FUNCTIONSYMBOLS l0))(RULES l0(A) -> Com_1(l1(A)) l1(A) -> Com_1(l1(A)))";
 
-// A loop inside another, with long names, a comment and guards in square brackets.
-const NESTED: &str = "(GOAL COMPLEXITY)
+/// A loop inside another, with long names, a comment and guards in square brackets, up to the last bracket.
+pub(crate) const NESTED: &str = "(GOAL COMPLEXITY)
 (COMMENT nested loops (from C))
 (STARTTERM (FUNCTIONSYMBOLS evalfstart))
 (VAR Ar_0 Ar_1)
@@ -32,17 +35,17 @@ const NESTED: &str = "(GOAL COMPLEXITY)
   evalfbb2in(Ar_0, Ar_1) -> Com_1(evalfbb3in(Ar_0, Ar_1 - 1))
   evalflatchin(Ar_0, Ar_1) -> Com_1(evalfbb4in(Ar_0 - 1, Ar_1))
   evalfreturnin(Ar_0, Ar_1) -> Com_1(evalfstop(Ar_0, Ar_1))
-)
-";
+)";
 
-// Proof files of the first program and of the one that counts down.
+// A proof file of the program of one rule.
 const ENTERED: &str = "koat-proof 1
 lemma rank 1 set [1] den 1 forms [l0 [0 1]; l1 [0 0]] moves [[]] floor [] uses {start}
 lemma spread 1.1 up lin 1 [1 0] [] low lin 1 [-1 0] [] uses {start}
 end
 ";
 
-const COUNTED: &str = "koat-proof 1
+/// A proof file of the program that counts down.
+pub(crate) const COUNTED: &str = "koat-proof 1
 lemma rank 1 set [1] den 1 forms [l0 [0 1]; l1 [0 0]] moves [[]] floor [] uses {start}
 lemma rank 2 set [1 2] den 1 forms [l0 [1 0]; l1 [1 0]] moves [[]; [0]] floor [1] uses {start}
 lemma spread 1.1 up lin 1 [1 0] [] low lin 1 [-1 0] [] uses {start}
@@ -50,6 +53,7 @@ lemma cycle [2.1 up lin 1 [1 0] [0] low lin 1 [0 0] [1]] uses {cite 3}
 end
 ";
 
+// Further ones of it, and one of the program with a cost.
 const WITHOUT_FLOOR: &str = "koat-proof 1
 lemma rank 1 set [1] den 1 forms [l0 [0 1]; l1 [0 0]] moves [[]] floor [] uses {start}
 lemma rank 2 set [1 2] den 1 forms [l0 [1 0]; l1 [1 0]] moves [[]; [0]] floor [0] uses {start}

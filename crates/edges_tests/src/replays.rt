@@ -31,7 +31,8 @@ const GCD: &str =
   loop(A, B) -> Com_1(loop(A - B, B)) :|: A > B && B >= 1 loop(A, B) -> Com_1(loop(A, B - A)) :|: B > A && A >= 1
   loop(A, B) -> Com_1(stop(A, B)) :|: A = B)";
 
-const FOUR_STEPS: &str = "koat-run 1\nstart 3\nstep 1\nstep 2\nstep 2\nstep 2\nend\n";
+/// The run of the program that counts down from 3 to its end.
+pub(crate) const FOUR_STEPS: &str = "koat-run 1\nstart 3\nstep 1\nstep 2\nstep 2\nstep 2\nend\n";
 
 // Programs and runs, with the status and the text of the answer.
 const REPLAYS: &[(&str, &str, Status, &str)] = &[
