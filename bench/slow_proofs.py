@@ -286,7 +286,7 @@ class Reading:
     def number(self, limit):
         """A number with its byte, which is refused over a limit."""
         text, at = self.next(), self.at
-        if not text.isdigit() or (text[0] == "0" and len(text) > 1):
+        if not (text.isascii() and text.isdigit()) or (text[0] == "0" and len(text) > 1):
             self.breaks_off()
         self.at += len(text)
         if limit is not None and int(text) > limit:
@@ -499,7 +499,7 @@ class Reading:
         if not NAME.fullmatch(run):
             self.breaks_off()
         name, dot, behind = run.rpartition(".")
-        numbered = dot and (not behind or behind.isdigit())
+        numbered = dot and (not behind or (behind.isascii() and behind.isdigit()))
         if not numbered:
             name = run
         if name not in self.program.symbols:
