@@ -1,7 +1,7 @@
 //! The table of a grammar, a row for each class of pieces and one for the end of the text.
 
-ghost use Rattle.std.specs.Prelude.{◌≡◌, ◌+◌, ◌<◌, ◌≤◌, ◌^◌, map, IfOk};
-ghost use Rattle.text_grammar.specs.Leads.{better, lead, lead_among, row_after};
+ghost use Rattle.std.specs.Prelude.{◌≡◌, ◌+◌, ◌<◌, ◌≤◌, ◌^◌, map, IfOk, IsTrue};
+ghost use Rattle.text_grammar.specs.Leads.{Stuck, better, entry, lead, lead_among, row_after};
 ghost use Rattle.text_grammar.specs.Grammars.{rules_of as rules_spelled};
 ghost use Rattle.text_grammar.specs.Tabled.{IsTable};
 ghost use Rattle.text_grammar.specs.Views.{lead_of, leads_of, bodies_view, rules_view};
@@ -43,6 +43,32 @@ impl Tables {
     }
 }
 
+// Whether a nonterminal can't begin with a piece of the class of a row, nor derive marks alone.
+fn is_stuck(row: &[Entry], number: u32) -> bool
+    ensures { IsTrue result → entry (leads_of row.now) number ≡ Stuck }
+{
+    match row.get(number as usize) {
+        Some(Entry::Stuck) => true,
+        Some(Entry::Passes { .. }) | Some(Entry::Matches { .. }) => false,
+        None => true,
+    }
+}
+
+// Whether what comes first in a body, but for marks, is a piece of another class or a nonterminal that is stuck. No
+// piece of the class can follow then; most bodies are told so, without memory.
+fn is_refused_at_once(row: &[Entry], class: u32, body: &[Symbol]) -> bool
+    ensures { IsTrue result → lead class (leads_of row.now) body.now ≡ Stuck }
+{
+    for symbol in body {
+        match symbol {
+            Symbol::Piece(other) => return *other != class,
+            Symbol::Mark(_) => {}
+            Symbol::Made(number) => return is_stuck(row, *number),
+        }
+    }
+    false
+}
+
 // What a body leads to.
 fn lead_of_body(
     alloc: Global,
@@ -52,6 +78,9 @@ fn lead_of_body(
 ) -> Result<Entry, AllocError>
     ensures { IfOk result (λ e. lead_of e ≡ lead class (leads_of row.now) body.now) }
 {
+    if is_refused_at_once(row, class, body) {
+        return Ok(Entry::Stuck);
+    }
     let mut rest = stack_of(alloc, body)?;
     let mut marks = Vec::new(alloc);
     Ok(match meet(&mut rest, &mut marks, row, class)? {
