@@ -12,7 +12,7 @@ use Rattle.sparse_columns.specs.Numbers.{alone}
 use Rattle.sparse_columns.specs.Columns.{numerator, PutsNumerator}
 use Rattle.simplex_core.specs.declared.problem.Entry.{Entry}
 use Rattle.simplex_core.specs.Tableau.{sign_of}
-use Rattle.simplex_core.specs.ColumnBuilding.{AreColumns, AreSides, with_entry, entries_at, with_units, with_cost_columns, costs_at, IsCosted}
+use Rattle.simplex_core.specs.ColumnBuilding.{AreColumns, HasSides, with_entry, entries_at, with_units, with_cost_columns, costs_at, IsCosted}
 use Rattle.sparse_columns.proofs.Lookups.{alone-here, alone-other}
 use Rattle.simplex_core.proofs.Searches.{last_or_before}
 use Rattle.simplex_core.proofs.Invariant.{same_or_other}
@@ -142,8 +142,8 @@ costs-more xs n m c g first second x y are outside is costed =
         go (inr l) = choose-above j (c + 1) _ (pos 0) (omega arith) ∙ sym (choose-above j c _ (pos 0) l)
 
 -- one more right side is put
-pub sides-more : (x y : Column) (right : List ℤ) (k : ℕ) → AreSides x right k → PutsNumerator x y k (sign_of (slice_index_or right k (pos 0)) *ℤ slice_index_or right k (pos 0))
-    → AreSides y right (k + 1)
+pub sides-more : (x y : Column) (right : List ℤ) (k : ℕ) → HasSides x right k → PutsNumerator x y k (sign_of (slice_index_or right k (pos 0)) *ℤ slice_index_or right k (pos 0))
+    → HasSides y right (k + 1)
 sides-more x y right k sides puts = record {
   numbers = λ i l. go i (last_or_before k i (omega arith));
   others = λ i l.

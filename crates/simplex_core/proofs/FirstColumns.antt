@@ -19,7 +19,7 @@ use Rattle.simplex_core.specs.Problem.{entry_value, program_of, IsProper}
 use Rattle.simplex_core.specs.Positions.{InTable}
 use Rattle.simplex_core.specs.Building.{signed_entries, with_equations, with_costs, cost_number}
 use Rattle.simplex_core.specs.ColumnTables.{ShowsColumns, IsKept}
-use Rattle.simplex_core.specs.ColumnBuilding.{AreColumns, AreSides, entries_at, with_units, with_cost_columns, costs_at}
+use Rattle.simplex_core.specs.ColumnBuilding.{AreColumns, HasSides, entries_at, with_units, with_cost_columns, costs_at}
 use Rattle.simplex_core.proofs.Invariant.{same_or_other}
 use Rattle.simplex_core.proofs.Regions.{choose-below, choose-above, choose-same, choose-other}
 use Rattle.simplex_core.proofs.First.{first-is_tableau, first-scale, first-basis}
@@ -191,7 +191,7 @@ unit-entry q i j proper li above below = go (cases_lt i m) (same_or_other (j - n
 pub built-shows : (q : Problem) (table : ColumnTable) (es : List Entry) (sides first second : List ℤ) → IsProper q → table.rows ≡ q.rows → table.width ≡ q.cols
     → es ≡ q.entries.items → sides ≡ q.right.items → first ≡ q.first.items → second ≡ q.second.items
     → AreColumns table.columns.items (q.cols + q.rows) (with_units q.cols (with_cost_columns q.rows (entries_at es sides) first second q.cols))
-    → AreSides table.right q.right.items q.rows → ((i : ℕ) → i < q.rows → slice_index table.basis.items i ≡ q.cols + i)
+    → HasSides table.right q.right.items q.rows → ((i : ℕ) → i < q.rows → slice_index table.basis.items i ≡ q.cols + i)
     → IsKept table → ShowsColumns (program_of q) table (first_tableau (program_of q))
 built-shows q table es sides first second proper em en ee er ef ed are right basis beside = record {
   rows = em ∙ sym rows;

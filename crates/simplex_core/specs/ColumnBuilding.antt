@@ -42,7 +42,7 @@ abbrev pub with_units : ℕ → (ℕ → ℕ → ℤ) → ℕ → ℕ → ℤ
 with_units n g i j = if nat_lt j n then g i j else alone (j - n) (pos 1) i
 
 -- the column has the first k right sides, with their signs
-pub record AreSides (column : Column) (right : List ℤ) (k : ℕ) : Type 0 where
+pub record HasSides (column : Column) (right : List ℤ) (k : ℕ) : Type 0 where
   pub numbers : (i : ℕ) → i < k
       → numerator column i ≡ sign_of (slice_index_or right i (pos 0)) *ℤ slice_index_or right i (pos 0)
   pub others : (i : ℕ) → k ≤ i → numerator column i ≡ pos 0

@@ -9,7 +9,7 @@ ghost use Rattle.simplex_core.specs.Numbers.{AreNumbersSmall, AreEntriesBelow, A
 ghost use Rattle.simplex_core.specs.Sizes.{number_limit};
 ghost use Rattle.simplex_core.specs.ColumnTables.{ShowsColumns};
 ghost use Rattle.simplex_core.specs.ColumnBuilding.{AreColumns, entries_at, with_entry, with_cost_columns, with_units};
-ghost use Rattle.simplex_core.specs.ColumnBuilding.{AreSides, IsCosted};
+ghost use Rattle.simplex_core.specs.ColumnBuilding.{HasSides, IsCosted};
 
 use crate::arithmetic::signed;
 use crate::column_table::ColumnTable;
@@ -208,7 +208,7 @@ fn push_units(alloc: Global, columns: &mut Vec<Column>, rows: u32) -> Result<boo
 fn right_column(alloc: Global, right: &[i128]) -> Result<Option<Column>, AllocError>
     requires length { length right.now < 2 ^ 31 }
     requires small { AreNumbersSmall right.now }
-    ensures { IfOk result (λ found. IfSome found (λ column. AreSides column right.now (length right.now))) }
+    ensures { IfOk result (λ found. IfSome found (λ column. HasSides column right.now (length right.now))) }
 {
     let mut column = Column::zeros(alloc);
     for row in 0..right.len() {

@@ -1,7 +1,7 @@
 use Rattle.std.proofs.Common.{rules, ◌≡◌, arith, replicate, false, ℕ, ◌+◌, ap, ◌∙◌, sym, subst, length, Option, refl, List}
 use Rattle.std.specs.Prelude.{ℤ, IfSome}
 use Rattle.sparse_columns.specs.declared.column.Column.{Column}
-use Rattle.simplex_core.specs.ColumnBuilding.{AreColumns, AreSides, entries_at, with_cost_columns, with_units}
+use Rattle.simplex_core.specs.ColumnBuilding.{AreColumns, HasSides, entries_at, with_cost_columns, with_units}
 use Rattle.simplex_core.specs.ColumnListing.{AreListed}
 use Rattle.simplex_core.proofs.ColumnListings.{blank-none}
 use Rattle.simplex_core.proofs.ColumnTableLaws.{not_negative-none}
@@ -58,11 +58,11 @@ returns c =
     let units = c.in_ok-push_units.ensures c.if-not-branch-3.false (length c.as_slice-3.result.now) _ costs in
     let all = subst (λ (n : ℕ). AreColumns c.push_units.new.columns.items (n + q.rows)
     (with_units n (with_cost_columns q.rows (entries_at c.as_slice.result.now c.as_slice-2.result.now) c.as_slice-3.result.now c.as_slice-4.result.now n))) size units in
-    let told : AreSides c.in-Some.right c.as_slice-5.result.now (length c.as_slice-5.result.now) =
-    subst (λ (o : Option Column). IfSome o (λ x. AreSides x c.as_slice-5.result.now (length c.as_slice-5.result.now))) c.in-Some.is c.in_ok-right.ensures in
-    let sides : AreSides c.in-Some.right q.right.items q.rows =
-    subst (λ (n : ℕ). AreSides c.in-Some.right q.right.items n) c.requires.proper.right
-    (subst (λ (xs : List ℤ). AreSides c.in-Some.right xs (length xs)) c.as_slice-5.ensures.value told) in
+    let told : HasSides c.in-Some.right c.as_slice-5.result.now (length c.as_slice-5.result.now) =
+    subst (λ (o : Option Column). IfSome o (λ x. HasSides x c.as_slice-5.result.now (length c.as_slice-5.result.now))) c.in-Some.is c.in_ok-right.ensures in
+    let sides : HasSides c.in-Some.right q.right.items q.rows =
+    subst (λ (n : ℕ). HasSides c.in-Some.right q.right.items n) c.requires.proper.right
+    (subst (λ (xs : List ℤ). HasSides c.in-Some.right xs (length xs)) c.as_slice-5.ensures.value told) in
     built-shows q _ c.as_slice.result.now c.as_slice-2.result.now c.as_slice-3.result.now c.as_slice-4.result.now c.requires.proper refl refl
     c.as_slice.ensures.value c.as_slice-2.ensures.value c.as_slice-3.ensures.value c.as_slice-4.ensures.value all sides c.in_ok-basis.ensures.each
     (record {

@@ -4,7 +4,7 @@ use Rattle.std.specs.Prelude.{ℤ, pos, ◌*ℤ◌, slice_index_or, FitsSigned}
 use Rattle.std.proofs.lemmas.Int.{to_z-of_z}
 use Rattle.sparse_columns.specs.Columns.{PutsNumerator}
 use Rattle.simplex_core.specs.Tableau.{sign_of}
-use Rattle.simplex_core.specs.ColumnBuilding.{AreSides}
+use Rattle.simplex_core.specs.ColumnBuilding.{HasSides}
 use Rattle.simplex_core.proofs.ColumnLists.{sides-more}
 use Rattle.simplex_core.proofs.column_table.first.right_column.Goals as goal
 
@@ -26,4 +26,4 @@ returns c =
     let end = c.loop-row.auto.row-end in
     let done = c.loop-row-test.false in
     let all : c.loop-row.row ≡ length c.args.right.now = omega (arith, end, done) in
-    subst (λ (m : ℕ). AreSides c.loop-row.column c.args.right.now m) all c.loop-row.invariant
+    subst (λ (m : ℕ). HasSides c.loop-row.column c.args.right.now m) all c.loop-row.invariant
