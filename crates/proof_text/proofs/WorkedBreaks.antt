@@ -100,6 +100,7 @@ cuts = record {
   over_127 = refl;
   largest_byte = refl;
   places = refl;
+  dots = refl;
   closed = refl;
   behind_bound = refl;
   ended = refl;

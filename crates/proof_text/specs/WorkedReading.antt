@@ -13,6 +13,7 @@ use Rattle.proof_pieces.specs.declared.piece.Piece.TheVariants.{First, Name, Num
 use Rattle.proof_pieces.specs.declared.piece.Piece.TheVariants.{Wrong}
 use Rattle.proof_pieces.specs.Grammar.{proof_grammar}
 use Rattle.proof_pieces.specs.Lexing.{tokens}
+use Rattle.its_model.specs.model.Programs.{Program}
 use Rattle.proof_text.specs.Worked.{counting}
 
 -- texts of the grammar, with nothing against their tokens, which all stand for the same
@@ -41,6 +42,15 @@ IsRead bytes = ComesTo bytes (Stands tt)
 abbrev pub BreaksOffAt : List ℕ → ℕ → Type 0
 BreaksOffAt bytes at = ComesTo bytes (Refused (record { kind = 1; at = at }))
 
+-- a program whose symbols have dots in their names
+abbrev pub dotted : Program
+dotted = record {
+  symbols = record { name = codes "a.b"; arity = 1 } ∷ record { name = codes "a."; arity = 2 } ∷ [];
+  start = 0;
+  start_names = codes "A" ∷ [];
+  rules = [];
+}
+
 -- how bytes are cut
 pub record CutsAreWorkedOut : Type 0 where
   -- the first word, and longer ones; elsewhere it is a name and a `-`
@@ -65,6 +75,12 @@ pub record CutsAreWorkedOut : Type 0 where
       ∷ Place 1 (behind.Number 1) ∷ ASign sign.Blank ∷ Place 0 behind.Nothing ∷ ASign sign.Blank
       ∷ Place 0 behind.LeadingZero ∷ ASign sign.Blank ∷ Place 2 behind.NoNumber ∷ ASign sign.CloseSquare
       ∷ ASign sign.Blank ∷ Name word.Other 2 ∷ [])
+  -- the longest name counts, with its dots; among places that are shut the place stands behind its last dot
+  pub dots : pieces (tokens dotted (codes "a.b a. a.b.1 shut [a.b.1 a..2 a.b a.1]"))
+      ≡ Name word.Other 0 ∷ ASign sign.Blank ∷ Name word.Other 1 ∷ ASign sign.Blank ∷ Name word.Other 2 ∷ ASign sign.Blank
+      ∷ Name word.Shut 2 ∷ ASign sign.Blank ∷ ASign sign.OpenSquare ∷ Place 0 (behind.Number 1) ∷ ASign sign.Blank
+      ∷ Place 1 (behind.Number 2) ∷ ASign sign.Blank ∷ Place 0 behind.NoNumber ∷ ASign sign.Blank
+      ∷ Place 2 (behind.Number 1) ∷ ASign sign.CloseSquare ∷ []
   -- a bound behind `) to `, up to a bracket that closes none of its own
   pub closed : IsCutInto (codes ") to 2^(A))")
       (ASign sign.Close ∷ ASign sign.Blank ∷ Name word.To 2 ∷ ASign sign.Blank

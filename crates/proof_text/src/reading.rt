@@ -31,9 +31,9 @@ use text_grammar::{Cut, Tables, read as read_tokens};
 /// at the first token that can't follow, or at the text's length where it ends too early; at `cost` where the first
 /// line has a 1, and at `end` where it has a 2 and no node is on costs. `NumberTooLarge` stands at a number over 2^55
 /// in absolute value, or over 2^45 in a gap. `TooDeep` stands at a node at level 65, `BadReference` at the number or
-/// the name of what there isn't, and `Limit` at lemma 100,001 or gap 1,001. In a bound `Syntax`, `NumberTooLarge` and
-/// `Limit` stand as where it is read alone, and a part at level 201 is `TooDeep` at its first byte. `Memory` comes
-/// where memory ran out.
+/// the name of what there isn't, a cited lemma that is no earlier one among it, and `Limit` at lemma 100,001 or gap
+/// 1,001. In a bound `Syntax`, `NumberTooLarge` and `Limit` stand as where it is read alone, and a part at level 201 is
+/// `TooDeep` at its first byte. `Memory` comes where memory ran out.
 pub fn read(alloc: Global, p: &Program, bytes: &[u8]) -> Result<ProofFile, ProofTextError>
     requires { IsValid (program_of p.now) }
     ensures answer { Answers (program_of p.now) bytes.now result }
