@@ -10,12 +10,16 @@ pub mod ProgramMembers
 pub mod SpreadAnswers
 -- the members after one rule
 pub mod MembersAfter
+-- lists of the members after each rule
+pub mod RuleLists
 -- the graph and the limits of a member of a loop
 pub mod LoopMembers
 -- parts that are joined
 pub mod JoinedParts
 -- what flows into members
 pub mod LoopFlows
+-- how often arms take members
+pub mod Slopes
 -- what the rules of a loop do
 pub mod LoopParts
 -- the flows of one rule

@@ -71,6 +71,12 @@ other-rule a b v n = go (a == b) refl
     go true e = absurd (n (grind (arith, nat_tests)))
     go false e = refl
 
+-- after a rule that none of the members has there are none
+pub none-after : (ms : List Member) (rule j : ℕ) → AllWithin (λ (m : Member). ¬ (m.spot.rule ≡ rule)) ms 0 (length ms)
+    → is_member (map member_of ms) rule j ≡ false
+none-after ms rule j h = sym (any-none (λ m. (m.spot.rule == rule) && (m.spot.place == suc j)) ms (λ k d l n.
+    other-rule (get_or ms k d).spot.rule rule ((get_or ms k d).spot.place == suc j) (h k d l n)))
+
 -- the members but for those after lesser rules, and of these those that aren't after greater ones
 pub behind-lesser : (ms : List Member) (rule i : ℕ) → AllWithin (λ (m : Member). m.spot.rule < rule) ms 0 i
     → is_member (map member_of (drop i ms)) rule ≡ is_member (map member_of ms) rule

@@ -4,7 +4,6 @@ ghost use Rattle.std.specs.Prelude.{◌≡◌, ◌<◌, ◌^◌, map, All, optio
 ghost use Rattle.std.specs.List.{list_any};
 ghost use Rattle.model.specs.Programs.{Program};
 ghost use Rattle.poly_terms.specs.Views.{monomial_of};
-ghost use Rattle.proof_tree.specs.proof_nodes.AcceptsSizes.{AreAscending};
 ghost use Rattle.proof_tree.specs.proof_nodes.ComposedSizes.{is_member};
 ghost use Rattle.proof_tree.specs.proof_setting.Setting.{setting_of};
 ghost use Rattle.proof_tree.specs.Composing.{optional_poly, HasFewVariables, HasFewPlaces};
@@ -13,7 +12,7 @@ ghost use Rattle.size_nodes.specs.BentArms.{is_bent_arm, is_bent_from, is_bent_o
 ghost use Rattle.size_nodes.specs.BentArms.{first_bent as first_bent_of};
 ghost use Rattle.size_nodes.specs.Members.{IsMemberIn, AreMembersIn};
 
-use crate::members::members_after;
+use crate::members::Cycle;
 use crate::setting::Setting;
 use crate::updates::poly_at;
 use poly_terms::{Monomial, Poly};
@@ -59,30 +58,24 @@ fn is_bent(arm: &Arm, poly: Option<&Poly>, members: &[Member], rule: u32) -> boo
     }
 }
 
-// Whether one of both arms is. Of the members, which ascend, only those after the rule are looked at.
-fn is_bent_bound(local: &LocalBound, poly: Option<&Poly>, members: &[Member], rule: u32) -> bool
-    requires ascending { AreAscending (map member_of members.now) }
-    requires few { HasFewPlaces poly }
-    ensures { result ≡ is_bent_from (optional_poly poly.entry) (map member_of members.now) (local_of local.now) rule }
+// Whether one of both arms is, after a rule. Of the members only those after it are looked at.
+fn is_bent_bound(local: &LocalBound, poly: Option<&Poly>, cycle: &Cycle, rule: u32) -> bool
+    requires { HasFewPlaces poly }
+    ensures { result ≡ is_bent_from (optional_poly poly.entry) (map member_of cycle.now.members.now)
+        (local_of local.now) rule }
 {
-    let inside = members_after(members, rule);
+    let inside = cycle.after(rule);
     is_bent(&local.up, poly, inside, rule) || is_bent(&local.low, poly, inside, rule)
 }
 
 // Whether one of both arms is, after one of these rules.
-fn is_bent_after(
-    local: &LocalBound,
-    poly: Option<&Poly>,
-    members: &[Member],
-    before: &[u32],
-) -> bool
-    requires ascending { AreAscending (map member_of members.now) }
-    requires few { HasFewPlaces poly }
-    ensures { result ≡ is_bent_over (optional_poly poly.entry) (map member_of members.now) (local_of local.now)
-        before.now }
+fn is_bent_after(local: &LocalBound, poly: Option<&Poly>, cycle: &Cycle, before: &[u32]) -> bool
+    requires { HasFewPlaces poly }
+    ensures { result ≡ is_bent_over (optional_poly poly.entry) (map member_of cycle.now.members.now)
+        (local_of local.now) before.now }
 {
     for rule in before {
-        let is_here = is_bent_bound(local, poly, members, *rule);
+        let is_here = is_bent_bound(local, poly, cycle, *rule);
         if is_here {
             return true;
         }
@@ -91,30 +84,29 @@ fn is_bent_after(
 }
 
 // Whether one of both arms of a member is, after what can come before it.
-fn is_bent_member(setting: &Setting, members: &[Member], member: &Member) -> bool
-    requires ascending { AreAscending (map member_of members.now) }
-    requires given { (p : Program) × IsMemberIn p setting.now (member_of member.now) }
+fn is_bent_member(setting: &Setting, cycle: &Cycle, member: &Member) -> bool
+    requires { (p : Program) × IsMemberIn p setting.now (member_of member.now) }
     ensures { (p : Program) → IsMemberIn p setting.now (member_of member.now)
-        → result ≡ is_bent_by (setting_of p) (map member_of members.now) (member_of member.now) }
+        → result ≡ is_bent_by (setting_of p) (map member_of cycle.now.members.now) (member_of member.now) }
 {
     let poly = poly_at(setting.rows, member.spot);
     is_bent_after(
         &member.local,
         poly,
-        members,
+        cycle,
         setting.graph.pre(member.spot.rule),
     )
 }
 
 /// The first member with a polynomial arm that reads a member, after what can come before it.
-pub(crate) fn first_bent(setting: &Setting, members: &[Member]) -> Option<Spot>
-    requires { (p : Program) × AreMembersIn p setting.now (map member_of members.now) }
-    ensures { (p : Program) → AreMembersIn p setting.now (map member_of members.now)
-        → option_map spot_of result ≡ first_bent_of (setting_of p) (map member_of members.now) (map member_of
-        members.now) }
+pub(crate) fn first_bent(setting: &Setting, cycle: &Cycle) -> Option<Spot>
+    requires { (p : Program) × AreMembersIn p setting.now (map member_of cycle.now.members.now) }
+    ensures { (p : Program) → AreMembersIn p setting.now (map member_of cycle.now.members.now)
+        → option_map spot_of result ≡ first_bent_of (setting_of p) (map member_of cycle.now.members.now) (map member_of
+        cycle.now.members.now) }
 {
-    for member in members {
-        let is_here = is_bent_member(setting, members, member);
+    for member in cycle.members {
+        let is_here = is_bent_member(setting, cycle, member);
         if is_here {
             return Some(member.spot);
         }

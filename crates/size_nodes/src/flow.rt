@@ -8,7 +8,6 @@ ghost use Rattle.model.specs.Paths.{pre};
 ghost use Rattle.proof_tree.specs.proof_nodes.ComposedSizes.{inner_sum as inner_sum_of, is_member, slope_of};
 ghost use Rattle.proof_tree.specs.proof_nodes.ComposedSizes.{flows_from};
 ghost use Rattle.proof_tree.specs.proof_nodes.ComposedSizes.{flows};
-ghost use Rattle.proof_tree.specs.proof_nodes.AcceptsSizes.{AreAscending};
 ghost use Rattle.proof_tree.specs.proof_nodes.Limits.{IsInLimit};
 ghost use Rattle.proof_tree.specs.proof_nodes.Numbers.{rounded_up};
 ghost use Rattle.proof_tree.specs.proof_setting.Setting.{setting_of};
@@ -18,7 +17,7 @@ ghost use Rattle.proof_tree.specs.Views.{arm_of, member_of};
 ghost use Rattle.size_nodes.specs.Flows.{IsLimited, flow_of, flow_over, flows_over};
 ghost use Rattle.size_nodes.specs.Members.{IsMemberIn, AreMembersIn};
 
-use crate::members::members_after;
+use crate::members::Cycle;
 use crate::setting::Setting;
 use crate::updates::poly_at;
 use bound_expr::{Bound, Memory};
@@ -39,9 +38,16 @@ pub(crate) struct Flow {
 
 /// What the arms of a loop's members read: the bounds that are known outside of it, and the members.
 #[derive(Drop)]
-pub(crate) struct Scope<'a, K> {
+pub(crate) struct Scope<'a, 'b, K> {
     pub known: &'a K,
-    pub members: &'a [Member],
+    pub cycle: &'a Cycle<'b>,
+}
+
+// A rule before a member, with the members that are places after it.
+#[derive(Clone, Copy)]
+struct Source<'a> {
+    rule: u32,
+    members: &'a [Member],
 }
 
 // The member that flows come into, with the update of its place where that has degree 2 or more.
@@ -52,12 +58,16 @@ struct Sink<'a> {
 }
 
 // The coefficient of a place over the denominator, rounded up, where the place is a member.
+#[tactic(auto, using(crate::proofs::Slopes::zero_inner))]
 fn inner(coef: &i64, den: u64, members: &[Member], rule: u32, place: u32) -> u64
     requires over { 1 ≤ den }
     requires limit { IsInLimit (nat_abs coef.now) }
     ensures sum { result ≡ cond (is_spot (map member_of members.now) rule place) (rounded_up (nat_abs coef.now) den) 0 }
     ensures limit { result ≤ certificate_limit }
 {
+    if *coef == 0 {
+        return 0;
+    }
     if has_spot(members, rule, place) {
         rounded_coefficient(coef, den) as u64
     } else {
@@ -81,62 +91,65 @@ fn inner_sum(coefs: &[i64], den: u64, members: &[Member], rule: u32, place: u32)
 }
 
 // How often an arm takes the members, after a rule.
-fn slope(arm: &Arm, members: &[Member], rule: u32) -> u64
+#[tactic(auto, using(crate::proofs::Slopes::outer_slope))]
+fn slope(arm: &Arm, source: &Source) -> u64
     requires { IsLimited arm.now }
-    ensures { result ≡ slope_of (arm_of arm.now) (is_member (map member_of members.now) rule) }
+    ensures { result ≡ slope_of (arm_of arm.now) (is_member (map member_of source.now.members.now) source.now.rule) }
 {
+    if source.members.is_empty() {
+        return 0;
+    }
     match arm {
-        Arm::Linear { den, coefs, .. } => inner_sum(coefs, *den, members, rule, 1),
+        Arm::Linear { den, coefs, .. } => inner_sum(coefs, *den, source.members, source.rule, 1),
         Arm::Poly => 0,
     }
 }
 
-// What flows into a member by an arm from a rule.
+// What flows into a member by an arm from a rule before.
 fn flow_by<K: Known>(
     alloc: Global,
-    scope: &Scope<K>,
+    known: &K,
     sink: &Sink,
     arm: &Arm,
-    rule: u32,
+    source: &Source,
 ) -> Result<Flow, Memory>
     requires limited { IsLimited arm.now }
     requires few { HasFewPlaces sink.now.poly }
     ensures { IfOk result (λ f. flow_of f ≡ flow_over (optional_poly sink.now.poly)
-        (map member_of scope.now.members.now) (K.table scope.now.known.now).size (member_of sink.now.member.now)
-        (arm_of arm.now) rule) }
+        (map member_of source.now.members.now) (K.table known.now).size (member_of sink.now.member.now)
+        (arm_of arm.now) source.now.rule) }
 {
-    let offset = arm_bound(alloc, arm, sink.poly, scope.known, rule, scope.members)?;
+    let offset = arm_bound(alloc, arm, sink.poly, known, source.rule, source.members)?;
     Ok(Flow {
         rule: sink.member.spot.rule,
-        slope: slope(arm, scope.members, rule),
+        slope: slope(arm, source),
         offset,
     })
 }
 
-// Pushes what flows into a member from a rule, up before low.
+// Pushes what flows into a member from a rule before, up before low.
 fn push_both<K: Known>(
     alloc: Global,
     flows: &mut Vec<Flow>,
-    scope: &Scope<K>,
+    known: &K,
     sink: &Sink,
-    rule: u32,
+    source: &Source,
 ) -> Result<(), Memory>
     requires up { IsLimited sink.now.member.now.local.up }
     requires low { IsLimited sink.now.member.now.local.low }
     requires few { HasFewPlaces sink.now.poly }
     ensures { OnOk result (map flow_of flows.new.items ≡ map flow_of flows.old.items
-        ++ flows_over (optional_poly sink.now.poly) (map member_of scope.now.members.now)
-        (K.table scope.now.known.now).size (member_of sink.now.member.now) (rule ∷ [])) }
+        ++ flows_over (optional_poly sink.now.poly) (map member_of source.now.members.now)
+        (K.table known.now).size (member_of sink.now.member.now) (source.now.rule ∷ [])) }
 {
-    let up = flow_by(alloc, scope, sink, &sink.member.local.up, rule)?;
+    let up = flow_by(alloc, known, sink, &sink.member.local.up, source)?;
     flows.push(up)?;
-    let low = flow_by(alloc, scope, sink, &sink.member.local.low, rule)?;
+    let low = flow_by(alloc, known, sink, &sink.member.local.low, source)?;
     flows.push(low)?;
     Ok(())
 }
 
-// Pushes what flows into a member from these rules. Of the members, which ascend, only those after the rule before are
-// looked at.
+// Pushes what flows into a member from these rules. Of the members only those after the rule before are looked at.
 fn push_flows<K: Known>(
     alloc: Global,
     flows: &mut Vec<Flow>,
@@ -144,20 +157,19 @@ fn push_flows<K: Known>(
     sink: &Sink,
     before: &[u32],
 ) -> Result<(), Memory>
-    requires ascending { AreAscending (map member_of scope.now.members.now) }
     requires up { IsLimited sink.now.member.now.local.up }
     requires low { IsLimited sink.now.member.now.local.low }
     requires few { HasFewPlaces sink.now.poly }
     ensures { OnOk result (map flow_of flows.new.items ≡ map flow_of flows.old.items
-        ++ flows_over (optional_poly sink.now.poly) (map member_of scope.now.members.now)
+        ++ flows_over (optional_poly sink.now.poly) (map member_of scope.now.cycle.now.members.now)
         (K.table scope.now.known.now).size (member_of sink.now.member.now) before.now) }
 {
     for rule in before {
-        let inside = Scope {
-            known: scope.known,
-            members: members_after(scope.members, *rule),
+        let source = Source {
+            rule: *rule,
+            members: scope.cycle.after(*rule),
         };
-        push_both(alloc, flows, &inside, sink, *rule)?;
+        push_both(alloc, flows, scope.known, sink, &source)?;
     }
     Ok(())
 }
@@ -170,11 +182,10 @@ fn push_flows_into<K: Known>(
     scope: &Scope<K>,
     member: &Member,
 ) -> Result<(), Memory>
-    requires ascending { AreAscending (map member_of scope.now.members.now) }
-    requires given { (p : Program) × IsMemberIn p setting.now (member_of member.now) }
+    requires { (p : Program) × IsMemberIn p setting.now (member_of member.now) }
     ensures { OnOk result ((p : Program) → IsMemberIn p setting.now (member_of member.now)
         → map flow_of flows.new.items ≡ map flow_of flows.old.items ++ flows_from (setting_of p)
-        (map member_of scope.now.members.now) (K.table scope.now.known.now).size (member_of member.now)
+        (map member_of scope.now.cycle.now.members.now) (K.table scope.now.known.now).size (member_of member.now)
         (pre p member.now.spot.rule)) }
 {
     let poly = poly_at(setting.rows, member.spot);
@@ -192,13 +203,14 @@ pub(crate) fn flows_in<K: Known>(
     setting: &Setting,
     scope: &Scope<K>,
 ) -> Result<Vec<Flow>, Memory>
-    requires { (p : Program) × AreMembersIn p setting.now (map member_of scope.now.members.now) }
-    ensures { IfOk result (λ fs. (p : Program) → AreMembersIn p setting.now (map member_of scope.now.members.now)
-        → map flow_of fs.items ≡ flows (setting_of p) (map member_of scope.now.members.now)
+    requires { (p : Program) × AreMembersIn p setting.now (map member_of scope.now.cycle.now.members.now) }
+    ensures { IfOk result (λ fs. (p : Program)
+        → AreMembersIn p setting.now (map member_of scope.now.cycle.now.members.now)
+        → map flow_of fs.items ≡ flows (setting_of p) (map member_of scope.now.cycle.now.members.now)
         (K.table scope.now.known.now).size) }
 {
     let mut flows = Vec::new(alloc);
-    for member in scope.members {
+    for member in scope.cycle.members {
         push_flows_into(alloc, &mut flows, setting, scope, member)?;
     }
     Ok(flows)

@@ -3,14 +3,13 @@
 ghost use Rattle.std.specs.Prelude.{◌≡◌, ℕ, ◌<◌, ◌≤◌, ◌^◌, [], ◌∷◌, ◌++◌, not, length, map, All, IfOk, OnOk};
 ghost use Rattle.model.specs.Programs.{Program};
 ghost use Rattle.model.specs.Paths.{pre};
-ghost use Rattle.proof_tree.specs.proof_nodes.AcceptsSizes.{AreAscending};
 ghost use Rattle.proof_tree.specs.proof_nodes.Checks.{needed_from, needed_into};
 ghost use Rattle.proof_tree.specs.proof_setting.Setting.{setting_of};
 ghost use Rattle.proof_tree.specs.Views.{member_of, spot_of};
 ghost use Rattle.size_nodes.specs.Needs.{spots_outside, spots_from};
 ghost use Rattle.size_nodes.specs.Members.{IsMemberIn, AreMembersIn};
 
-use crate::members::members_after;
+use crate::members::Cycle;
 use crate::setting::Setting;
 use crate::updates::poly_at;
 use bound_expr::Memory;
@@ -54,19 +53,18 @@ fn push_each(
     Ok(())
 }
 
-// So where the members ascend: only those after the rule are looked at.
+// So for the members of a loop: only those after the rule are looked at.
 fn push_outside(
     spots: &mut Vec<Spot>,
     rule: u32,
     places: &[u32],
-    members: &[Member],
+    cycle: &Cycle,
 ) -> Result<(), Memory>
-    requires few { All (λ j. j < 2 ^ 31) places.now }
-    requires ascending { AreAscending (map member_of members.now) }
+    requires { All (λ j. j < 2 ^ 31) places.now }
     ensures { OnOk result (map spot_of spots.new.items
-        ≡ map spot_of spots.old.items ++ spots_outside (map member_of members.now) rule places.now) }
+        ≡ map spot_of spots.old.items ++ spots_outside (map member_of cycle.now.members.now) rule places.now) }
 {
-    push_each(spots, rule, places, members_after(members, rule))
+    push_each(spots, rule, places, cycle.after(rule))
 }
 
 // So after each of these rules: the places of the up arm before those of the low arm.
@@ -75,17 +73,16 @@ fn push_from(
     up: &[u32],
     low: &[u32],
     before: &[u32],
-    members: &[Member],
+    cycle: &Cycle,
 ) -> Result<(), Memory>
     requires up { All (λ j. j < 2 ^ 31) up.now }
     requires low { All (λ j. j < 2 ^ 31) low.now }
-    requires ascending { AreAscending (map member_of members.now) }
     ensures { OnOk result (map spot_of spots.new.items
-        ≡ map spot_of spots.old.items ++ spots_from (map member_of members.now) up.now low.now before.now) }
+        ≡ map spot_of spots.old.items ++ spots_from (map member_of cycle.now.members.now) up.now low.now before.now) }
 {
     for rule in before {
-        push_outside(spots, *rule, up, members)?;
-        push_outside(spots, *rule, low, members)?;
+        push_outside(spots, *rule, up, cycle)?;
+        push_outside(spots, *rule, low, cycle)?;
     }
     Ok(())
 }
@@ -101,22 +98,21 @@ pub(crate) fn push_needed(
     spots: &mut Vec<Spot>,
     setting: &Setting,
     m: &Member,
-    members: &[Member],
+    cycle: &Cycle,
 ) -> Result<(), Memory>
-    requires given { (p : Program) × IsMemberIn p setting.now (member_of m.now) }
-    requires ascending { AreAscending (map member_of members.now) }
+    requires { (p : Program) × IsMemberIn p setting.now (member_of m.now) }
     ensures { OnOk result ((p : Program) → IsMemberIn p setting.now (member_of m.now)
         → map spot_of spots.new.items ≡ map spot_of spots.old.items
-        ++ needed_from (setting_of p) (map member_of members.now) (member_of m.now) (pre p m.now.spot.rule)) }
+        ++ needed_from (setting_of p) (map member_of cycle.now.members.now) (member_of m.now) (pre p m.now.spot.rule)) }
 {
     let poly = poly_at(setting.rows, m.spot);
     let left = setting.rows[m.spot.rule as usize - 1].left;
     let up = places_read(alloc, &m.local.up, poly, left)?;
     let low = places_read(alloc, &m.local.low, poly, left)?;
-    push_from(spots, &up, &low, setting.graph.pre(m.spot.rule), members)
+    push_from(spots, &up, &low, setting.graph.pre(m.spot.rule), cycle)
 }
 
-/// The sizes that these members need from outside, after what can come before each.
+/// The sizes that the members of a loop need from outside, after what can come before each.
 ///
 /// # Errors
 ///
@@ -124,16 +120,36 @@ pub(crate) fn push_needed(
 pub(crate) fn needed_spots(
     alloc: Global,
     setting: &Setting,
-    members: &[Member],
+    cycle: &Cycle,
 ) -> Result<Vec<Spot>, Memory>
-    requires { (p : Program) × AreMembersIn p setting.now (map member_of members.now) }
-    ensures { IfOk result (λ spots. (p : Program) → AreMembersIn p setting.now (map member_of members.now)
+    requires { (p : Program) × AreMembersIn p setting.now (map member_of cycle.now.members.now) }
+    ensures { IfOk result (λ spots. (p : Program) → AreMembersIn p setting.now (map member_of cycle.now.members.now)
         → map spot_of spots.items
-        ≡ needed_into (setting_of p) (map member_of members.now) (map member_of members.now)) }
+        ≡ needed_into (setting_of p) (map member_of cycle.now.members.now) (map member_of cycle.now.members.now)) }
 {
     let mut spots = Vec::new(alloc);
-    for m in members {
-        push_needed(alloc, &mut spots, setting, m, members)?;
+    for m in cycle.members {
+        push_needed(alloc, &mut spots, setting, m, cycle)?;
     }
+    Ok(spots)
+}
+
+/// The sizes that a member alone needs, which is in no loop.
+///
+/// # Errors
+///
+/// `Memory` where an allocation fails.
+pub(crate) fn needed_alone(
+    alloc: Global,
+    setting: &Setting,
+    m: &Member,
+) -> Result<Vec<Spot>, Memory>
+    requires { (p : Program) × IsMemberIn p setting.now (member_of m.now) }
+    ensures { IfOk result (λ spots. (p : Program) → IsMemberIn p setting.now (member_of m.now)
+        → map spot_of spots.items ≡ needed_into (setting_of p) [] (member_of m.now ∷ [])) }
+{
+    let nothing = Cycle::new(alloc, &[])?;
+    let mut spots = Vec::new(alloc);
+    push_needed(alloc, &mut spots, setting, m, &nothing)?;
     Ok(spots)
 }

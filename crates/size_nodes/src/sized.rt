@@ -11,15 +11,16 @@ ghost use Rattle.proof_tree.specs.Views.{member_of, spot_of};
 ghost use Rattle.size_nodes.specs.Flows.{flow_of};
 ghost use Rattle.size_nodes.specs.Growths.{growth_of, growth_by_flows};
 ghost use Rattle.size_nodes.specs.Needs.{first_missing as first_missing_of};
-ghost use Rattle.size_nodes.specs.Members.{IsMemberOfProgram, IsMemberIn, AreMembersOfProgram};
+ghost use Rattle.size_nodes.specs.Members.{IsMemberOfProgram, IsMemberIn, AreMembersOfProgram, AreMembersIn};
 ghost use Rattle.size_nodes.specs.Sizings.{IsSpreadSizing, IsCycleSizing, IsTimedSizing, IsLoopSizing, time_key};
 
 use crate::bent::first_bent;
 use crate::flow::{Flow, Scope, flows_in};
 use crate::growth::{FlowKind, Growth, growing_rules, growths_by, maximum_offset};
 use crate::loop_bound::loop_bound;
+use crate::members::Cycle;
 use crate::missing::{first_missing, first_untimed};
-use crate::needs::{needed_spots, push_needed};
+use crate::needs::{needed_alone, needed_spots};
 use crate::rules::rules_in;
 use crate::setting::Setting;
 use crate::sizing::Sizing;
@@ -54,8 +55,7 @@ pub fn sized_spread<K: Known>(
         graph: g,
         rows: preps,
     };
-    let mut needed = Vec::new(alloc);
-    push_needed(alloc, &mut needed, &setting, m, &[])?;
+    let needed = needed_alone(alloc, &setting, m)?;
     match first_missing(known, &needed) {
         Some(spot) => Ok(Sizing::Missing(spot)),
         None => sized_composed(alloc, &setting, known, m, needed),
@@ -113,15 +113,30 @@ pub fn sized_cycle<K: Known>(
         graph: g,
         rows: preps,
     };
-    let needed = needed_spots(alloc, &setting, members)?;
+    let cycle = Cycle::new(alloc, members)?;
+    sized_members(alloc, &setting, known, &cycle)
+}
+
+// So for the members by their rules.
+fn sized_members<K: Known>(
+    alloc: Global,
+    setting: &Setting,
+    known: &K,
+    cycle: &Cycle,
+) -> Result<Sizing, Memory>
+    requires { (p : Program) × AreMembersIn p setting.now (map member_of cycle.now.members.now) }
+    ensures { IfOk result (λ a. (p : Program) → AreMembersIn p setting.now (map member_of cycle.now.members.now)
+        → IsCycleSizing (setting_of p) (K.table known.now) (map member_of cycle.now.members.now) a) }
+{
+    let needed = needed_spots(alloc, setting, cycle)?;
     if let Some(spot) = first_missing(known, &needed) {
         return Ok(Sizing::Missing(spot));
     }
-    if let Some(spot) = first_bent(&setting, members) {
+    if let Some(spot) = first_bent(setting, cycle) {
         return Ok(Sizing::Bent(spot));
     }
-    let flows = flows_in(alloc, &setting, &Scope { known, members })?;
-    let rules = rules_in(alloc, members)?;
+    let flows = flows_in(alloc, setting, &Scope { known, cycle })?;
+    let rules = rules_in(alloc, cycle.members)?;
     sized_by_flows(alloc, known, needed, &flows, &rules)
 }
 

@@ -10,35 +10,32 @@ use Rattle.size_nodes.proofs.BentMembers.{bent-here, bent-later}
 use Rattle.size_nodes.proofs.bent.first_bent.Goals as goal
 
 pub is_bent_member-is_here-requires : goal.is_bent_member-is_here-requires
-is_bent_member-is_here-requires c = record {
-  ascending = c.requires.1.shape.ascending;
-  given = (
-    c.requires.0,
-    given_at c.requires.0 c.args.setting.now.graph.now c.args.setting.now.rows.now c.args.members.now
-        c.loop-member.member-index c.member-item.result c.requires.1 c.loop-member-test.true c.member-item.is,
-  );
-}
+is_bent_member-is_here-requires c = (
+  c.requires.0,
+  given_at c.requires.0 c.args.setting.now.graph.now c.args.setting.now.rows.now c.args.cycle.now.members.now
+      c.loop-member.member-index c.member-item.result c.requires.1 c.loop-member-test.true c.member-item.is,
+)
 
 pub returns-then-is_here : goal.returns-then-is_here
 returns-then-is_here c = λ p h.
     let given : IsMemberIn p c.args.setting.now (member_of c.member-item.result) =
-    given_at p c.args.setting.now.graph.now c.args.setting.now.rows.now c.args.members.now c.loop-member.member-index c.member-item.result h
+    given_at p c.args.setting.now.graph.now c.args.setting.now.rows.now c.args.cycle.now.members.now c.loop-member.member-index c.member-item.result h
     c.loop-member-test.true c.member-item.is in
-    bent-here (setting_of p) (map member_of c.args.members.now) c.args.members.now c.loop-member.member-index
+    bent-here (setting_of p) (map member_of c.args.cycle.now.members.now) c.args.cycle.now.members.now c.loop-member.member-index
     c.member-item.result c.loop-member-test.true c.member-item.is
     (sym (c.is_bent_member-is_here.ensures p given) ∙ c.if-is_here.true) (c.loop-member.invariant p h)
 
 pub loop-member-preserved : goal.loop-member-preserved
 loop-member-preserved c = λ p h.
     let given : IsMemberIn p c.args.setting.now (member_of c.member-item.result) =
-    given_at p c.args.setting.now.graph.now c.args.setting.now.rows.now c.args.members.now c.loop-member.member-index c.member-item.result h
+    given_at p c.args.setting.now.graph.now c.args.setting.now.rows.now c.args.cycle.now.members.now c.loop-member.member-index c.member-item.result h
     c.loop-member-test.true c.member-item.is in
-    bent-later (setting_of p) (map member_of c.args.members.now) c.args.members.now c.loop-member.member-index
+    bent-later (setting_of p) (map member_of c.args.cycle.now.members.now) c.args.cycle.now.members.now c.loop-member.member-index
     c.member-item.result c.loop-member-test.true c.member-item.is
     (sym (c.is_bent_member-is_here.ensures p given) ∙ c.if-is_here.false) (c.loop-member.invariant p h)
 
 pub returns : goal.returns
 returns c = λ p h.
-    let end : length c.args.members.now ≤ c.loop-member.member-index = omega (arith, c.loop-member-test.false) in
-    sym (ap (λ (ms : List Member). first_bent (setting_of p) (map member_of c.args.members.now) (map member_of ms))
-    (drop_all c.loop-member.member-index c.args.members.now end)) ∙ c.loop-member.invariant p h
+    let end : length c.args.cycle.now.members.now ≤ c.loop-member.member-index = omega (arith, c.loop-member-test.false) in
+    sym (ap (λ (ms : List Member). first_bent (setting_of p) (map member_of c.args.cycle.now.members.now) (map member_of ms))
+    (drop_all c.loop-member.member-index c.args.cycle.now.members.now end)) ∙ c.loop-member.invariant p h

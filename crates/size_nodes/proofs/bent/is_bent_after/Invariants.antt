@@ -6,5 +6,5 @@ use Rattle.size_nodes.proofs.bent.is_bent_after.Given as goal
 
 abbrev pub invariant-loop-rule : goal.invariant-loop-rule
 invariant-loop-rule l =
-    is_bent_over (optional_poly l.poly) (map member_of l.members) (local_of l.local) (drop l.rule-index l.before)
-    ≡ is_bent_over (optional_poly l.poly) (map member_of l.members) (local_of l.local) l.before
+    is_bent_over (optional_poly l.poly) (map member_of l.cycle.members.now) (local_of l.local) (drop l.rule-index l.before)
+    ≡ is_bent_over (optional_poly l.poly) (map member_of l.cycle.members.now) (local_of l.local) l.before

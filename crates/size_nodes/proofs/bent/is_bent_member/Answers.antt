@@ -5,16 +5,16 @@ use Rattle.size_nodes.proofs.LoopMembers.{linked}
 use Rattle.size_nodes.proofs.bent.is_bent_member.Goals as goal
 
 pub poly_at-poly-requires : goal.poly_at-poly-requires
-poly_at-poly-requires c = (c.requires.given.0, (c.requires.given.1.valid, (c.requires.given.1.rows, c.requires.given.1.shape.at)))
+poly_at-poly-requires c = (c.requires.0, (c.requires.1.valid, (c.requires.1.rows, c.requires.1.shape.at)))
 
 pub pre-requires : goal.pre-requires
 pre-requires c = record {
-  graph = (c.requires.given.0, c.requires.given.1.graph);
-  number = linked c.requires.given.0 c.args.setting.now.graph.now c.args.setting.now.rows.now (member_of c.args.member.now) c.requires.given.1;
+  graph = (c.requires.0, c.requires.1.graph);
+  number = linked c.requires.0 c.args.setting.now.graph.now c.args.setting.now.rows.now (member_of c.args.member.now) c.requires.1;
 }
 
 pub returns : goal.returns
 returns c = λ p h.
     c.is_bent_after.ensures
-    ∙ (λ i. is_bent_over (c.poly_at-poly.ensures.seen p h.rows h.shape.at i) (map member_of c.args.members.now)
+    ∙ (λ i. is_bent_over (c.poly_at-poly.ensures.seen p h.rows h.shape.at i) (map member_of c.args.cycle.now.members.now)
     (local_of c.args.member.now.local) (c.pre.ensures p h.graph i))

@@ -13,27 +13,26 @@ use Rattle.size_nodes.proofs.LoopFlows.{flows-over}
 use Rattle.size_nodes.proofs.flow.push_flows_into.Goals as goal
 
 pub poly_at-poly-requires : goal.poly_at-poly-requires
-poly_at-poly-requires g c = (c.requires.given.0, (c.requires.given.1.valid, (c.requires.given.1.rows, c.requires.given.1.shape.at)))
+poly_at-poly-requires g c = (c.requires.0, (c.requires.1.valid, (c.requires.1.rows, c.requires.1.shape.at)))
 
 pub pre-before-requires : goal.pre-before-requires
 pre-before-requires g c = record {
-  graph = (c.requires.given.0, c.requires.given.1.graph);
-  number = linked c.requires.given.0 c.args.setting.now.graph.now c.args.setting.now.rows.now (member_of c.args.member.now) c.requires.given.1;
+  graph = (c.requires.0, c.requires.1.graph);
+  number = linked c.requires.0 c.args.setting.now.graph.now c.args.setting.now.rows.now (member_of c.args.member.now) c.requires.1;
 }
 
 pub push_flows-requires : goal.push_flows-requires
 push_flows-requires g c =
     let m = c.args.member.now in
-    let arms = limited c.requires.given.0 c.args.setting.now.graph.now c.args.setting.now.rows.now (member_of m) c.requires.given.1 in record {
-      ascending = c.requires.ascending;
-      up = arms m.local.up c.requires.given.1.shape.up;
-      low = arms m.local.low c.requires.given.1.shape.low;
+    let arms = limited c.requires.0 c.args.setting.now.graph.now c.args.setting.now.rows.now (member_of m) c.requires.1 in record {
+      up = arms m.local.up c.requires.1.shape.up;
+      low = arms m.local.low c.requires.1.shape.low;
       few = c.poly_at-poly.ensures.few;
     }
 
 pub returns : goal.returns
 returns g c =
-    let ms = map member_of c.args.scope.now.members.now in
+    let ms = map member_of c.args.scope.now.cycle.now.members.now in
     let m = member_of c.args.member.now in
     let size = (g.K.Known.table c.args.scope.now.known.now).size in
     let old = map flow_of c.args.flows.now.items in

@@ -8,20 +8,20 @@ use Rattle.size_nodes.proofs.ProgramMembers.{given_at}
 use Rattle.size_nodes.proofs.ListSteps.{one_more}
 use Rattle.size_nodes.proofs.needs.needed_spots.Goals as goal
 
-pub push_needed-requires-clause-given : goal.push_needed-requires-clause-given
-push_needed-requires-clause-given c = (
+pub push_needed-requires : goal.push_needed-requires
+push_needed-requires c = (
   c.requires.0,
-  given_at c.requires.0 c.args.setting.now.graph.now c.args.setting.now.rows.now c.args.members.now c.loop-m.m-index c.m-item.result c.requires.1
+  given_at c.requires.0 c.args.setting.now.graph.now c.args.setting.now.rows.now c.args.cycle.now.members.now c.loop-m.m-index c.m-item.result c.requires.1
       c.loop-m-test.true c.m-item.is,
 )
 
 pub loop-m-preserved : goal.loop-m-preserved
 loop-m-preserved c = λ p given.
-    let members = map member_of c.args.members.now in
+    let members = map member_of c.args.cycle.now.members.now in
     one_more (λ (ms : List Member). needed_into (setting_of p) members (map member_of ms))
     (λ (m : Member). needed_from (setting_of p) members (member_of m) (pre p m.spot.rule)) (λ m ms. refl)
-    c.args.members.now c.loop-m.m-index c.m-item.result (map spot_of c.loop-m.spots.items)
+    c.args.cycle.now.members.now c.loop-m.m-index c.m-item.result (map spot_of c.loop-m.spots.items)
     (map spot_of c.push_needed.new.spots.items) (needed_into (setting_of p) members members) c.loop-m-test.true c.m-item.is
     (c.loop-m.invariant p given)
     (c.in_ok-push_needed.ensures p
-    (given_at p c.args.setting.now.graph.now c.args.setting.now.rows.now c.args.members.now c.loop-m.m-index c.m-item.result given c.loop-m-test.true c.m-item.is))
+    (given_at p c.args.setting.now.graph.now c.args.setting.now.rows.now c.args.cycle.now.members.now c.loop-m.m-index c.m-item.result given c.loop-m-test.true c.m-item.is))

@@ -19,8 +19,8 @@ use Rattle.size_nodes.proofs.needs.push_needed.Goals as goal
 -- a rule has few left variables
 few : (c : goal.After-pre) → c.index-setting-m.result.left ≤ 64
 few c =
-    let p = c.requires.given.0 in
-    let h = c.requires.given.1 in
+    let p = c.requires.0 in
+    let h = c.requires.1 in
     omega (arith, left_is p c.args.setting.now.rows.now h.rows (spot_of c.args.m.now.spot) h.shape.at c.index-setting-m.result c.index-setting-m.is, few_left p h.valid (spot_of c.args.m.now.spot) h.shape.at)
 
 -- the places that are read, by the rows of the rule
@@ -54,7 +54,7 @@ by_setting c p given arm js e =
 
 pub returns : goal.returns
 returns c =
-    let members = map member_of c.args.members.now in
+    let members = map member_of c.args.cycle.now.members.now in
     let m = member_of c.args.m.now in
     on_ok_weaker c.push_from.result
     (λ h p given. h ∙ ap (λ (spots : List Spot). map spot_of c.args.spots.now.items ++ spots) (

@@ -9,5 +9,5 @@ pub returns : goal.returns
 returns c =
     on_ok_weaker c.push_each.result
     (λ h. h ∙ ap (λ (spots : List Spot). map spot_of c.args.spots.now.items ++ spots)
-    (outside-same (map member_of c.members_after.result.now) (map member_of c.args.members.now) c.args.rule c.args.places.now c.members_after.ensures))
+    (outside-same (map member_of c.after.result.now) (map member_of c.args.cycle.now.members.now) c.args.rule c.args.places.now c.after.ensures))
     c.push_each.ensures

@@ -1,0 +1,31 @@
+-- Arms take members neither by coefficients that are 0 nor after rules without members.
+use Rattle.std.proofs.Common.{◌≡◌, ℕ, ◌+◌, ◌≤◌, ◌-◌, ◌/◌, Bool, true, false, cond, List, [], ◌∷◌, length, map, refl, sym, ap, ◌∙◌, arith}
+use Rattle.std.specs.Prelude.{ℤ, pos, nat_abs}
+use Rattle.std.proofs.lemmas.Nat.{div_below}
+use Rattle.proof_tree.specs.proof_nodes.Nodes.{Arm, Linear, Poly}
+use Rattle.proof_tree.specs.proof_nodes.Numbers.{rounded_up}
+use Rattle.proof_tree.specs.proof_nodes.ComposedSizes.{inner_sum, is_member, slope_of}
+use Rattle.proof_tree.specs.declared.arm.Member.{Member}
+use Rattle.proof_tree.specs.Views.{member_of}
+
+-- nothing over a denominator, rounded up, is nothing
+none-rounded : (den : ℕ) → 1 ≤ den → 0 ≡ rounded_up 0 den
+none-rounded den l =
+    let q = div_below (0 + (den - 1)) den 1 (omega (arith, l)) (omega (arith, l)) in
+    omega (arith, q)
+
+-- the coefficient 0 counts as 0, whether its place is a member or not
+pub zero_inner : (b : Bool) (c : ℤ) (den : ℕ) → c ≡ pos 0 → 1 ≤ den → 0 ≡ cond b (rounded_up (nat_abs c) den) 0
+zero_inner true c den e l = none-rounded den l ∙ ap (λ (d : ℤ). rounded_up (nat_abs d) den) (sym e)
+zero_inner false c den e l = refl
+
+-- of no places the sum is 0
+no-inner : (cs : List ℤ) (den : ℕ) → inner_sum cs den (λ j. false) ≡ 0
+no-inner [] den = refl
+no-inner (c ∷ cs) den = let e = no-inner cs den in omega (arith, e)
+
+-- after a rule without members an arm takes none
+pub outer_slope : (arm : Arm) (ms : List Member) (rule : ℕ) → length ms ≡ 0 → 0 ≡ slope_of arm (is_member (map member_of ms) rule)
+outer_slope (Linear den form multipliers) [] rule e = sym (no-inner form.coefs den)
+outer_slope Poly ms rule e = refl
+outer_slope (Linear den form multipliers) (m ∷ ms) rule e = absurd (omega (arith, e))
