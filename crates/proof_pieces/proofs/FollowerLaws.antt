@@ -1,5 +1,5 @@
 -- Outline and levels of the code follow what is carried.
-use Rattle.std.proofs.Common.{◌≡◌, ℕ, Bool, true, List, length, Option, Some, None, refl, ap, sym, subst, ◌∙◌}
+use Rattle.std.proofs.Common.{◌≡◌, ℕ, suc, Bool, true, List, length, Option, Some, None, refl, ap, sym, subst, ◌∙◌}
 use Rattle.std.specs.Option.{option_map}
 use Rattle.bound_text.specs.Pieces.{Piece}
 use Rattle.bound_text.specs.Fronts.{Front}
@@ -25,6 +25,7 @@ use Rattle.proof_pieces.specs.Levels.{begun_of, marks_taken, begun_behind}
 use Rattle.proof_pieces.specs.Outlines.{frames_of, frames_behind, innermost_of, innermost_frame, lead}
 use Rattle.proof_pieces.specs.Shadows.{Led, Shadows, ShowsLevels, frames_in}
 use Rattle.proof_pieces.proofs.LeadLaws.{outlines_lead}
+use Rattle.proof_pieces.proofs.LevelsLaws.{begun_length}
 
 -- where the outline is led on, what is carried is
 front_led : (f : Front) (piece : Piece) (reached : Option Front) (l : Option Lead) (k : Lead) → Some k ≡ l → FollowsWhere f piece reached l
@@ -50,7 +51,7 @@ same_lead f piece s h =
 pub shadows_on : (f : Front) (piece : Piece) (s : Follower) (outline : Outline) (levels : Levels) (round : Option Frame) (k : Lead) → Shadows f s
     → round ≡ innermost_frame (frames_in s.outline) → Some k ≡ lead round s.outline.innermost piece
     → frames_in outline ≡ frames_behind k.change (frames_in s.outline) → outline.innermost ≡ k.innermost
-    → ((marks : Marks) (bs : List Begun) → ShowsLevels s.levels marks bs
+    → ((marks : Marks) (bs : List Begun) → length bs ≡ suc (length s.outline.frames.items) → ShowsLevels s.levels marks bs
     → ShowsLevels levels (marks_taken bs round s.outline.innermost piece marks)
     (begun_behind k.change (length (marks_taken bs round s.outline.innermost piece marks)) round s.outline.innermost bs))
     → Led f piece (record { outline = outline; levels = levels }) true
@@ -73,7 +74,7 @@ shadows_on f piece s outline levels round k h r e frames inner taken =
 
     shown : (g : Front) → Follows f piece g k → ShowsLevels levels (front_marks g) (begun_of g)
     shown g l =
-        let a = taken (front_marks f) (begun_of f) h.levels in
+        let a = taken (front_marks f) (begun_of f) (begun_length f s.outline h.frames) h.levels in
         let b = subst (λ (o : Option Frame). ShowsLevels levels (marks_taken (begun_of f) o s.outline.innermost piece (front_marks f))
         (begun_behind k.change (length (marks_taken (begun_of f) o s.outline.innermost piece (front_marks f))) o s.outline.innermost (begun_of f))) round_of a in
         let c = subst (λ (i : Innermost). ShowsLevels levels (marks_taken (begun_of f) (innermost_frame (frames_of f.outer)) i piece (front_marks f))

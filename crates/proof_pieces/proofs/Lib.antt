@@ -5,6 +5,8 @@ mod Positions
 -- reading a bound
 pub mod BoundLaws
 pub mod StepLaws
+-- packed pieces
+pub mod PackedLaws
 -- bounds within the limits are answered
 pub mod BoundTexts
 -- bounds that are answered are spelled, and are within the limits

@@ -132,6 +132,14 @@ begun_behind change.Close next round i [] = []
 begun_behind change.Close next round i (b ∷ bs) = bs
 begun_behind change.Argue next round i bs = term_begins next bs
 
+-- whether a bracket opens
+abbrev pub opens : Change → Bool
+opens change.Keep = false
+opens change.Term = false
+opens (change.Open frame) = true
+opens change.Close = false
+opens change.Argue = false
+
 -- the marks behind a piece, where the innermost bound is this one
 abbrev pub marks_behind : Begun → Option Frame → Innermost → Piece → Marks → Marks
 marks_behind b round i piece marks =

@@ -6,6 +6,9 @@ pub mod Within
 pub mod Bounds
 -- values that were worked out by hand
 pub mod WorkedBounds
+-- pieces of a bound in few bytes each
+pub mod Packing
+pub mod Packed
 -- the machinery of the functions inside
 pub mod BoundSteps
 -- what steps look at, and how levels change

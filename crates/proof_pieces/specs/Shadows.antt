@@ -1,5 +1,5 @@
 -- What the code keeps of outlines and levels.
-use Rattle.std.specs.Prelude.{◌≡◌, Bool, true, false, List, [], length, map, Some, None}
+use Rattle.std.specs.Prelude.{◌≡◌, ◌≤◌, Bool, true, false, List, [], ◌∷◌, ◌++◌, length, map, Option, Some, None, ⊤}
 use Rattle.bound_text.specs.Carrying.{limited_step}
 use Rattle.bound_text.specs.Fronts.{Front}
 use Rattle.bound_text.specs.Inside.{Marks, front_marks}
@@ -9,10 +9,12 @@ use Rattle.proof_pieces.specs.declared.follower.Follower.{Follower}
 use Rattle.proof_pieces.specs.declared.levels.Begun.{Begun}
 use Rattle.proof_pieces.specs.declared.levels.Levels.{Levels}
 use Rattle.proof_pieces.specs.declared.levels.Marked.{Marked}
+use Rattle.proof_pieces.specs.declared.outline.Change.{Change}
 use Rattle.proof_pieces.specs.declared.outline.Frame.{Frame}
+use Rattle.proof_pieces.specs.declared.outline.Innermost.{Innermost}
 use Rattle.proof_pieces.specs.declared.outline.Outline.{Outline}
 use Rattle.proof_pieces.specs.Following.{IsStanding}
-use Rattle.proof_pieces.specs.Levels.{begun_of, capped, has_deep, shallow}
+use Rattle.proof_pieces.specs.Levels.{begun_behind, begun_of, capped, has_deep, marks_taken, shallow}
 use Rattle.proof_pieces.specs.Outlines.{frames_of, innermost_of}
 
 -- the open brackets, the innermost first
@@ -35,11 +37,27 @@ begun_in l = onto l.begun.items []
 abbrev pub capped_begun : Begun → Begun
 capped_begun b = record { above = capped b.above; start = capped b.start }
 
--- the code shows these marks, and these bounds that aren't done
+-- the current terms of bounds begin behind the first part that is too deep, so that what is raised there isn't kept
+abbrev pub AreBehind : Marks → List Begun → Type 0
+AreBehind marks [] = ⊤
+AreBehind marks (b ∷ bs) =
+    (length (shallow marks) ≤ b.start) × (has_deep marks ≡ true) × AreBehind marks bs
+
+-- the code shows these marks, and of these bounds that aren't done the outermost, all but some that are so far behind
 pub record ShowsLevels (l : Levels) (marks : Marks) (bs : List Begun) : Type 0 where
   pub held : Holds l.marked marks
   pub count : l.count ≡ capped (length marks)
-  pub begun : begun_in l ≡ map capped_begun bs
+  pub inner : List Begun
+  pub outer : List Begun
+  pub all : inner ++ outer ≡ bs
+  pub begun : begun_in l ≡ map capped_begun outer
+  pub behind : AreBehind marks inner
+
+-- and what a piece with a change to the open brackets does to both
+abbrev pub ShowsTaken : Levels → Option Frame → Innermost → Piece → Change → Marks → List Begun → Type 0
+ShowsTaken l round i piece change marks bs =
+    ShowsLevels l (marks_taken bs round i piece marks)
+    (begun_behind change (length (marks_taken bs round i piece marks)) round i bs)
 
 -- the code shows the outline and the levels of what has been read
 pub record Shadows (f : Front) (s : Follower) : Type 0 where

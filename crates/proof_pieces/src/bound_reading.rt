@@ -17,13 +17,15 @@ ghost use Rattle.text_grammar.specs.text_core.Reading.{first_of as first_at, is_
 ghost use Rattle.text_grammar.specs.Marks.{fault_of, refusal_of};
 ghost use Rattle.proof_pieces.specs.Bounds.{bound_answer, bounds_in, kind_of};
 ghost use Rattle.proof_pieces.specs.BoundSteps.{BreaksOff, Ends, Steps, TellsDeep, IsBefore, answer_of, pieces_in};
+ghost use Rattle.proof_pieces.specs.Packed.{inners_in};
 ghost use Rattle.proof_pieces.specs.BoundSteps.{ended_with, or_told, or_syntax as or_syntax_at};
 ghost use Rattle.proof_pieces.specs.declared.kind.ProofKind.TheVariants.{TooDeep};
 ghost use Rattle.proof_pieces.specs.BoundSteps.{told_from as told_by, with_size as with_size_of};
 
 use crate::follower::Follower;
-use crate::inner::{BoundRead, Inner};
+use crate::inner::BoundRead;
 use crate::kind::ProofKind;
+use crate::packed::PackedRest;
 use crate::reading::Reading;
 use bound_expr::Bound;
 use bound_text::{Fault as BoundFault, Piece as BoundPiece, Reader};
@@ -50,8 +52,12 @@ pub(crate) enum Stepped {
 /// # Errors
 ///
 /// `AllocError` where an allocation fails.
-pub fn read_bound(alloc: Global, names: usize, pieces: &[Inner]) -> Result<BoundRead, AllocError>
-    ensures { IfOk result (λ read. answer_of read ≡ bound_answer names pieces.now) }
+pub fn read_bound(
+    alloc: Global,
+    names: usize,
+    pieces: PackedRest<'_>,
+) -> Result<BoundRead, AllocError>
+    ensures { IfOk result (λ read. answer_of read ≡ bound_answer names (inners_in pieces.entry)) }
 {
     let mut reading = Reading::new(alloc)?;
     let mut best = None;
@@ -179,10 +185,10 @@ pub(crate) fn step(
     names: usize,
     reader: &mut Reader,
     piece: BoundPiece,
-    behind: &[Inner],
+    behind: PackedRest<'_>,
 ) -> Result<Stepped, AllocError>
     requires { IsTrue (is_settled reader.old) }
-    ensures { IfOk result (Steps names (front_of reader.old) (piece_of piece) (pieces_in behind.now) reader.new) }
+    ensures { IfOk result (Steps names (front_of reader.old) (piece_of piece) (pieces_in (inners_in behind.entry)) reader.new) }
 {
     let told = told_before(reader, names, is_caret_next(behind), piece);
     match reader.step(alloc, piece) {
@@ -246,11 +252,11 @@ fn or_told_at(
 }
 
 // Whether `^` comes next.
-fn is_caret_next(pieces: &[Inner]) -> bool
-    ensures { result ≡ caret_next (pieces_in pieces.now) }
+fn is_caret_next(pieces: PackedRest<'_>) -> bool
+    ensures { result ≡ caret_next (pieces_in (inners_in pieces.entry)) }
 {
-    match pieces {
-        [first, ..] => matches!(first.piece, BoundPiece::Caret),
-        [] => false,
+    match pieces.split_first() {
+        Some((first, _)) => matches!(first.piece, BoundPiece::Caret),
+        None => false,
     }
 }

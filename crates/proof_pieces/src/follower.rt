@@ -47,7 +47,7 @@ impl Follower {
         let innermost = self.outline.innermost;
         match innermost.lead(round, piece) {
             Some(lead) => {
-                self.levels.take(round, innermost, piece, lead.change)?;
+                self.levels.take(&self.outline, piece, lead.change)?;
                 self.outline.follow(lead)?;
                 Ok(true)
             }

@@ -1,16 +1,17 @@
 //! The levels of the parts of a bound, piece by piece, before the first part that is too deep.
 
 ghost use Rattle.std.specs.Prelude.{◌≡◌, ◌≤◌, ◌++◌, ◌∷◌, ℕ, suc, List, [], Option, Some, None, OnOk, IfOk, map};
-ghost use Rattle.std.specs.Prelude.{length, if◌then◌else◌, ◌||◌};
+ghost use Rattle.std.specs.Prelude.{length, if◌then◌else◌, ◌&&◌, ◌||◌};
 ghost use Rattle.std.specs.Option.{option_map};
 ghost use Rattle.bound_text.specs.Inside.{Marks};
 ghost use Rattle.bound_text.specs.Printing.{piece_of};
 ghost use Rattle.proof_pieces.specs.Levels as plain;
 ghost use Rattle.proof_pieces.specs.Levels.{capped, raised, raised_from, first_begun};
-ghost use Rattle.proof_pieces.specs.Shadows.{Holds, ShowsLevels, begun_in, capped_begun};
+ghost use Rattle.proof_pieces.specs.Outlines.{innermost_frame};
+ghost use Rattle.proof_pieces.specs.Shadows.{Holds, ShowsLevels, ShowsTaken, begun_in, capped_begun, frames_in};
 
 use crate::bound_reading::BOUND_LEVELS;
-use crate::outline::{Change, Frame, Innermost, Opening, Shape, Stage};
+use crate::outline::{Change, Frame, Innermost, Opening, Outline, Shape, Stage};
 use bound_text::Piece as BoundPiece;
 use std::alloc::{AllocError, Global};
 
@@ -30,8 +31,9 @@ pub(crate) struct Marked {
     pub deep: bool,
 }
 
-/// The levels of what has been read; how many pieces that are, up to 2^64-1; and the bounds that aren't done, the
-/// outermost first.
+/// The levels of what has been read; how many pieces that are, up to 2^64-1; and of the bounds that aren't done those
+/// that began before the first part that is too deep, or with it, the outermost first. Those inside them raise nothing
+/// that is kept.
 #[derive(Drop)]
 pub(crate) struct Levels {
     pub marked: Marked,
@@ -129,6 +131,20 @@ fn deeper(mark: Option<u8>) -> Option<u64>
     }
 }
 
+// Whether a bracket opens.
+fn opens(change: Change) -> bool
+    ensures { result ≡ plain.opens change }
+{
+    matches!(change, Change::Open(_))
+}
+
+// Whether both hold.
+fn both(first: bool, second: bool) -> bool
+    ensures { result ≡ (first && second) }
+{
+    first && second
+}
+
 // Whether one of them holds.
 fn either(first: bool, second: bool) -> bool
     ensures { result ≡ (first || second) }
@@ -214,23 +230,41 @@ impl Levels {
         })
     }
 
-    /// A piece that leads on in the innermost bound, inside the innermost open bracket, if one is open, and that does
-    /// this to the open brackets.
+    /// A piece that does this to the open brackets.
     ///
     /// # Errors
     ///
     /// `AllocError` where an allocation fails.
     pub(crate) fn take(
         &mut self,
+        outline: &Outline,
+        piece: BoundPiece,
+        change: Change,
+    ) -> Result<(), AllocError>
+        ensures { (marks : Marks) (bs : List Begun) → length bs ≡ suc (length outline.now.frames.items)
+            → ShowsLevels self.old marks bs
+            → OnOk result (ShowsTaken self.new (innermost_frame (frames_in outline.now)) outline.now.innermost
+            (piece_of piece) change marks bs) }
+    {
+        if self.begun.len() > outline.frames.len() {
+            self.take_inside(outline.round(), outline.innermost, piece, change)
+        } else {
+            self.count = self.count.saturating_add(1);
+            Ok(())
+        }
+    }
+
+    // The same where all bounds that aren't done are kept.
+    fn take_inside(
+        &mut self,
         round: Option<Frame>,
         innermost: Innermost,
         piece: BoundPiece,
         change: Change,
     ) -> Result<(), AllocError>
-        ensures { (marks : Marks) (bs : List Begun) → ShowsLevels self.old marks bs
-            → OnOk result (ShowsLevels self.new (plain.marks_taken bs round innermost (piece_of piece) marks)
-            (plain.begun_behind change (length (plain.marks_taken bs round innermost (piece_of piece) marks)) round
-            innermost bs)) }
+        ensures { (marks : Marks) (bs : List Begun) → Holds self.old.marked marks
+            → self.old.count ≡ capped (length marks) → begun_in self.old ≡ map capped_begun bs
+            → OnOk result (ShowsTaken self.new round innermost (piece_of piece) change marks bs) }
     {
         let begun = self.innermost();
         self.marked
@@ -238,6 +272,9 @@ impl Levels {
         self.marked
             .push(mark_of(begun.above, round, innermost, piece))?;
         self.count = self.count.saturating_add(1);
+        if both(self.marked.deep, opens(change)) {
+            return Ok(());
+        }
         self.change(change, round, innermost)
     }
 

@@ -5,12 +5,13 @@ ghost use Rattle.bound_text.specs.Fronts.{Front};
 ghost use Rattle.bound_text.specs.Printing.{piece_of};
 ghost use Rattle.bound_text.specs.Steps.{beginning};
 ghost use Rattle.proof_pieces.specs.BoundSteps.{pieces_in};
+ghost use Rattle.proof_pieces.specs.Packed.{inners_in};
 ghost use Rattle.proof_pieces.specs.Carried.{Carries, IsSettledTree, StepsOn, has_reader};
 
 use crate::bound_reading::{Stepped, step};
 use crate::follower::Follower;
-use crate::inner::Inner;
 use crate::kind::ProofKind;
+use crate::packed::PackedRest;
 use bound_text::{Piece as BoundPiece, Reader};
 use std::alloc::{AllocError, Global};
 use text_grammar::Fault;
@@ -50,11 +51,11 @@ impl Reading {
         alloc: Global,
         names: usize,
         piece: BoundPiece,
-        behind: &[Inner],
+        behind: PackedRest<'_>,
     ) -> Result<Stepped, AllocError>
         requires settled { IsSettledTree self.old.reader }
         ensures { (f : Front) → Carries f self.old
-            → IfOk result (StepsOn names f (piece_of piece) (pieces_in behind.now) self.old.reader self.new) }
+            → IfOk result (StepsOn names f (piece_of piece) (pieces_in (inners_in behind.entry)) self.old.reader self.new) }
     {
         if self.follower.take(piece)? {
             match self.reader.take() {

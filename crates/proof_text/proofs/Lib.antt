@@ -6,6 +6,7 @@ pub mod WorkedFaults
 pub mod Lawful
 -- reading in the code
 pub mod KeptLaws
+pub mod BoundBytes
 pub mod Judging
 pub mod TokenTextLaws
 -- reading along the text of a file

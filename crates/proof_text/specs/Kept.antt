@@ -4,6 +4,7 @@ use Rattle.proof_tree.specs.Views.{arm_of, cost_by_of, form_of, member_of, proof
 use Rattle.proof_tree.specs.AnswerViews.{gap_of, scaled_of, shut_of}
 use Rattle.proof_tree.specs.bound_expr.Views.{bound_of}
 use Rattle.proof_tree.specs.rule_forms.linear_forms.Forms.{Form}
+use Rattle.proof_pieces.specs.Packed.{inners_of}
 use Rattle.proof_text.specs.declared.draft.Affine.{Affine}
 use Rattle.proof_text.specs.declared.draft.Draft as code
 use Rattle.proof_text.specs.declared.kept.Opened.{Opened}
@@ -64,7 +65,7 @@ own_of k = record {
   number = k.number;
   negative = k.negative;
   symbol = k.symbol;
-  pieces = k.pieces.items;
+  pieces = inners_of k.pieces;
   bound = bound_of k.bound;
 }
 

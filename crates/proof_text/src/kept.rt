@@ -12,7 +12,7 @@ use crate::draft::Draft;
 use crate::node_reading::node_from;
 use crate::phase::Next;
 use bound_expr::Bound;
-use proof_pieces::Inner;
+use proof_pieces::Packed;
 use proof_tree::{Gap, Proof};
 use std::alloc::{AllocError, Global};
 use std::mem::replace;
@@ -50,7 +50,7 @@ pub struct Kept {
     pub negative: bool,
     pub symbol: u32,
     /// The pieces of a bound that is open, and the last bound.
-    pub pieces: Vec<Inner>,
+    pub pieces: Packed,
     pub bound: Bound,
 }
 
@@ -123,7 +123,7 @@ impl Kept {
             number: 0,
             negative: false,
             symbol: 0,
-            pieces: Vec::new(alloc),
+            pieces: Packed::new(alloc),
             bound: Bound::Const(0),
         }
     }

@@ -4,6 +4,8 @@ ghost use Rattle.std.specs.Prelude.{◌≡◌, ◌-◌, ◌+◌, ◌^◌, ◌∷
 ghost use Rattle.its_model.specs.Views.{program_of};
 ghost use Rattle.text_grammar.specs.Marks.{fault_of};
 ghost use Rattle.proof_pieces.specs.declared.piece.Piece.TheVariants as piece_of;
+ghost use Rattle.proof_pieces.specs.Packed.{inners_in};
+ghost use Rattle.proof_pieces.specs.declared.inner.Inner.{Inner};
 ghost use Rattle.proof_text.specs.Against.{bytes_of as bytes_in, position_in_bound as position_in};
 ghost use Rattle.proof_text.specs.Kept.{own_of};
 ghost use Rattle.proof_text.specs.Reading.{moved};
@@ -17,7 +19,7 @@ use crate::phase::Next;
 use bound_expr::Bound;
 use bound_text::Piece as BoundPiece;
 use its_model::Program;
-use proof_pieces::{Behind, BoundRead, Inner, Piece, ProofKind, Sign, read_bound};
+use proof_pieces::{Behind, BoundRead, Packed, PackedRest, Piece, ProofKind, Sign, read_bound};
 use std::alloc::AllocError;
 use std::mem::replace;
 use text_grammar::Fault;
@@ -32,28 +34,34 @@ fn fault_at(told: Option<ProofKind>, at: u64) -> Option<Fault<ProofKind>>
     }
 }
 
-// The bytes of pieces of a bound, or 2^64-1 where there are more.
-fn bytes_of(pieces: &[Inner]) -> u64
-    ensures { result ≡ min (bytes_in pieces.now) (2 ^ 64 - 1) }
+// The bytes of the first so many pieces of a bound, or 2^64-1 where there are more.
+fn bytes_of(pieces: PackedRest<'_>, count: u64) -> u64
+    ensures { result ≡ min (bytes_in (take count (inners_in pieces.entry))) (2 ^ 64 - 1) }
 {
     let mut sum = 0u64;
-    for inner in pieces {
+    let mut left = count;
+    let mut rest = pieces;
+    while let Some((inner, behind)) = rest.split_first() {
+        if left == 0 {
+            return sum;
+        }
         sum = sum.saturating_add(inner.len);
+        left -= 1;
+        rest = behind;
     }
     sum
 }
 
 // Where a bound is refused at the piece with this number, where its last piece stands at a position.
-fn position_in_bound(pieces: &[Inner], index: u64, at: u64) -> u64
-    ensures { (before : List Inner) (last : Inner) → pieces.now ≡ before ++ last ∷ []
-        → result ≡ in_64_of (at - bytes_in before + bytes_in (take index pieces.now)) }
+fn position_in_bound(pieces: PackedRest<'_>, index: u64, at: u64) -> u64
+    ensures { (before : List Inner) (last : Inner) → inners_in pieces.entry ≡ before ++ last ∷ []
+        → result ≡ in_64_of (at - bytes_in before + bytes_in (take index (inners_in pieces.entry))) }
 {
-    let Some((_, before)) = pieces.split_last() else {
-        return at;
-    };
-    let count = (pieces.len() as u64).min(index);
-    let first = at.saturating_sub(bytes_of(before));
-    first.saturating_add(bytes_of(&pieces[..count as usize]))
+    let count = (pieces.len() as u64).saturating_sub(1);
+    let behind = bytes_of(pieces, count);
+    let first = at.saturating_sub(behind);
+    let before = bytes_of(pieces, index);
+    first.saturating_add(before)
 }
 
 impl Kept {
@@ -91,7 +99,7 @@ impl Kept {
             Piece::Place(symbol, behind) => self.read_place(p, symbol, behind, at),
             Piece::InBound(piece, len, true) => self.end_bound(p, piece, len, at),
             Piece::InBound(piece, len, false) => {
-                self.pieces.push(Inner { piece, len })?;
+                self.pieces.push(piece, len)?;
                 Ok(None)
             }
             Piece::First | Piece::Sign(_) | Piece::Wrong => Ok(None),
@@ -132,16 +140,17 @@ impl Kept {
         ensures told { IfOk result (λ told. fault_of told
             ≡ told_of (program_of p.now) (own_of self.old) (piece_of.InBound piece len true) at) }
     {
-        self.pieces.push(Inner { piece, len })?;
-        let pieces = replace(&mut self.pieces, Vec::new(self.alloc));
-        match read_bound(self.alloc, p.start_names.len(), &pieces)? {
+        self.pieces.push(piece, len)?;
+        let pieces = replace(&mut self.pieces, Packed::new(self.alloc));
+        let rest = pieces.rest();
+        match read_bound(self.alloc, p.start_names.len(), rest)? {
             BoundRead::Stands(bound) => {
                 self.bound = bound;
                 Ok(None)
             }
             BoundRead::Refused(fault) => {
                 self.bound = Bound::Const(0);
-                let position = position_in_bound(&pieces, fault.at, at);
+                let position = position_in_bound(rest, fault.at, at);
                 Ok(Some(Fault {
                     kind: fault.kind,
                     at: position,

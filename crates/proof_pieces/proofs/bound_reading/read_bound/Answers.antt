@@ -1,7 +1,10 @@
-use Rattle.std.proofs.Common.{◌≡◌, ◌-◌, ◌+◌, ◌||◌, Bool, cond, None, length, ap, subst, ◌∙◌, arith, refl}
+use Rattle.std.proofs.Common.{◌≡◌, ℕ, ◌-◌, ◌+◌, ◌||◌, Bool, cond, None, length, ap, subst, ◌∙◌, arith, refl}
 use Rattle.bound_text.specs.Printing.{piece_of}
-use Rattle.proof_pieces.specs.BoundSteps.{IsBefore, pieces_in}
-use Rattle.proof_pieces.specs.Carried.{StepsOn}
+use Rattle.std.specs.Prelude.{IfOk}
+use Rattle.bound_text.specs.Fronts.{Front}
+use Rattle.proof_pieces.specs.BoundSteps.{Ends, IsBefore, pieces_in}
+use Rattle.proof_pieces.specs.Carried.{Carries, IsToldWithout, StepsOn}
+use Rattle.proof_pieces.specs.Packed.{inners_in}
 use Rattle.proof_pieces.proofs.CarriedReading.{knows_begun, knows_on, knows_off, knows_told}
 use Rattle.proof_pieces.proofs.FollowerLaws.{tree_settled}
 use Rattle.proof_pieces.proofs.bound_reading.read_bound.Goals as goal
@@ -9,7 +12,7 @@ use Rattle.proof_pieces.proofs.bound_reading.read_bound.Goals as goal
 pub loop-inner-init : goal.loop-inner-init
 loop-inner-init c = record {
   knows =
-      knows_begun c.args.names c.args.pieces.now c.in_ok-reading.reading c.in_ok-reading.ensures.carries
+      knows_begun c.args.names (inners_in c.args.pieces) c.in_ok-reading.reading c.in_ok-reading.ensures.carries
       c.in_ok-reading.ensures.reader;
   within = omega arith;
   before = tt;
@@ -22,38 +25,44 @@ step-requires c =
 
 pub loop-inner-preserved : goal.loop-inner-preserved
 loop-inner-preserved c =
-    let at = length c.args.pieces.now - length c.loop-inner.rest.now in
+    let at = c.len.result - c.len-in-Some.result in
+    let a = c.len.ensures in
+    let b = c.len-in-Some.ensures in
     let i = c.loop-inner.invariant in
     let within = i.within in
-    let size = ap length c.in-Some.ensures.cases.0 in
+    let size = ap length c.in-Some.ensures in
     let next = c.or_told_at-best.result in
     record {
       knows =
-          knows_on c.args.names c.args.pieces.now c.loop-inner.rest.now c.in-Some.behind.now c.in-Some.inner.now
+          knows_on c.args.names (inners_in c.args.pieces) (inners_in c.loop-inner.rest) (inners_in c.in-Some.behind) c.in-Some.inner
           c.loop-inner.best next c.in-Led.told at c.loop-inner.reading c.step.new.self c.settle.new.self i.knows
-          c.in-Some.ensures.cases.0 refl within
-          (λ f h. subst (StepsOn c.args.names f (piece_of c.in-Some.inner.now.piece) (pieces_in c.in-Some.behind.now)
+          c.in-Some.ensures (omega (arith, a, b)) within
+          (λ f h. subst (StepsOn c.args.names f (piece_of c.in-Some.inner.piece) (pieces_in (inners_in c.in-Some.behind))
           c.loop-inner.reading.reader c.step.new.self) c.in-Led.is (c.in_ok-told.ensures f h))
           c.or_told_at-best.ensures.first c.settle.ensures.follower
           (c.settle.ensures.reader ∙ ap (λ (v : Bool). cond (v || c.step.new.self.follower.levels.marked.deep) None
           c.step.new.self.reader) c.is_some.ensures);
       within = omega (arith, within, size);
       before = subst (λ k. IsBefore k next)
-          (let e : at + 1 ≡ length c.args.pieces.now - length c.in-Some.behind.now = omega (arith, within, size) in e)
+          (let e : at + 1 ≡ length (inners_in c.args.pieces) - length (inners_in c.in-Some.behind) = omega (arith, within, size, a, b) in e)
           c.or_told_at-best.ensures.before;
     }
 
 pub returns-in-Off : goal.returns-in-Off
 returns-in-Off c =
-    let at = length c.args.pieces.now - length c.loop-inner.rest.now in
-    knows_off c.args.names c.args.pieces.now c.loop-inner.rest.now c.in-Some.behind.now c.in-Some.inner.now
+    let at = c.len.result - c.len-in-Some.result in
+    let a = c.len.ensures in
+    let b = c.len-in-Some.ensures in
+    knows_off c.args.names (inners_in c.args.pieces) (inners_in c.loop-inner.rest) (inners_in c.in-Some.behind) c.in-Some.inner
     c.loop-inner.best at c.loop-inner.reading c.step.new.self c.off.result c.loop-inner.invariant.knows
-    c.in-Some.ensures.cases.0 refl
-    (λ f h. subst (StepsOn c.args.names f (piece_of c.in-Some.inner.now.piece) (pieces_in c.in-Some.behind.now)
+    c.in-Some.ensures (omega (arith, a, b))
+    (λ f h. subst (StepsOn c.args.names f (piece_of c.in-Some.inner.piece) (pieces_in (inners_in c.in-Some.behind))
     c.loop-inner.reading.reader c.step.new.self) c.in-Off.is (c.in_ok-told.ensures f h))
     c.off.ensures
 
 pub returns : goal.returns
 returns c =
-    knows_told c.args.names c.args.pieces.now c.loop-inner.rest.now c.loop-inner.best c.loop-inner.reading c.ended.result
-    c.loop-inner.invariant.knows c.in_default.ensures.cases c.ended.ensures
+    knows_told c.args.names (inners_in c.args.pieces) (inners_in c.loop-inner.rest) c.loop-inner.best c.loop-inner.reading c.ended.result
+    c.loop-inner.invariant.knows c.in_default.ensures
+    (subst (λ (k : ℕ). (f : Front) → Carries f c.loop-inner.reading → IsToldWithout f c.loop-inner.best k c.loop-inner.reading
+    → IfOk c.ended.result (λ read. Ends f c.loop-inner.best k read)) c.len-2.ensures c.ended.ensures)

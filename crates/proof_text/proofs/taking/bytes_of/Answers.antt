@@ -1,11 +1,21 @@
 use Rattle.std.proofs.Common.{ap, arith}
-use Rattle.std.proofs.lemmas.List.{drop_all}
-use Rattle.proof_text.specs.Against.{bytes_of}
+use Rattle.proof_pieces.specs.Packed.{inners_in}
+use Rattle.proof_text.proofs.BoundBytes.{bytes_more, bytes_none}
 use Rattle.proof_text.proofs.taking.bytes_of.Goals as goal
+
+pub loop-inner-preserved : goal.loop-inner-preserved
+loop-inner-preserved c =
+    let i = c.loop-inner.invariant.0 in
+    let l = c.loop-inner.invariant.1 in
+    let some = c.if-left-0.false in
+    let e = bytes_more c.loop-inner.left (inners_in c.loop-inner.rest) (inners_in c.in-Some.behind) c.in-Some.inner
+    c.in-Some.ensures (omega (arith, some)) in
+    let s = c.saturating_add-sum.ensures in
+    (omega (arith, i, l, e, s), omega (arith, s))
 
 pub returns : goal.returns
 returns c =
-    let e = ap bytes_of (drop_all c.loop-inner.inner-index c.args.pieces.now c.loop-inner-test.false) in
     let i = c.loop-inner.invariant.0 in
     let l = c.loop-inner.invariant.1 in
+    let e = bytes_none c.loop-inner.left (inners_in c.loop-inner.rest) c.in_default.ensures in
     omega (arith, e, i, l)

@@ -1,12 +1,17 @@
-use Rattle.std.proofs.Common.{sym, ◌∙◌}
+use Rattle.std.proofs.Common.{Option, refl, ap, sym, ◌∙◌}
 use Rattle.bound_text.specs.Printing.{piece_of}
+use Rattle.proof_pieces.specs.declared.outline.Frame.{Frame}
+use Rattle.proof_pieces.specs.Outlines.{innermost_frame, lead}
+use Rattle.proof_pieces.specs.Shadows.{frames_in}
 use Rattle.proof_pieces.proofs.FollowerLaws.{shadows_on, shadows_off}
 use Rattle.proof_pieces.proofs.follower.Follower.take.Goals as goal
 
 pub returns-in_ok-follow-in-Some : goal.returns-in_ok-follow-in-Some
 returns-in_ok-follow-in-Some c = λ f s.
-    shadows_on f (piece_of c.args.piece) c.args.self.now c.follow.new.self c.take.new.self c.round-round.result c.in-Some.lead s
-    c.round-round.ensures (sym c.in-Some.is ∙ c.lead.ensures) c.in_ok-follow-in-Some.ensures.frames
+    shadows_on f (piece_of c.args.piece) c.args.self.now c.follow.new.self c.take.new.self
+    (innermost_frame (frames_in c.args.self.now.outline)) c.in-Some.lead s refl
+    (sym c.in-Some.is ∙ c.lead.ensures ∙ ap (λ (o : Option Frame). lead o c.args.self.now.outline.innermost
+    (piece_of c.args.piece)) c.round-round.ensures) c.in_ok-follow-in-Some.ensures.frames
     c.in_ok-follow-in-Some.ensures.innermost c.in_ok-take-in-Some.ensures
 
 pub returns-in-None : goal.returns-in-None

@@ -2,6 +2,7 @@ use Rattle.std.proofs.Common.{sym, subst, ◌∙◌}
 use Rattle.bound_text.specs.Printing.{piece_of}
 use Rattle.proof_pieces.specs.BoundSteps.{pieces_in}
 use Rattle.proof_pieces.specs.Carried.{IsSettledTree}
+use Rattle.proof_pieces.specs.Packed.{inners_in}
 use Rattle.proof_pieces.specs.Shadows.{Led}
 use Rattle.proof_pieces.proofs.FollowerLaws.{steps_with}
 use Rattle.proof_pieces.proofs.reading.Reading.step.Goals as goal
@@ -11,6 +12,6 @@ step-requires c = subst IsSettledTree (sym c.take-then-branch.ensures.value ∙ 
 
 pub returns-in_ok-stepped-in-Some : goal.returns-in_ok-stepped-in-Some
 returns-in_ok-stepped-in-Some c = λ f h.
-    steps_with c.args.names f (piece_of c.args.piece) (pieces_in c.args.behind.now) c.args.self.now.reader c.in-Some.reader
+    steps_with c.args.names f (piece_of c.args.piece) (pieces_in (inners_in c.args.behind)) c.args.self.now.reader c.in-Some.reader
     c.step.new.reader c.take.new.self _ (sym c.take-then-branch.ensures.value ∙ c.in-Some.is) h.tree
     (subst (Led f (piece_of c.args.piece) c.take.new.self) c.if-branch.true (c.in_ok-take.ensures f h.shadows)) c.in_ok-stepped-in-Some.ensures
