@@ -10,7 +10,7 @@ use Rattle.proof_tree.specs.Composing.{AreRowsOf}
 use Rattle.proof_tree.specs.proof_nodes.AcceptsSizes.{HasMemberShape, HasCycleShape, AcceptsUp, AcceptsLow}
 use Rattle.proof_tree.specs.proof_nodes.Nodes.{Member}
 use Rattle.proof_tree.specs.proof_setting.Setting.{setting_of}
-use Rattle.size_nodes.specs.declared.setting.Setting.{Setting}
+use Rattle.size_nodes.specs.declared.transitions.Transitions.{Transitions}
 
 -- the graph and the rows are those of a program, and the arms of a member are accepted
 pub record IsMemberOfProgram (p : Program) (g : Graph) (preps : List RuleRows) (m : Member) : Type 0 where
@@ -30,10 +30,10 @@ pub record AreMembersOfProgram (p : Program) (g : Graph) (preps : List RuleRows)
   pub up : All (AcceptsUp (setting_of p)) members
   pub low : All (AcceptsLow (setting_of p)) members
 
--- so it is with the graph and the rows of a setting, and a member
-abbrev pub IsMemberIn : Program → Setting → Member → Type 0
+-- so it is with the graph and the rows of a program's transitions, and a member
+abbrev pub IsMemberIn : Program → Transitions → Member → Type 0
 IsMemberIn p s m = IsMemberOfProgram p s.graph.now s.rows.now m
 
 -- so it is with them, and members
-abbrev pub AreMembersIn : Program → Setting → List Member → Type 0
+abbrev pub AreMembersIn : Program → Transitions → List Member → Type 0
 AreMembersIn p s members = AreMembersOfProgram p s.graph.now s.rows.now members

@@ -13,7 +13,7 @@ ghost use Rattle.size_nodes.specs.BentArms.{first_bent as first_bent_of};
 ghost use Rattle.size_nodes.specs.Members.{IsMemberIn, AreMembersIn};
 
 use crate::members::Cycle;
-use crate::setting::Setting;
+use crate::transitions::Transitions;
 use crate::updates::poly_at;
 use poly_terms::{Monomial, Poly};
 use proof_tree::{Arm, LocalBound, Member, Spot, has_spot};
@@ -84,29 +84,29 @@ fn is_bent_after(local: &LocalBound, poly: Option<&Poly>, cycle: &Cycle, before:
 }
 
 // Whether one of both arms of a member is, after what can come before it.
-fn is_bent_member(setting: &Setting, cycle: &Cycle, member: &Member) -> bool
-    requires { (p : Program) × IsMemberIn p setting.now (member_of member.now) }
-    ensures { (p : Program) → IsMemberIn p setting.now (member_of member.now)
+fn is_bent_member(transitions: &Transitions, cycle: &Cycle, member: &Member) -> bool
+    requires { (p : Program) × IsMemberIn p transitions.now (member_of member.now) }
+    ensures { (p : Program) → IsMemberIn p transitions.now (member_of member.now)
         → result ≡ is_bent_by (setting_of p) (map member_of cycle.now.members.now) (member_of member.now) }
 {
-    let poly = poly_at(setting.rows, member.spot);
+    let poly = poly_at(transitions.rows, member.spot);
     is_bent_after(
         &member.local,
         poly,
         cycle,
-        setting.graph.pre(member.spot.rule),
+        transitions.graph.pre(member.spot.rule),
     )
 }
 
 /// The first member with a polynomial arm that reads a member, after what can come before it.
-pub(crate) fn first_bent(setting: &Setting, cycle: &Cycle) -> Option<Spot>
-    requires { (p : Program) × AreMembersIn p setting.now (map member_of cycle.now.members.now) }
-    ensures { (p : Program) → AreMembersIn p setting.now (map member_of cycle.now.members.now)
+pub(crate) fn first_bent(transitions: &Transitions, cycle: &Cycle) -> Option<Spot>
+    requires { (p : Program) × AreMembersIn p transitions.now (map member_of cycle.now.members.now) }
+    ensures { (p : Program) → AreMembersIn p transitions.now (map member_of cycle.now.members.now)
         → option_map spot_of result ≡ first_bent_of (setting_of p) (map member_of cycle.now.members.now) (map member_of
         cycle.now.members.now) }
 {
     for member in cycle.members {
-        let is_here = is_bent_member(setting, cycle, member);
+        let is_here = is_bent_member(transitions, cycle, member);
         if is_here {
             return Some(member.spot);
         }

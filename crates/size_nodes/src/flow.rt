@@ -18,7 +18,7 @@ ghost use Rattle.size_nodes.specs.Flows.{IsLimited, flow_of, flow_over, flows_ov
 ghost use Rattle.size_nodes.specs.Members.{IsMemberIn, AreMembersIn};
 
 use crate::members::Cycle;
-use crate::setting::Setting;
+use crate::transitions::Transitions;
 use crate::updates::poly_at;
 use bound_expr::{Bound, Memory};
 use poly_terms::Poly;
@@ -178,18 +178,18 @@ fn push_flows<K: Known>(
 fn push_flows_into<K: Known>(
     alloc: Global,
     flows: &mut Vec<Flow>,
-    setting: &Setting,
+    transitions: &Transitions,
     scope: &Scope<K>,
     member: &Member,
 ) -> Result<(), Memory>
-    requires { (p : Program) × IsMemberIn p setting.now (member_of member.now) }
-    ensures { OnOk result ((p : Program) → IsMemberIn p setting.now (member_of member.now)
+    requires { (p : Program) × IsMemberIn p transitions.now (member_of member.now) }
+    ensures { OnOk result ((p : Program) → IsMemberIn p transitions.now (member_of member.now)
         → map flow_of flows.new.items ≡ map flow_of flows.old.items ++ flows_from (setting_of p)
         (map member_of scope.now.cycle.now.members.now) (K.table scope.now.known.now).size (member_of member.now)
         (pre p member.now.spot.rule)) }
 {
-    let poly = poly_at(setting.rows, member.spot);
-    let before = setting.graph.pre(member.spot.rule);
+    let poly = poly_at(transitions.rows, member.spot);
+    let before = transitions.graph.pre(member.spot.rule);
     push_flows(alloc, flows, scope, &Sink { member, poly }, before)
 }
 
@@ -200,18 +200,18 @@ fn push_flows_into<K: Known>(
 /// `Memory` where an allocation fails.
 pub(crate) fn flows_in<K: Known>(
     alloc: Global,
-    setting: &Setting,
+    transitions: &Transitions,
     scope: &Scope<K>,
 ) -> Result<Vec<Flow>, Memory>
-    requires { (p : Program) × AreMembersIn p setting.now (map member_of scope.now.cycle.now.members.now) }
+    requires { (p : Program) × AreMembersIn p transitions.now (map member_of scope.now.cycle.now.members.now) }
     ensures { IfOk result (λ fs. (p : Program)
-        → AreMembersIn p setting.now (map member_of scope.now.cycle.now.members.now)
+        → AreMembersIn p transitions.now (map member_of scope.now.cycle.now.members.now)
         → map flow_of fs.items ≡ flows (setting_of p) (map member_of scope.now.cycle.now.members.now)
         (K.table scope.now.known.now).size) }
 {
     let mut flows = Vec::new(alloc);
     for member in scope.cycle.members {
-        push_flows_into(alloc, &mut flows, setting, scope, member)?;
+        push_flows_into(alloc, &mut flows, transitions, scope, member)?;
     }
     Ok(flows)
 }

@@ -14,10 +14,10 @@ mod missing;
 mod needs;
 mod rule_flows;
 mod rules;
-mod setting;
 mod sized;
 mod sizing;
 mod stating;
+mod transitions;
 mod updates;
 
 pub use growth::is_zero;

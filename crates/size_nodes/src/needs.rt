@@ -10,7 +10,7 @@ ghost use Rattle.size_nodes.specs.Needs.{spots_outside, spots_from};
 ghost use Rattle.size_nodes.specs.Members.{IsMemberIn, AreMembersIn};
 
 use crate::members::Cycle;
-use crate::setting::Setting;
+use crate::transitions::Transitions;
 use crate::updates::poly_at;
 use bound_expr::Memory;
 use proof_tree::{Member, Spot, has_spot, places_read};
@@ -96,20 +96,20 @@ fn push_from(
 pub(crate) fn push_needed(
     alloc: Global,
     spots: &mut Vec<Spot>,
-    setting: &Setting,
+    transitions: &Transitions,
     m: &Member,
     cycle: &Cycle,
 ) -> Result<(), Memory>
-    requires { (p : Program) × IsMemberIn p setting.now (member_of m.now) }
-    ensures { OnOk result ((p : Program) → IsMemberIn p setting.now (member_of m.now)
+    requires { (p : Program) × IsMemberIn p transitions.now (member_of m.now) }
+    ensures { OnOk result ((p : Program) → IsMemberIn p transitions.now (member_of m.now)
         → map spot_of spots.new.items ≡ map spot_of spots.old.items
         ++ needed_from (setting_of p) (map member_of cycle.now.members.now) (member_of m.now) (pre p m.now.spot.rule)) }
 {
-    let poly = poly_at(setting.rows, m.spot);
-    let left = setting.rows[m.spot.rule as usize - 1].left;
+    let poly = poly_at(transitions.rows, m.spot);
+    let left = transitions.rows[m.spot.rule as usize - 1].left;
     let up = places_read(alloc, &m.local.up, poly, left)?;
     let low = places_read(alloc, &m.local.low, poly, left)?;
-    push_from(spots, &up, &low, setting.graph.pre(m.spot.rule), cycle)
+    push_from(spots, &up, &low, transitions.graph.pre(m.spot.rule), cycle)
 }
 
 /// The sizes that the members of a loop need from outside, after what can come before each.
@@ -119,17 +119,17 @@ pub(crate) fn push_needed(
 /// `Memory` where an allocation fails.
 pub(crate) fn needed_spots(
     alloc: Global,
-    setting: &Setting,
+    transitions: &Transitions,
     cycle: &Cycle,
 ) -> Result<Vec<Spot>, Memory>
-    requires { (p : Program) × AreMembersIn p setting.now (map member_of cycle.now.members.now) }
-    ensures { IfOk result (λ spots. (p : Program) → AreMembersIn p setting.now (map member_of cycle.now.members.now)
+    requires { (p : Program) × AreMembersIn p transitions.now (map member_of cycle.now.members.now) }
+    ensures { IfOk result (λ spots. (p : Program) → AreMembersIn p transitions.now (map member_of cycle.now.members.now)
         → map spot_of spots.items
         ≡ needed_into (setting_of p) (map member_of cycle.now.members.now) (map member_of cycle.now.members.now)) }
 {
     let mut spots = Vec::new(alloc);
     for m in cycle.members {
-        push_needed(alloc, &mut spots, setting, m, cycle)?;
+        push_needed(alloc, &mut spots, transitions, m, cycle)?;
     }
     Ok(spots)
 }
@@ -141,15 +141,15 @@ pub(crate) fn needed_spots(
 /// `Memory` where an allocation fails.
 pub(crate) fn needed_alone(
     alloc: Global,
-    setting: &Setting,
+    transitions: &Transitions,
     m: &Member,
 ) -> Result<Vec<Spot>, Memory>
-    requires { (p : Program) × IsMemberIn p setting.now (member_of m.now) }
-    ensures { IfOk result (λ spots. (p : Program) → IsMemberIn p setting.now (member_of m.now)
+    requires { (p : Program) × IsMemberIn p transitions.now (member_of m.now) }
+    ensures { IfOk result (λ spots. (p : Program) → IsMemberIn p transitions.now (member_of m.now)
         → map spot_of spots.items ≡ needed_into (setting_of p) [] (member_of m.now ∷ [])) }
 {
     let nothing = Cycle::new(alloc, &[])?;
     let mut spots = Vec::new(alloc);
-    push_needed(alloc, &mut spots, setting, m, &nothing)?;
+    push_needed(alloc, &mut spots, transitions, m, &nothing)?;
     Ok(spots)
 }

@@ -22,8 +22,8 @@ use crate::members::Cycle;
 use crate::missing::{first_missing, first_untimed};
 use crate::needs::{needed_alone, needed_spots};
 use crate::rules::rules_in;
-use crate::setting::Setting;
 use crate::sizing::Sizing;
+use crate::transitions::Transitions;
 use crate::updates::poly_at;
 use bound_expr::{Bound, Memory};
 use bound_table::{Within, rewrite_within};
@@ -51,34 +51,34 @@ pub fn sized_spread<K: Known>(
     ensures { IfOk result (λ a. (p : Program) → IsMemberOfProgram p g.now preps.now (member_of m.now)
         → IsSpreadSizing (setting_of p) (K.table known.now) (member_of m.now) a) }
 {
-    let setting = Setting {
+    let transitions = Transitions {
         graph: g,
         rows: preps,
     };
-    let needed = needed_alone(alloc, &setting, m)?;
+    let needed = needed_alone(alloc, &transitions, m)?;
     match first_missing(known, &needed) {
         Some(spot) => Ok(Sizing::Missing(spot)),
-        None => sized_composed(alloc, &setting, known, m, needed),
+        None => sized_composed(alloc, &transitions, known, m, needed),
     }
 }
 
 // The size of a place where each size that it needs is known.
 fn sized_composed<K: Known>(
     alloc: Global,
-    setting: &Setting,
+    transitions: &Transitions,
     known: &K,
     m: &Member,
     needed: Vec<Spot>,
 ) -> Result<Sizing, Memory>
-    requires given { (p : Program) × IsMemberIn p setting.now (member_of m.now) }
-    requires needs { (p : Program) → IsMemberIn p setting.now (member_of m.now)
+    requires given { (p : Program) × IsMemberIn p transitions.now (member_of m.now) }
+    requires needs { (p : Program) → IsMemberIn p transitions.now (member_of m.now)
         → map spot_of needed.items ≡ needed_into (setting_of p) [] (member_of m.now ∷ []) }
     requires all_known { first_missing_of (K.table known.now) (map spot_of needed.items) ≡ None }
-    ensures { IfOk result (λ a. (p : Program) → IsMemberIn p setting.now (member_of m.now)
+    ensures { IfOk result (λ a. (p : Program) → IsMemberIn p transitions.now (member_of m.now)
         → IsSpreadSizing (setting_of p) (K.table known.now) (member_of m.now) a) }
 {
-    let poly = poly_at(setting.rows, m.spot);
-    let before = setting.graph.pre(m.spot.rule);
+    let poly = poly_at(transitions.rows, m.spot);
+    let before = transitions.graph.pre(m.spot.rule);
     match spread_size(alloc, &m.local, poly, before, known)? {
         Within::Rewritten(bound) => Ok(Sizing::Found {
             needs: needed,
@@ -109,33 +109,33 @@ pub fn sized_cycle<K: Known>(
     ensures { IfOk result (λ a. (p : Program) → AreMembersOfProgram p g.now preps.now (map member_of members.now)
         → IsCycleSizing (setting_of p) (K.table known.now) (map member_of members.now) a) }
 {
-    let setting = Setting {
+    let transitions = Transitions {
         graph: g,
         rows: preps,
     };
     let cycle = Cycle::new(alloc, members)?;
-    sized_members(alloc, &setting, known, &cycle)
+    sized_members(alloc, &transitions, known, &cycle)
 }
 
 // So for the members by their rules.
 fn sized_members<K: Known>(
     alloc: Global,
-    setting: &Setting,
+    transitions: &Transitions,
     known: &K,
     cycle: &Cycle,
 ) -> Result<Sizing, Memory>
-    requires { (p : Program) × AreMembersIn p setting.now (map member_of cycle.now.members.now) }
-    ensures { IfOk result (λ a. (p : Program) → AreMembersIn p setting.now (map member_of cycle.now.members.now)
+    requires { (p : Program) × AreMembersIn p transitions.now (map member_of cycle.now.members.now) }
+    ensures { IfOk result (λ a. (p : Program) → AreMembersIn p transitions.now (map member_of cycle.now.members.now)
         → IsCycleSizing (setting_of p) (K.table known.now) (map member_of cycle.now.members.now) a) }
 {
-    let needed = needed_spots(alloc, setting, cycle)?;
+    let needed = needed_spots(alloc, transitions, cycle)?;
     if let Some(spot) = first_missing(known, &needed) {
         return Ok(Sizing::Missing(spot));
     }
-    if let Some(spot) = first_bent(setting, cycle) {
+    if let Some(spot) = first_bent(transitions, cycle) {
         return Ok(Sizing::Bent(spot));
     }
-    let flows = flows_in(alloc, setting, &Scope { known, cycle })?;
+    let flows = flows_in(alloc, transitions, &Scope { known, cycle })?;
     let rules = rules_in(alloc, cycle.members)?;
     sized_by_flows(alloc, known, needed, &flows, &rules)
 }

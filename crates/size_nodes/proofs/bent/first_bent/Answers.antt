@@ -12,14 +12,14 @@ use Rattle.size_nodes.proofs.bent.first_bent.Goals as goal
 pub is_bent_member-is_here-requires : goal.is_bent_member-is_here-requires
 is_bent_member-is_here-requires c = (
   c.requires.0,
-  given_at c.requires.0 c.args.setting.now.graph.now c.args.setting.now.rows.now c.args.cycle.now.members.now
+  given_at c.requires.0 c.args.transitions.now.graph.now c.args.transitions.now.rows.now c.args.cycle.now.members.now
       c.loop-member.member-index c.member-item.result c.requires.1 c.loop-member-test.true c.member-item.is,
 )
 
 pub returns-then-is_here : goal.returns-then-is_here
 returns-then-is_here c = λ p h.
-    let given : IsMemberIn p c.args.setting.now (member_of c.member-item.result) =
-    given_at p c.args.setting.now.graph.now c.args.setting.now.rows.now c.args.cycle.now.members.now c.loop-member.member-index c.member-item.result h
+    let given : IsMemberIn p c.args.transitions.now (member_of c.member-item.result) =
+    given_at p c.args.transitions.now.graph.now c.args.transitions.now.rows.now c.args.cycle.now.members.now c.loop-member.member-index c.member-item.result h
     c.loop-member-test.true c.member-item.is in
     bent-here (setting_of p) (map member_of c.args.cycle.now.members.now) c.args.cycle.now.members.now c.loop-member.member-index
     c.member-item.result c.loop-member-test.true c.member-item.is
@@ -27,8 +27,8 @@ returns-then-is_here c = λ p h.
 
 pub loop-member-preserved : goal.loop-member-preserved
 loop-member-preserved c = λ p h.
-    let given : IsMemberIn p c.args.setting.now (member_of c.member-item.result) =
-    given_at p c.args.setting.now.graph.now c.args.setting.now.rows.now c.args.cycle.now.members.now c.loop-member.member-index c.member-item.result h
+    let given : IsMemberIn p c.args.transitions.now (member_of c.member-item.result) =
+    given_at p c.args.transitions.now.graph.now c.args.transitions.now.rows.now c.args.cycle.now.members.now c.loop-member.member-index c.member-item.result h
     c.loop-member-test.true c.member-item.is in
     bent-later (setting_of p) (map member_of c.args.cycle.now.members.now) c.args.cycle.now.members.now c.loop-member.member-index
     c.member-item.result c.loop-member-test.true c.member-item.is

@@ -8,6 +8,6 @@ use Rattle.size_nodes.proofs.bent.first_bent.Given as goal
 
 abbrev pub invariant-loop-member : goal.invariant-loop-member
 invariant-loop-member l =
-    (p : Program) → AreMembersIn p l.setting (map member_of l.cycle.members.now)
+    (p : Program) → AreMembersIn p l.transitions (map member_of l.cycle.members.now)
     → first_bent (setting_of p) (map member_of l.cycle.members.now) (map member_of (drop l.member-index l.cycle.members.now))
     ≡ first_bent (setting_of p) (map member_of l.cycle.members.now) (map member_of l.cycle.members.now)

@@ -10,7 +10,7 @@ poly_at-poly-requires c = (c.requires.0, (c.requires.1.valid, (c.requires.1.rows
 pub pre-requires : goal.pre-requires
 pre-requires c = record {
   graph = (c.requires.0, c.requires.1.graph);
-  number = linked c.requires.0 c.args.setting.now.graph.now c.args.setting.now.rows.now (member_of c.args.member.now) c.requires.1;
+  number = linked c.requires.0 c.args.transitions.now.graph.now c.args.transitions.now.rows.now (member_of c.args.member.now) c.requires.1;
 }
 
 pub returns : goal.returns

@@ -13,14 +13,14 @@ use Rattle.size_nodes.proofs.flow.flows_in.Goals as goal
 pub push_flows_into-requires : goal.push_flows_into-requires
 push_flows_into-requires g c = (
   c.requires.0,
-  given_at c.requires.0 c.args.setting.now.graph.now c.args.setting.now.rows.now c.args.scope.now.cycle.now.members.now
+  given_at c.requires.0 c.args.transitions.now.graph.now c.args.transitions.now.rows.now c.args.scope.now.cycle.now.members.now
       c.loop-member.member-index c.member-item.result c.requires.1 c.loop-member-test.true c.member-item.is,
 )
 
 pub loop-member-preserved : goal.loop-member-preserved
 loop-member-preserved g c = λ p h.
-    let given : IsMemberIn p c.args.setting.now (member_of c.member-item.result) =
-    given_at p c.args.setting.now.graph.now c.args.setting.now.rows.now c.args.scope.now.cycle.now.members.now c.loop-member.member-index c.member-item.result h
+    let given : IsMemberIn p c.args.transitions.now (member_of c.member-item.result) =
+    given_at p c.args.transitions.now.graph.now c.args.transitions.now.rows.now c.args.scope.now.cycle.now.members.now c.loop-member.member-index c.member-item.result h
     c.loop-member-test.true c.member-item.is in
     let ms = map member_of c.args.scope.now.cycle.now.members.now in
     let size = (g.K.Known.table c.args.scope.now.known.now).size in

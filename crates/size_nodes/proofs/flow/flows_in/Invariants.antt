@@ -9,7 +9,7 @@ use Rattle.size_nodes.proofs.flow.flows_in.Given as goal
 
 abbrev pub invariant-loop-member : goal.invariant-loop-member
 invariant-loop-member g l =
-    (p : Program) → AreMembersIn p l.setting (map member_of l.scope.cycle.now.members.now)
+    (p : Program) → AreMembersIn p l.transitions (map member_of l.scope.cycle.now.members.now)
     → map flow_of l.flows.items ++ flows_into (setting_of p) (map member_of l.scope.cycle.now.members.now) (g.K.Known.table l.scope.known.now).size
     (map member_of (drop l.member-index l.scope.cycle.now.members.now))
     ≡ flows_into (setting_of p) (map member_of l.scope.cycle.now.members.now) (g.K.Known.table l.scope.known.now).size (map member_of l.scope.cycle.now.members.now)

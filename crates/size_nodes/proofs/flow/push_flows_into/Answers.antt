@@ -18,13 +18,13 @@ poly_at-poly-requires g c = (c.requires.0, (c.requires.1.valid, (c.requires.1.ro
 pub pre-before-requires : goal.pre-before-requires
 pre-before-requires g c = record {
   graph = (c.requires.0, c.requires.1.graph);
-  number = linked c.requires.0 c.args.setting.now.graph.now c.args.setting.now.rows.now (member_of c.args.member.now) c.requires.1;
+  number = linked c.requires.0 c.args.transitions.now.graph.now c.args.transitions.now.rows.now (member_of c.args.member.now) c.requires.1;
 }
 
 pub push_flows-requires : goal.push_flows-requires
 push_flows-requires g c =
     let m = c.args.member.now in
-    let arms = limited c.requires.0 c.args.setting.now.graph.now c.args.setting.now.rows.now (member_of m) c.requires.1 in record {
+    let arms = limited c.requires.0 c.args.transitions.now.graph.now c.args.transitions.now.rows.now (member_of m) c.requires.1 in record {
       up = arms m.local.up c.requires.1.shape.up;
       low = arms m.local.low c.requires.1.shape.low;
       few = c.poly_at-poly.ensures.few;
@@ -39,7 +39,7 @@ returns g c =
     let new = map flow_of c.push_flows.new.flows.items in
     IfOk-weaker c.push_flows.result
     (λ x. new ≡ old ++ flows_over (optional_poly c.poly_at-poly.result) ms size m c.pre-before.result.now)
-    (λ x. (p : Program) → IsMemberIn p c.args.setting.now m
+    (λ x. (p : Program) → IsMemberIn p c.args.transitions.now m
     → new ≡ old ++ flows_from (setting_of p) ms size m (pre p m.spot.rule))
     (λ x k p h. k ∙ ap (λ (fs : List Flow). old ++ fs)
     ((λ i. flows_over (c.poly_at-poly.ensures.seen p h.rows h.shape.at i) ms size m (c.pre-before.ensures p h.graph i))

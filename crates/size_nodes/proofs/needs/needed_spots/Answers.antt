@@ -11,7 +11,7 @@ use Rattle.size_nodes.proofs.needs.needed_spots.Goals as goal
 pub push_needed-requires : goal.push_needed-requires
 push_needed-requires c = (
   c.requires.0,
-  given_at c.requires.0 c.args.setting.now.graph.now c.args.setting.now.rows.now c.args.cycle.now.members.now c.loop-m.m-index c.m-item.result c.requires.1
+  given_at c.requires.0 c.args.transitions.now.graph.now c.args.transitions.now.rows.now c.args.cycle.now.members.now c.loop-m.m-index c.m-item.result c.requires.1
       c.loop-m-test.true c.m-item.is,
 )
 
@@ -24,4 +24,4 @@ loop-m-preserved c = λ p given.
     (map spot_of c.push_needed.new.spots.items) (needed_into (setting_of p) members members) c.loop-m-test.true c.m-item.is
     (c.loop-m.invariant p given)
     (c.in_ok-push_needed.ensures p
-    (given_at p c.args.setting.now.graph.now c.args.setting.now.rows.now c.args.cycle.now.members.now c.loop-m.m-index c.m-item.result given c.loop-m-test.true c.m-item.is))
+    (given_at p c.args.transitions.now.graph.now c.args.transitions.now.rows.now c.args.cycle.now.members.now c.loop-m.m-index c.m-item.result given c.loop-m-test.true c.m-item.is))

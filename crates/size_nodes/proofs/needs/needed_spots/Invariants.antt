@@ -8,6 +8,6 @@ use Rattle.size_nodes.proofs.needs.needed_spots.Given as goal
 
 -- what is done and what is left is all
 abbrev pub invariant-loop-m : goal.invariant-loop-m
-invariant-loop-m l = (p : Program) → AreMembersIn p l.setting (map member_of l.cycle.members.now)
+invariant-loop-m l = (p : Program) → AreMembersIn p l.transitions (map member_of l.cycle.members.now)
     → map spot_of l.spots.items ++ needed_into (setting_of p) (map member_of l.cycle.members.now) (map member_of (drop l.m-index l.cycle.members.now))
     ≡ needed_into (setting_of p) (map member_of l.cycle.members.now) (map member_of l.cycle.members.now)

@@ -17,40 +17,40 @@ use Rattle.size_nodes.proofs.ProgramMembers.{left_is, few_left}
 use Rattle.size_nodes.proofs.needs.push_needed.Goals as goal
 
 -- a rule has few left variables
-few : (c : goal.After-pre) → c.index-setting-m.result.left ≤ 64
+few : (c : goal.After-pre) → c.index-transitions-m.result.left ≤ 64
 few c =
     let p = c.requires.0 in
     let h = c.requires.1 in
-    omega (arith, left_is p c.args.setting.now.rows.now h.rows (spot_of c.args.m.now.spot) h.shape.at c.index-setting-m.result c.index-setting-m.is, few_left p h.valid (spot_of c.args.m.now.spot) h.shape.at)
+    omega (arith, left_is p c.args.transitions.now.rows.now h.rows (spot_of c.args.m.now.spot) h.shape.at c.index-transitions-m.result c.index-transitions-m.is, few_left p h.valid (spot_of c.args.m.now.spot) h.shape.at)
 
 -- the places that are read, by the rows of the rule
 by_rows : (c : goal.After-pre) (arm : Arm) (js : List ℕ)
-    → js ≡ places_read (optional_poly c.poly_at-poly.result) arm (get_or c.args.setting.now.rows.now (c.args.m.now.spot.rule - 1) c.index-setting-m.result).left
-    → js ≡ places_read (optional_poly c.poly_at-poly.result) arm c.index-setting-m.result.left
+    → js ≡ places_read (optional_poly c.poly_at-poly.result) arm (get_or c.args.transitions.now.rows.now (c.args.m.now.spot.rule - 1) c.index-transitions-m.result).left
+    → js ≡ places_read (optional_poly c.poly_at-poly.result) arm c.index-transitions-m.result.left
 by_rows c arm js e =
-    e ∙ ap (λ (r : RuleRows). places_read (optional_poly c.poly_at-poly.result) arm r.left) (sym c.index-setting-m.is)
+    e ∙ ap (λ (r : RuleRows). places_read (optional_poly c.poly_at-poly.result) arm r.left) (sym c.index-transitions-m.is)
 
 pub push_from-requires-clause-up : goal.push_from-requires-clause-up
 push_from-requires-clause-up c =
     subst (All (λ j. j < 2 ^ 31))
     (sym (c.deref.ensures.value ∙ by_rows c (arm_of c.args.m.now.local.up) c.in_ok-up.up.items c.in_ok-up.ensures))
-    (few_read (optional_poly c.poly_at-poly.result) (arm_of c.args.m.now.local.up) c.index-setting-m.result.left (few c))
+    (few_read (optional_poly c.poly_at-poly.result) (arm_of c.args.m.now.local.up) c.index-transitions-m.result.left (few c))
 
 pub push_from-requires-clause-low : goal.push_from-requires-clause-low
 push_from-requires-clause-low c =
     subst (All (λ j. j < 2 ^ 31))
     (sym (c.deref-2.ensures.value ∙ by_rows c (arm_of c.args.m.now.local.low) c.in_ok-low.low.items c.in_ok-low.ensures))
-    (few_read (optional_poly c.poly_at-poly.result) (arm_of c.args.m.now.local.low) c.index-setting-m.result.left (few c))
+    (few_read (optional_poly c.poly_at-poly.result) (arm_of c.args.m.now.local.low) c.index-transitions-m.result.left (few c))
 
 -- and by the setting
-by_setting : (c : goal.After-drop-up-2) (p : Program) → IsMemberIn p c.args.setting.now (member_of c.args.m.now)
+by_transitions : (c : goal.After-drop-up-2) (p : Program) → IsMemberIn p c.args.transitions.now (member_of c.args.m.now)
     → (arm : Arm) (js : List ℕ)
-    → js ≡ places_read (optional_poly c.poly_at-poly.result) arm (get_or c.args.setting.now.rows.now (c.args.m.now.spot.rule - 1) c.index-setting-m.result).left
+    → js ≡ places_read (optional_poly c.poly_at-poly.result) arm (get_or c.args.transitions.now.rows.now (c.args.m.now.spot.rule - 1) c.index-transitions-m.result).left
     → js ≡ places_read (poly_at (setting_of p) (spot_of c.args.m.now.spot)) arm (left_of p c.args.m.now.spot.rule)
-by_setting c p given arm js e =
-    e ∙ (ap (λ (r : RuleRows). places_read (optional_poly c.poly_at-poly.result) arm r.left) (sym c.index-setting-m.is)
+by_transitions c p given arm js e =
+    e ∙ (ap (λ (r : RuleRows). places_read (optional_poly c.poly_at-poly.result) arm r.left) (sym c.index-transitions-m.is)
     ∙ (λ i. places_read (c.poly_at-poly.ensures.seen p given.rows given.shape.at i) arm
-    (left_is p c.args.setting.now.rows.now given.rows (spot_of c.args.m.now.spot) given.shape.at c.index-setting-m.result c.index-setting-m.is i)))
+    (left_is p c.args.transitions.now.rows.now given.rows (spot_of c.args.m.now.spot) given.shape.at c.index-transitions-m.result c.index-transitions-m.is i)))
 
 pub returns : goal.returns
 returns c =
@@ -58,8 +58,8 @@ returns c =
     let m = member_of c.args.m.now in
     on_ok_weaker c.push_from.result
     (λ h p given. h ∙ ap (λ (spots : List Spot). map spot_of c.args.spots.now.items ++ spots) (
-    (λ i. spots_from members (by_setting c p given m.local.up c.deref.result.now (c.deref.ensures.value ∙ c.in_ok-up.ensures) i)
-    (by_setting c p given m.local.low c.deref-2.result.now (c.deref-2.ensures.value ∙ c.in_ok-low.ensures) i) (c.pre.ensures p given.graph i))
+    (λ i. spots_from members (by_transitions c p given m.local.up c.deref.result.now (c.deref.ensures.value ∙ c.in_ok-up.ensures) i)
+    (by_transitions c p given m.local.low c.deref-2.result.now (c.deref-2.ensures.value ∙ c.in_ok-low.ensures) i) (c.pre.ensures p given.graph i))
     ∙ sym (needed-spots (setting_of p) members m (pre p m.spot.rule))
     ))
     c.push_from.ensures

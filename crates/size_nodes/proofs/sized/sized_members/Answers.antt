@@ -20,7 +20,7 @@ pub returns-in-Some : goal.returns-in-Some
 returns-in-Some g c = λ p given.
     let ms = map member_of c.args.cycle.now.members.now in
     let tab = g.K.Known.table c.args.known.now in
-    is-missing p c.args.setting.now.graph.now c.args.setting.now.rows.now tab ms given (spot_of c.in-Some.spot)
+    is-missing p c.args.transitions.now.graph.now c.args.transitions.now.rows.now tab ms given (spot_of c.in-Some.spot)
     (ap (first_missing tab) (sym (ap (map spot_of) c.deref.ensures.value ∙ c.in_ok-needed.ensures p given))
     ∙ sym c.in-Some.ensures)
 
@@ -31,7 +31,7 @@ returns-in-Some-first_bent g c = λ p given.
     let none : first_missing tab (needed_into (setting_of p) ms ms) ≡ None =
     ap (first_missing tab) (sym (ap (map spot_of) c.deref.ensures.value ∙ c.in_ok-needed.ensures p given))
     ∙ sym c.in_default.ensures in
-    is-bent p c.args.setting.now.graph.now c.args.setting.now.rows.now tab ms given none (spot_of c.in-Some-first_bent.spot)
+    is-bent p c.args.transitions.now.graph.now c.args.transitions.now.rows.now tab ms given none (spot_of c.in-Some-first_bent.spot)
     (sym (c.in-Some-first_bent.ensures p given))
 
 pub returns : goal.returns
@@ -43,13 +43,13 @@ returns g c =
     let spots = map spot_of c.in_ok-needed.needed.items in
     IfOk-weaker c.sized_by_flows.result
     (λ a. IsLoopSizing tab spots (base_of fs) (map (growth_by_flows fs) ts) a)
-    (λ a. (p : Program) → AreMembersOfProgram p c.args.setting.now.graph.now c.args.setting.now.rows.now ms → IsCycleSizing (setting_of p) tab ms a)
+    (λ a. (p : Program) → AreMembersOfProgram p c.args.transitions.now.graph.now c.args.transitions.now.rows.now ms → IsCycleSizing (setting_of p) tab ms a)
     (λ a h p given.
     let none : first_missing tab (needed_into (setting_of p) ms ms) ≡ None =
     ap (first_missing tab) (sym (ap (map spot_of) c.deref.ensures.value ∙ c.in_ok-needed.ensures p given))
     ∙ sym c.in_default.ensures in
     let straight : first_bent (setting_of p) ms ms ≡ None = sym (c.in_default-first_bent.ensures p given) in
-    is-sized p c.args.setting.now.graph.now c.args.setting.now.rows.now tab ms given none straight a spots fs ts
+    is-sized p c.args.transitions.now.graph.now c.args.transitions.now.rows.now tab ms given none straight a spots fs ts
     (c.in_ok-needed.ensures p given)
     (ap (map flow_of) c.deref-2.ensures.value ∙ c.in_ok-flows.ensures p given)
     (c.deref-3.ensures.value ∙ (c.in_ok-rules.ensures ∙ rules-are p ms given.shape)) h)

@@ -6,7 +6,7 @@ use its_graph::Graph;
 /// A program as its nodes need it: its graph, which tells what can come before a rule, and the rows of each rule, in
 /// order.
 #[derive(Clone, Copy)]
-pub(crate) struct Setting<'a> {
+pub(crate) struct Transitions<'a> {
     pub graph: &'a Graph,
     pub rows: &'a [RuleRows],
 }
