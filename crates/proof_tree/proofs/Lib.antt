@@ -2,6 +2,7 @@ pub mod Numbers
 pub mod Parts
 pub mod Lookups
 pub mod Rules
+pub mod FormLookups
 pub mod NumberSets
 pub mod Spreads
 pub mod ReadPlaces

@@ -144,7 +144,7 @@ entries_whole p set found n e h =
     (let k : n ≡ suc (length (map rule_of p.rules.items)) = omega (arith, e, length-map p.rules.items rule_of) in k)
 
 -- the first form at a symbol
-form-next : (fs : List Form) (i : ℕ) (f : Form) (a : ℕ) → i < length fs → f ≡ get_or fs i f
+pub form-next : (fs : List Form) (i : ℕ) (f : Form) (a : ℕ) → i < length fs → f ≡ get_or fs i f
     → rank_form (map form_of (drop i fs)) (Some a) ≡ cond (f.symbol == a) (form_of f).form (rank_form (map form_of (drop (i + 1) fs)) (Some a))
 form-next fs i f a l e = ap (λ (gs : List Form). rank_form (map form_of gs) (Some a)) (drop_more fs i f l)
     ∙ ap (λ (g : Form). cond (g.symbol == a) (form_of g).form (rank_form (map form_of (drop (i + 1) fs)) (Some a))) (sym e)

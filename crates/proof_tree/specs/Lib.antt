@@ -2,6 +2,7 @@
 pub mod Views
 pub mod AnswerViews
 pub mod Sizes
+pub mod FormLookups
 pub mod Lookups
 pub mod Composing
 pub mod Reading

@@ -10,6 +10,7 @@ mod copies;
 mod entering;
 mod fact;
 mod file;
+mod form_lookup;
 mod gap;
 mod known;
 mod lookup;

@@ -12,6 +12,7 @@ ghost use Rattle.proof_tree.specs.Views.{form_of, rank_of};
 ghost use Rattle.proof_tree.specs.Sizes.{form_found, IsShort};
 
 use crate::entering::{entries, target_of};
+use crate::form_lookup::{FormLookup, form_at, form_lookup_of};
 use crate::known::Known;
 use crate::places::{form_bound, known_or_zero};
 use crate::rank::{Form, RankNode};
@@ -51,17 +52,18 @@ fn product(alloc: Global, first: Bound, second: Bound) -> Result<Bound, Memory>
 fn entry_part<K: Known>(
     alloc: Global,
     p: &Program,
-    node: &RankNode,
+    by: &FormLookup,
     known: &K,
     entry: u32,
 ) -> Result<Bound, Memory>
-    requires over { 1 ≤ node.now.den }
-    requires few { All IsShort node.now.forms.items }
-    ensures { IfOk result (λ b. bound_of b ≡ entry_bound (program_of p.now) (rank_of node.now) (K.table
+    requires over { 1 ≤ by.now.node.now.den }
+    requires few { All IsShort by.now.node.now.forms.items }
+    ensures { IfOk result (λ b. bound_of b ≡ entry_bound (program_of p.now) (rank_of by.now.node.now) (K.table
         known.now).time (K.table known.now).size entry) }
 {
+    let node = by.node;
     let time = known_or_zero(alloc, known.time(entry))?;
-    let form = match rank_form(&node.forms, target_of(p, entry)) {
+    let form = match form_at(by, target_of(p, entry)) {
         Some(f) => form_bound(alloc, &f.coefs, f.constant, node.den, known, entry, &[])?,
         None => form_bound(alloc, &[], 0, node.den, known, entry, &[])?,
     };
@@ -72,24 +74,25 @@ fn entry_part<K: Known>(
 fn sum_over<K: Known>(
     alloc: Global,
     p: &Program,
-    node: &RankNode,
+    by: &FormLookup,
     known: &K,
     entering: &[u32],
 ) -> Result<Bound, Memory>
-    requires over { 1 ≤ node.now.den }
-    requires few { All IsShort node.now.forms.items }
-    ensures { IfOk result (λ b. bound_of b ≡ SumOf (parts_for (entry_bound (program_of p.now) (rank_of node.now)
-        (K.table known.now).time (K.table known.now).size) entering.now)) }
+    requires over { 1 ≤ by.now.node.now.den }
+    requires few { All IsShort by.now.node.now.forms.items }
+    ensures { IfOk result (λ b. bound_of b ≡ SumOf (parts_for (entry_bound (program_of p.now) (rank_of
+        by.now.node.now) (K.table known.now).time (K.table known.now).size) entering.now)) }
 {
     let mut parts = Vec::new(alloc);
     for entry in entering {
-        let part = entry_part(alloc, p, node, known, *entry)?;
+        let part = entry_part(alloc, p, by, known, *entry)?;
         parts.push(part)?;
     }
     Ok(Bound::Sum(parts))
 }
 
-// The time that a ranking node composes: the sum over the entries of its set.
+// The time that a ranking node composes: the sum over the entries of its set. It is near-linear in the rules and forms,
+// but for what known bounds take to be looked up and copied.
 fn composed_time<K: Known>(
     alloc: Global,
     p: &Program,
@@ -103,7 +106,8 @@ fn composed_time<K: Known>(
         (K.table known.now).size) }
 {
     let entering = entries(alloc, p, &node.set)?;
-    sum_over(alloc, p, node, known, &entering)
+    let by = form_lookup_of(alloc, node)?;
+    sum_over(alloc, p, &by, known, &entering)
 }
 
 /// The time that a ranking node states, rewritten, or how many nodes what is too large has: the sum, over the entries

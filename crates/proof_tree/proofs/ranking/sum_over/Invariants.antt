@@ -9,7 +9,7 @@ use Rattle.proof_tree.proofs.ranking.sum_over.Given as goal
 abbrev pub invariant-loop-entry : goal.invariant-loop-entry
 invariant-loop-entry g l =
     joined (parts_of (bounds_of l.parts.items))
-    (parts_for (entry_bound (program_of l.p) (rank_of l.node) (g.K.Known.table l.known).time (g.K.Known.table l.known).size)
+    (parts_for (entry_bound (program_of l.p) (rank_of l.by.node.now) (g.K.Known.table l.known).time (g.K.Known.table l.known).size)
     (drop l.entry-index l.entering))
-    ≡ parts_for (entry_bound (program_of l.p) (rank_of l.node) (g.K.Known.table l.known).time (g.K.Known.table l.known).size)
+    ≡ parts_for (entry_bound (program_of l.p) (rank_of l.by.node.now) (g.K.Known.table l.known).time (g.K.Known.table l.known).size)
     l.entering
