@@ -2,11 +2,10 @@
 use Rattle.std.proofs.Common.{◌≡◌, ◌⊎◌, inl, inr, ℕ, zero, suc, ◌+◌, ◌<◌, ◌≤◌, not, Bool, true, false, cond}
 use Rattle.std.proofs.Common.{if◌then◌else◌, List, [], ◌∷◌, ◌++◌, length, map, filter, drop, get_or, Option, Some}
 use Rattle.std.proofs.Common.{refl, sym, ap, ◌∙◌, subst, arith}
-use Rattle.std.specs.Prelude.{ℤ, pos, ◌+ℤ◌, ◌-ℤ◌, slice_index_or}
+use Rattle.std.specs.Prelude.{pos, ◌+ℤ◌, ◌-ℤ◌, slice_index_or}
 use Rattle.std.specs.List.{AllByRecursion, range_with_len}
 use Rattle.std.proofs.lemmas.Bool.{cases_lt, eq-eqb}
 use Rattle.std.proofs.lemmas.List.{drop_more, drop_all}
-use Rattle.std.proofs.Math.ListN.{get_or-map}
 use Rattle.farkas_cert.specs.linear_forms.Forms.{Form}
 use Rattle.farkas_cert.specs.linear_forms.Combinations.{zero_form}
 use Rattle.farkas_cert.specs.linear_forms.RuleQuestions.{RuleForms, Coefficient, after_rule, at_source, at_target}
@@ -17,8 +16,6 @@ use Rattle.proof_tree.specs.proof_nodes.AcceptsPlain.{IsRule}
 use Rattle.proof_tree.specs.proof_nodes.GapChecks.{value_at, net}
 use Rattle.proof_tree.specs.proof_nodes.Gaps.{ScaledPoint}
 use Rattle.proof_tree.proofs.proof_nodes.CheckLists.{each-append}
-use Rattle.farkas_cert.specs.declared.scaled.Scaled.{Scaled}
-use Rattle.proof_tree.specs.AnswerViews.{scaled_of}
 use Rattle.gap_checks.specs.GapTests.{IsFirstFailing, coefficient_at}
 
 -- what fails first in a list fails first in a longer one
@@ -138,22 +135,6 @@ module _ (rule : ℕ → RuleForms) (c : Coefficient) (set : List ℕ) (zs : Lis
   -- where no rule is left, nothing is
   pub net-end : (i : ℕ) → length set ≤ i → net rule c (drop i set) (drop i zs) ≡ pos 0
   net-end i h = ap (λ (ts : List ℕ). net rule c ts (drop i zs)) (drop_all i set h)
-
--- so what a rule that was judged by itself adds
-pub net-step : (rule : ℕ → RuleForms) (c : Coefficient) (set : List ℕ) (moves : List Scaled) (i : ℕ) (m : Scaled) (r : ℤ)
-    → length (map scaled_of moves) ≡ length set → i < length set → m ≡ get_or moves i m
-    → r ≡ value_at (at_source (rule (get_or set i 0)) c) (scaled_of m)
-    -ℤ value_at (at_target (rule (get_or set i 0)) c) (scaled_of m)
-    → net rule c (drop i set) (drop i (map scaled_of moves))
-    ≡ r +ℤ net rule c (drop (i + 1) set) (drop (i + 1) (map scaled_of moves))
-net-step rule c set moves i m r l h e v =
-    net-next rule c set (map scaled_of moves) i 0 (scaled_of m) l h
-    ∙ (ap (λ (z : ScaledPoint). (value_at (at_source (rule (get_or set i 0)) c) z
-    -ℤ value_at (at_target (rule (get_or set i 0)) c) z) +ℤ rest) (get_or-map scaled_of moves i m ∙ ap scaled_of (sym e))
-    ∙ ap (λ (x : ℤ). x +ℤ rest) (sym v))
-  where
-    rest : ℤ
-    rest = net rule c (drop (i + 1) set) (drop (i + 1) (map scaled_of moves))
 
 module _ (p : Program) (t : ℕ) (is : IsRule p t) where
   -- where a rule leads to

@@ -4,5 +4,8 @@ pub mod GapShapes
 pub mod GapValues
 pub mod FirstFaults
 pub mod Balances
+pub mod TouchLists
+pub mod TouchSums
 pub mod Touched
+pub mod ShutRows
 pub mod Sums

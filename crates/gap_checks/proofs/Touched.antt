@@ -1,80 +1,127 @@
--- The symbols that the rules of a set leave or lead to, and which of them is the next.
-use Rattle.std.proofs.Common.{◌≡◌, ◌⊎◌, inl, inr, ℕ, ◌+◌, ◌<◌, ◌≤◌, ◌==◌, ◌||◌, Bool, true, false, if◌then◌else◌}
-use Rattle.std.proofs.Common.{List, drop, Option, Some, None, refl, sym, ap, ◌∙◌, subst, arith}
-use Rattle.std.specs.Prelude.{pos, ◌-ℤ◌, IfSome}
-use Rattle.std.proofs.lemmas.Bool.{cases_lt, eq-eqb, eqb-true}
-use Rattle.std.proofs.lemmas.Int.{ints}
-use Rattle.farkas_cert.specs.linear_forms.Combinations.{zero_form}
-use Rattle.farkas_cert.specs.linear_forms.RuleQuestions.{after_rule, before_rule}
-use Rattle.farkas_cert.specs.model.Paths.{source_in, source_of, target_of, same_symbol}
+-- Symbols in the order of their touches: those that were looked at, and the first that isn't balanced.
+use Rattle.std.proofs.Common.{◌≡◌, ◌⊎◌, inl, inr, ℕ, ◌<◌, ◌≤◌, ◌==◌, true, List, length, get_or}
+use Rattle.std.proofs.Common.{Option, Some, None, refl, sym, ap, ◌∙◌, subst, arith}
+use Rattle.std.specs.List.{AllByRecursion}
+use Rattle.std.proofs.lemmas.Bool.{cases_lt, eqb-true}
 use Rattle.farkas_cert.specs.model.Programs.{Program, Rule}
+use Rattle.farkas_cert.proofs.model.Membership.{same_number}
+use Rattle.its_model.specs.Valid.{IsValid}
+use Rattle.its_model.proofs.ValidLaws.{rule-valid}
 use Rattle.proof_tree.specs.proof_setting.RankedSets.{forms_in, forms_at}
 use Rattle.proof_tree.specs.proof_nodes.AcceptsPlain.{IsRule}
-use Rattle.proof_tree.specs.proof_nodes.GapChecks.{value_at}
-use Rattle.proof_tree.specs.proof_nodes.Gaps.{ScaledPoint}
+use Rattle.proof_tree.specs.proof_nodes.GapChecks.{balanced_at}
+use Rattle.proof_tree.specs.proof_nodes.Gaps.{Gap}
 use Rattle.proof_tree.specs.proof_nodes.Graph.{touches}
-use Rattle.gap_checks.specs.GapTests.{coefficient_at, touches_by}
-use Rattle.gap_checks.specs.GapBalances.{IsBefore, IsNextTouched, net_by}
-use Rattle.gap_checks.proofs.Balances.{target-is}
+use Rattle.gap_checks.specs.declared.touching.Group.{Group}
+use Rattle.gap_checks.specs.declared.touching.Side.{Side}
+use Rattle.gap_checks.specs.declared.touching.Side.TheVariants.{Leaves, Arrives}
+use Rattle.gap_checks.specs.declared.touching.Touch.{Touch}
+use Rattle.gap_checks.specs.GapBalances.{IsFirstOfSymbol}
+use Rattle.gap_checks.specs.GapTests.{IsBalanced, IsFirstFailing, IsFirstUnbalanced, coefficient_at, places_at}
+use Rattle.gap_checks.specs.Touches.{AreRules, AreTouches, IsGroup, rule_in}
+use Rattle.gap_checks.proofs.Balances.{blocks-hold, blocks-fail}
+use Rattle.gap_checks.proofs.GapFaults.{in-list}
+use Rattle.gap_checks.proofs.TouchLists.{symbol_by, touch-real, is_of, touched-any, any-at, at-any}
 
--- neither of two tests is passed
-neither : (a b : Bool) → (a || b) ≡ false → (a ≡ false) × (b ≡ false)
-neither true b e = absurd (let no : ⊥ = cc in no)
-neither false b e = (refl, e)
+-- a rule of a valid program leaves a symbol of it and leads to one
+symbol-known : (p : Program) → IsValid p → (t : ℕ) (is : IsRule p t) (side : Side)
+    → symbol_by side (forms_at p t) < length p.symbols
+symbol-known p valid t is Leaves =
+    subst (λ (o : Option Rule). (forms_in o).source < length p.symbols) (sym is.numbered)
+    (rule-valid p t is.rule valid is.numbered).source
+symbol-known p valid t is Arrives =
+    subst (λ (o : Option Rule). (forms_in o).target < length p.symbols) (sym is.numbered)
+    (rule-valid p t is.rule valid is.numbered).target
 
-module _ (p : Program) (t : ℕ) (is : IsRule p t) where
-  -- where a rule comes from
-  source-is : source_of p t ≡ Some (forms_at p t).source
-  source-is = subst (λ (o : Option Rule). source_in o ≡ Some (forms_in o).source) (sym is.numbered) refl
+-- the touches before a position are all those of their symbols, of which each is balanced
+pub record AreDoneBefore (p : Program) (g : Gap) (ts : List Touch) (start : ℕ) : Type 0 where
+  pub first : start < length ts → IsFirstOfSymbol ts start
+  pub each : (k : ℕ) (d : Touch) → k < start
+      → AllByRecursion (IsBalanced p g) (places_at p g (get_or ts k d).symbol)
 
-  -- a rule that neither leaves a symbol nor leads to it takes nothing from its places, and brings nothing there
-  pub untouched : (symbol place : ℕ) (z : ScaledPoint) → touches_by p t symbol ≡ false
-      → net_by p t z (coefficient_at symbol place) ≡ pos 0
-  untouched symbol place z e =
-      let both = neither (same_symbol (Some symbol) (source_of p t)) (same_symbol (Some symbol) (target_of p t)) e in
-      let left : (symbol == (forms_at p t).source) ≡ false =
-      ap (same_symbol (Some symbol)) (sym source-is) ∙ both.0 in
-      let right : (symbol == (forms_at p t).target) ≡ false =
-      ap (same_symbol (Some symbol)) (sym (target-is p t is)) ∙ both.1 in
-      ap (λ (v : Bool). value_at (if v then before_rule place else zero_form) z
-      -ℤ value_at (if symbol == (forms_at p t).target then after_rule (forms_at p t) place else zero_form) z) left
-      ∙ (ap (λ (v : Bool). value_at zero_form z -ℤ value_at (if v then after_rule (forms_at p t) place else zero_form) z)
-      right
-      ∙ omega (arith, ints))
+module _ (p : Program) (g : Gap) (ts : List Touch) where
+  -- at the beginning there is none
+  pub done-none : AreDoneBefore p g ts 0
+  done-none = record { first = λ l j d e m. absurd (omega (arith, m)); each = λ k d m. absurd (omega (arith, m)) }
 
--- what was found of the symbols, from one on, that a set touches, where the rules from position i on are left: those
--- before it that are touched are so by what is left
-pub record IsFoundSoFar (p : Program) (set : List ℕ) (from i : ℕ) (next : Option ℕ) : Type 0 where
-  pub left : (s : ℕ) → from ≤ s → IsBefore s next → touches p (drop i set) s ≡ touches p set s
-  pub touched : IfSome next (λ n. (from ≤ n) × (touches p set n ≡ true))
+  -- one symbol more
+  pub done-more : (group : Group) → IsGroup ts group
+      → AllByRecursion (IsBalanced p g) (places_at p g group.symbol)
+      → AreDoneBefore p g ts group.start → AreDoneBefore p g ts group.end
+  done-more group is all done = record {
+    first = λ l j d e m. first l j d e m (cases_lt j group.start);
+    each = λ k d m. each k d m (cases_lt k group.start);
+  }
+    where
+      first : group.end < length ts → (j : ℕ) (d e : Touch) → j < group.end → (j < group.start) ⊎ (group.start ≤ j)
+          → (get_or ts j d).symbol < (get_or ts group.end e).symbol
+      first l j d e m (inl b) = omega (arith, is.before j d (omega arith) b, is.behind group.end e (omega arith) l)
+      first l j d e m (inr b) = omega (arith, is.within j d b m, is.behind group.end e (omega arith) l)
 
--- one symbol more, where it isn't the one that was found
-pub next-passed : (p : Program) (set : List ℕ) (from : ℕ) (next : Option ℕ) → IsNextTouched p set from next
-    → same_symbol (Some from) next ≡ false
-    → (touches p set from ≡ false) × IsNextTouched p set (from + 1) next
-next-passed p set from None h e = (
-  h.none_before from (omega arith) tt,
-  record { none_before = λ s f b. h.none_before s (omega (arith, f)) tt; touched = tt },
-)
-next-passed p set from (Some n) h e = (
-  h.none_before from (omega arith) (before n h.touched.0 e),
-  record {
-    none_before = λ s f b. h.none_before s (omega (arith, f)) b;
-    touched = (omega (arith, before n h.touched.0 e), h.touched.1);
-  },
-)
-  where
-    before : (m : ℕ) → from ≤ m → (from == m) ≡ false → from < m
-    before m l k = go (cases_lt from m)
+      each : (k : ℕ) (d : Touch) → k < group.end → (k < group.start) ⊎ (group.start ≤ k)
+          → AllByRecursion (IsBalanced p g) (places_at p g (get_or ts k d).symbol)
+      each k d m (inl b) = done.each k d b
+      each k d m (inr b) =
+          subst (λ (s : ℕ). AllByRecursion (IsBalanced p g) (places_at p g s)) (sym (is.within k d b m)) all
+
+  module _ (rules : AreRules p g.set) (h : AreTouches (forms_at p) g.set ts) (d : Touch) where
+    -- a symbol that the set touches has a touch
+    touch-of : (s : ℕ) → touches p g.set s ≡ true → (k : ℕ) × (k < length ts) × (s ≡ (get_or ts k d).symbol)
+    touch-of s t =
+        let found = any-at (is_of s) d ts (touched-any p g.set rules s ts h ∙ t) in
+        (found.0, found.1, eqb-true s (get_or ts found.0 d).symbol found.2)
+
+    -- where all are done, all balances are 0
+    pub done-all : (start : ℕ) → length ts ≤ start → AreDoneBefore p g ts start → IsFirstUnbalanced p g None
+    done-all start l done =
+        blocks-hold (touches p g.set) (IsBalanced p g) (balanced_at p g) (places_at p g) refl (λ s ss. refl) 0
+        (length p.symbols)
+        (λ s a b t.
+        let at = touch-of s t in
+        subst (λ (r : ℕ). AllByRecursion (IsBalanced p g) (places_at p g r)) (sym at.2)
+        (done.each at.0 d (omega (arith, l, at.1))))
+
+    -- what fails first of the next symbol fails first of all
+    pub done-fails : IsValid p → (group : Group) (place : ℕ) → IsGroup ts group → AreDoneBefore p g ts group.start
+        → IsFirstFailing (IsBalanced p g) (places_at p g group.symbol) (coefficient_at group.symbol place)
+        → IsFirstUnbalanced p g (Some (group.symbol, place))
+    done-fails valid group place is done fails =
+        blocks-fail (touches p g.set) (IsBalanced p g) (balanced_at p g) (places_at p g) refl (λ s ss. refl) 0
+        (length p.symbols) group.symbol (coefficient_at group.symbol place) (omega arith) (omega (arith, known))
+        (λ s a b t. before s b (touch-of s t)) touched fails
       where
-        go : (from < m) ⊎ (m ≤ from) → from < m
-        go (inl b) = b
-        go (inr b) =
-            absurd (let t : true ≡ false = sym (eq-eqb from m (omega (arith, l, b))) ∙ k in let no : ⊥ = cc in no)
+        here : Touch
+        here = get_or ts group.start d
 
--- where it is the one that was found, it is touched
-pub next-here : (p : Program) (set : List ℕ) (from s : ℕ) (next : Option ℕ) → IsNextTouched p set from next
-    → same_symbol (Some s) next ≡ true → touches p set s ≡ true
-next-here p set from s None h e = absurd (let no : ⊥ = cc in no)
-next-here p set from s (Some n) h e =
-    subst (λ (m : ℕ). touches p set m ≡ true) (let same : s ≡ n = eqb-true s n e in sym same) h.touched.1
+        inside : group.start < length ts
+        inside = omega (arith, is.some, is.bound)
+
+        same : here.symbol ≡ group.symbol
+        same = is.within group.start d (omega arith) is.some
+
+        known : group.symbol < length p.symbols
+        known =
+            let real = touch-real (forms_at p) g.set ts h group.start d inside in
+            omega (
+              arith,
+              same,
+              real.1,
+              symbol-known p valid (rule_in g.set here.position)
+                  (rules (rule_in g.set here.position) (in-list g.set here.position 0 real.0)) here.side,
+            )
+
+        touched : touches p g.set group.symbol ≡ true
+        touched =
+            sym (touched-any p g.set rules group.symbol ts h)
+            ∙ at-any (is_of group.symbol) d ts group.start inside
+            (ap (λ (s : ℕ). group.symbol == s) same ∙ same_number group.symbol)
+
+        before : (s : ℕ) → s < group.symbol → ((k : ℕ) × (k < length ts) × (s ≡ (get_or ts k d).symbol))
+            → AllByRecursion (IsBalanced p g) (places_at p g s)
+        before s b at = go (cases_lt at.0 group.start)
+          where
+            go : (at.0 < group.start) ⊎ (group.start ≤ at.0) → AllByRecursion (IsBalanced p g) (places_at p g s)
+            go (inl l) =
+                subst (λ (r : ℕ). AllByRecursion (IsBalanced p g) (places_at p g r)) (sym at.2) (done.each at.0 d l)
+            go (inr l) =
+                absurd (omega (arith, b, at.2, same, h.ordered group.start at.0 d l at.1))

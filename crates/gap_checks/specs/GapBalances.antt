@@ -1,17 +1,16 @@
--- The balances of a symbol's places, and the symbols that the rules of a set leave or lead to.
-use Rattle.std.specs.Prelude.{◌≡◌, ◌⊎◌, ℕ, ◌+◌, ◌*◌, ◌<◌, ◌≤◌, true, false, List, length, Option, Some, None, ⊤, IfSome}
-use Rattle.std.specs.Prelude.{slice_index_or, ℤ, pos, ◌+ℤ◌, ◌-ℤ◌, unsigned_abs}
-use Rattle.farkas_cert.specs.linear_forms.RuleQuestions.{Coefficient, at_source, at_target}
-use Rattle.farkas_cert.specs.model.Paths.{same_symbol}
+-- The sums of a symbol's places, and the flags of those that are shut.
+use Rattle.std.specs.Prelude.{◌≡◌, ℕ, ◌+◌, ◌*◌, ◌<◌, ◌≤◌, ◌&&◌, ◌||◌, nat_eq, Bool, false, List, [], length}
+use Rattle.std.specs.Prelude.{slice_index_or, ℤ, pos, ◌+ℤ◌, unsigned_abs}
 use Rattle.farkas_cert.specs.model.Programs.{Program, arity_of}
 use Rattle.its_model.specs.Views.{program_of}
 use Rattle.proof_tree.specs.Composing.{AreRowsOf}
-use Rattle.proof_tree.specs.proof_nodes.GapChecks.{value_at, net}
-use Rattle.proof_tree.specs.proof_nodes.Gaps.{Gap, ScaledPoint}
-use Rattle.proof_tree.specs.proof_nodes.Graph.{touches}
+use Rattle.proof_tree.specs.proof_nodes.GapChecks.{net}
+use Rattle.proof_tree.specs.proof_nodes.Gaps.{Gap, SymbolPlace}
 use Rattle.proof_tree.specs.proof_setting.RankedSets.{forms_at}
 use Rattle.gap_checks.specs.declared.program_rules.Rules.{Rules}
-use Rattle.gap_checks.specs.GapTests.{coefficient_at, net_limit}
+use Rattle.gap_checks.specs.declared.touching.Touch.{Touch}
+use Rattle.gap_checks.specs.GapTests.{coefficient_at, value_limit, AreShutFlags}
+use Rattle.gap_checks.specs.Touches.{part_of}
 
 -- the program of rules, as plain data
 abbrev pub program : Rules → Program
@@ -20,10 +19,6 @@ program rules = program_of rules.program.now
 -- what was prepared is that of the program's rules
 abbrev pub ArePrepared : Rules → Type 0
 ArePrepared rules = AreRowsOf rules.preps.now (program rules)
-
--- what leaves a place of a symbol by a rule at a scaled point, less what arrives there
-abbrev pub net_by : Program → ℕ → ScaledPoint → Coefficient → ℤ
-net_by p t z c = value_at (at_source (forms_at p t) c) z -ℤ value_at (at_target (forms_at p t) c) z
 
 -- the sum of a place
 abbrev pub sum_at : List ℤ → ℕ → ℤ
@@ -34,31 +29,48 @@ pub record AreSums (sums : List ℤ) (limit : ℕ) : Type 0 where
   pub long : length sums ≡ 33
   pub size : (place : ℕ) → place < 33 → unsigned_abs (sum_at sums place) ≤ limit
 
--- what a rule takes from each place of a symbol at a scaled point, less what it brings there, was added
-pub record AddsNet (p : Program) (t : ℕ) (z : ScaledPoint) (symbol : ℕ) (old new : List ℤ) : Type 0 where
+-- what a touch has in the balance of each place of its symbol was added
+pub record AddsTouch (p : Program) (g : Gap) (touch : Touch) (old new : List ℤ) : Type 0 where
   pub long : length new ≡ length old
-  pub each : (place : ℕ) → place < arity_of p symbol + 1
-      → sum_at new place ≡ sum_at old place +ℤ net_by p t z (coefficient_at symbol place)
+  pub each : (place : ℕ) → place < arity_of p touch.symbol + 1
+      → sum_at new place
+      ≡ sum_at old place +ℤ part_of (forms_at p) g.set g.moves (coefficient_at touch.symbol place) touch
   pub size : (place : ℕ) → place < length old
-      → unsigned_abs (sum_at new place) ≤ unsigned_abs (sum_at old place) + net_limit
+      → unsigned_abs (sum_at new place) ≤ unsigned_abs (sum_at old place) + value_limit
 
 -- for place 0 and each place of a symbol, what leaves it by the moves, less what arrives there
 pub record AreNets (p : Program) (g : Gap) (symbol : ℕ) (nets : List ℤ) : Type 0 where
-  pub sums : AreSums nets (1000 * net_limit)
+  pub sums : AreSums nets (2000 * value_limit)
   pub each : (place : ℕ) → place < arity_of p symbol + 1
       → sum_at nets place ≡ net (forms_at p) (coefficient_at symbol place) g.set g.moves
 
--- a symbol comes before what was found, if anything was
-abbrev pub IsBefore : ℕ → Option ℕ → Type 0
-IsBefore s None = ⊤
-IsBefore s (Some n) = s < n
+-- at a position, the flags of the touch there
+abbrev pub flags_at : List (List Bool) → ℕ → List Bool
+flags_at rows k = slice_index_or rows k []
 
--- of what was found and a symbol the one that comes first, if the symbol isn't before the one from which they count
-pub record IsNearer (old : Option ℕ) (from : ℕ) (found new : Option ℕ) : Type 0 where
-  pub before : (s : ℕ) → from ≤ s → IsBefore s new → IsBefore s old × (same_symbol (Some s) found ≡ false)
-  pub one : (new ≡ old) ⊎ IfSome new (λ n. (found ≡ Some n) × (from ≤ n) × IsBefore n old)
+-- the touch at a position is the first of its symbol
+abbrev pub IsFirstOfSymbol : List Touch → ℕ → Type 0
+IsFirstOfSymbol touches k =
+    (j : ℕ) (d e : Touch) → j < k → (slice_index_or touches j d).symbol < (slice_index_or touches k e).symbol
 
--- the least symbol, from one on, that a rule of the set leaves or leads to
-pub record IsNextTouched (p : Program) (set : List ℕ) (from : ℕ) (next : Option ℕ) : Type 0 where
-  pub none_before : (s : ℕ) → from ≤ s → IsBefore s next → touches p set s ≡ false
-  pub touched : IfSome next (λ n. (from ≤ n) × (touches p set n ≡ true))
+-- at the first touch of each symbol, which of its places are shut
+pub record AreShutRows (touches : List Touch) (shut : List SymbolPlace) (rows : List (List Bool)) : Type 0 where
+  pub each : (k : ℕ) (d : Touch) → k < length touches → IsFirstOfSymbol touches k
+      → AreShutFlags (flags_at rows k) shut (slice_index_or touches k d).symbol
+
+-- there is a flag for place 0 and each place that a symbol may have
+abbrev pub AreWide : List (List Bool) → Type 0
+AreWide rows = (k : ℕ) → k < length rows → length (flags_at rows k) ≡ 33
+
+-- no flag of a place is set
+abbrev pub AreClear : List (List Bool) → Type 0
+AreClear rows = (k i : ℕ) → k < length rows → i < 33 → slice_index_or (flags_at rows k) i false ≡ false
+
+-- the flag of a place of a symbol was set at the first touch of that symbol
+pub record MarksFirst (touches : List Touch) (spot : SymbolPlace) (old new : List (List Bool)) : Type 0 where
+  pub long : length new ≡ length old
+  pub wide : AreWide new
+  pub each : (k i : ℕ) (d : Touch) → k < length touches → i < 33 → IsFirstOfSymbol touches k
+      → slice_index_or (flags_at new k) i false
+      ≡ slice_index_or (flags_at old k) i false
+      || (nat_eq spot.symbol (slice_index_or touches k d).symbol && nat_eq spot.place i)

@@ -1,12 +1,11 @@
 -- What finding the first fault of a gap meets: points with small numbers, the rows and new values that were prepared of a
 -- rule, and the first element of a list that fails.
 use Rattle.std.specs.Prelude.{◌≡◌, ◌⊎◌, ℕ, zero, suc, ◌≤◌, true, false, List, [], ◌∷◌, length, option_map, Option, Some, None}
-use Rattle.std.specs.Prelude.{slice_get, slice_index_or, ◌<◌, ◌*◌, ◌^◌, ◌||◌, Bool, pos, map, filter, not}
+use Rattle.std.specs.Prelude.{slice_get, slice_index_or, ◌<◌, ◌*◌, ◌^◌, Bool, pos, map, filter, not}
 use denote.Ref.{Bor}
 use Rattle.farkas_cert.specs.linear_forms.Limits.{point_limit}
 use Rattle.farkas_cert.specs.linear_forms.RuleQuestions.{RuleForms, Coefficient}
 use Rattle.farkas_cert.specs.model.Entries.{is_in}
-use Rattle.farkas_cert.specs.model.Paths.{source_of, target_of, same_symbol}
 use Rattle.farkas_cert.specs.model.Programs.{Program, arity_of}
 use Rattle.farkas_cert.specs.Sizes.{AreParts, HasRowNumbers}
 use Rattle.farkas_cert.specs.declared.scaled.Scaled.{Scaled}
@@ -14,7 +13,7 @@ use Rattle.guard_prep.specs.declared.rule_rows.RuleRows.{RuleRows}
 use Rattle.guard_prep.specs.Views.{prepared_of}
 use Rattle.proof_tree.specs.proof_nodes.AcceptsPlain.{IsRule}
 use Rattle.proof_tree.specs.proof_setting.RankedSets.{forms_of, forms_at}
-use Rattle.proof_tree.specs.proof_nodes.GapChecks.{IsGapPoint, point_of, balance}
+use Rattle.proof_tree.specs.proof_nodes.GapChecks.{IsGapPoint, point_of, balance, balanced}
 use Rattle.proof_tree.specs.proof_nodes.Gaps.{ScaledPoint}
 use Rattle.proof_tree.specs.proof_nodes.Gaps as plain
 use Rattle.proof_tree.specs.proof_nodes.Numbers.{IsAscending}
@@ -70,21 +69,14 @@ optional_prep o = option_map (λ m. m.now) o
 abbrev pub coefficient_at : ℕ → ℕ → Coefficient
 coefficient_at symbol place = record { symbol = symbol; place = place }
 
--- what an absolute value of a new value at a near point is at most, and what one of a rule's parts of a balance is
+-- what an absolute value of a new value at a near point is at most
 abbrev pub value_limit : ℕ
 value_limit = 129 * 2 ^ 108
-
-abbrev pub net_limit : ℕ
-net_limit = 130 * 2 ^ 108
 
 -- a flag for place 0 and each place that a symbol may have: whether it is shut
 pub record AreShutFlags (flags : List Bool) (shut : List plain.SymbolPlace) (symbol : ℕ) : Type 0 where
   pub long : length flags ≡ 33
   pub each : (i : ℕ) → i < 33 → slice_index_or flags i false ≡ plain.is_shut shut symbol i
-
--- a rule leaves the symbol or leads to it
-abbrev pub touches_by : Program → ℕ → ℕ → Bool
-touches_by p t a = same_symbol (Some a) (source_of p t) || same_symbol (Some a) (target_of p t)
 
 -- the balance of a coefficient is 0
 abbrev pub IsBalanced : Program → plain.Gap → Coefficient → Type 0
@@ -95,6 +87,11 @@ abbrev pub places_at : Program → plain.Gap → ℕ → List Coefficient
 places_at p g s =
     map (λ i. record { symbol = s; place = i })
     (0 ∷ filter (λ i. not (plain.is_shut g.shut s i)) (range_with_len 1 (arity_of p s)))
+
+-- what was found is the first place, by symbols and then by places, that isn't shut and isn't balanced
+abbrev pub IsFirstUnbalanced : Program → plain.Gap → Option (ℕ × ℕ) → Type 0
+IsFirstUnbalanced p g None = AllByRecursion (IsBalanced p g) (balanced p g)
+IsFirstUnbalanced p g (Some c) = IsFirstFailing (IsBalanced p g) (balanced p g) (coefficient_at c.0 c.1)
 
 -- the set of a gap ascends, has only numbers of rules and holds the strict rule
 pub record IsGapSet (p : Program) (g : plain.Gap) : Type 0 where

@@ -1,25 +1,25 @@
 //! Which balance of a gap isn't 0.
 
 ghost use Rattle.std.specs.Prelude.{◌≡◌, ◌≢◌, ℕ, ◌+◌, ◌*◌, ◌<◌, ◌≤◌, length, map, pos, MatchOption, slice_index_or};
-ghost use Rattle.std.specs.Prelude.{IsTrue, ◌↔◌, ◌⊎◌, false};
+ghost use Rattle.std.specs.Prelude.{IsTrue, ◌↔◌, ◌⊎◌, false, unsigned_abs};
 ghost use Rattle.std.specs.List.{AllByRecursion};
 ghost use Rattle.its_model.specs.Valid.{IsValid};
 ghost use Rattle.its_model.specs.Views.{program_of};
 ghost use Rattle.farkas_cert.specs.model.Programs.{arity_of};
 ghost use Rattle.proof_tree.specs.proof_setting.RankedSets.{forms_at};
-ghost use Rattle.proof_tree.specs.proof_nodes.AcceptsPlain.{IsRule};
-ghost use Rattle.proof_tree.specs.proof_nodes.GapChecks.{HasGapShape, balance, balanced};
-ghost use Rattle.proof_tree.specs.AnswerViews.{scaled_of, gap_of};
+ghost use Rattle.proof_tree.specs.proof_nodes.GapChecks.{HasGapShape, balance};
+ghost use Rattle.proof_tree.specs.AnswerViews.{gap_of};
 ghost use Rattle.proof_tree.specs.Composing.{AreRowsOf};
-ghost use Rattle.gap_checks.specs.GapTests.{IsNear, IsFirstFailing, coefficient_at, net_limit, IsBalanced, places_at};
-ghost use Rattle.gap_checks.specs.GapBalances.{AddsNet, AreNets, ArePrepared, AreSums, program};
+ghost use Rattle.gap_checks.specs.GapTests.{IsFirstFailing, coefficient_at, value_limit, IsBalanced, places_at};
+ghost use Rattle.gap_checks.specs.GapTests.{AreShutFlags, IsFirstUnbalanced};
+ghost use Rattle.gap_checks.specs.GapBalances.{AddsTouch, AreNets, ArePrepared, AreShutRows, AreSums, program};
+ghost use Rattle.gap_checks.specs.Touches.{AreTouches, IsGroup, part_of};
 
-use crate::parts::{leaving, net_of};
+use crate::parts::{arriving, leaving};
 use crate::program_rules::Rules;
 use crate::rule_numbers::arity_at;
-use crate::shut_places::shut_flags;
-use crate::touching::{is_touched_by, next_touched, number_if};
-use farkas_cert::Scaled;
+use crate::shut_places::mark_shut;
+use crate::touching::{Group, Side, Touch, group_at, no_touch, order_touches};
 use guard_prep::RuleRows;
 use its_model::Program;
 use proof_tree::Gap;
@@ -32,35 +32,51 @@ fn places_of(p: &Program, symbol: u32) -> u32
     arity_at(p, symbol)
 }
 
-// Adds what a rule takes from each place of a symbol at a scaled point, less what it brings there. The places are walked
-// only where the rule leaves the symbol or leads to it.
-fn add_net(sums: &mut [i128], rules: &Rules, rule: u32, z: &Scaled, symbol: u32)
-    requires valid { IsValid (program rules.now) }
-    requires rows { ArePrepared rules.now }
-    requires rule { IsRule (program rules.now) rule }
-    requires near { IsNear (scaled_of z.now) }
-    requires room { AreSums sums.old (999 * net_limit) }
-    ensures { AddsNet (program rules.now) rule (scaled_of z.now) symbol sums.old sums.new }
-{
-    let is_touched = is_touched_by(rules.program, rule, symbol);
-    if !is_touched {
-        return;
-    }
-    for place in 0..places_of(rules.program, symbol) + 1 {
-        sums[place as usize] += net_of(rules, rule, z, symbol, place);
-    }
-}
-
-// For place 0 and each place of a symbol what leaves it by the moves, less what arrives there, in one walk over the set.
-fn nets_of(rules: &Rules, g: &Gap, symbol: u32) -> [i128; 33]
+// What a touch has in the balance of a place of its symbol, by the moves.
+fn part_at(rules: &Rules, g: &Gap, touch: &Touch, place: u32) -> i128
     requires valid { IsValid (program rules.now) }
     requires rows { ArePrepared rules.now }
     requires shape { HasGapShape (program rules.now) (forms_at (program rules.now)) (gap_of g.now) }
-    ensures { AreNets (program rules.now) (gap_of g.now) symbol result }
+    requires inside { touch.now.position < length g.now.set.items }
+    ensures value { result ≡ part_of (forms_at (program rules.now)) (gap_of g.now).set (gap_of g.now).moves
+        (coefficient_at touch.now.symbol place) touch.now }
+    ensures size { unsigned_abs result ≤ value_limit }
+{
+    let rule = g.set[touch.position];
+    let z = &g.moves[touch.position];
+    match touch.side {
+        Side::Leaves => leaving(rules.program, rule, z, touch.symbol, place),
+        Side::Arrives => -arriving(rules, rule, z, touch.symbol, place),
+    }
+}
+
+// Adds what a touch has in the balance of each place of its symbol.
+fn add_touch(sums: &mut [i128], rules: &Rules, g: &Gap, touch: &Touch)
+    requires valid { IsValid (program rules.now) }
+    requires rows { ArePrepared rules.now }
+    requires shape { HasGapShape (program rules.now) (forms_at (program rules.now)) (gap_of g.now) }
+    requires inside { touch.now.position < length g.now.set.items }
+    requires room { AreSums sums.old (1999 * value_limit) }
+    ensures { AddsTouch (program rules.now) (gap_of g.now) touch.now sums.old sums.new }
+{
+    for place in 0..places_of(rules.program, touch.symbol) + 1 {
+        sums[place as usize] += part_at(rules, g, touch, place);
+    }
+}
+
+// For place 0 and each place of a symbol what leaves it by the moves, less what arrives there: the sum over the touches
+// of the symbol.
+fn nets_of(rules: &Rules, g: &Gap, touches: &[Touch], group: &Group) -> [i128; 33]
+    requires valid { IsValid (program rules.now) }
+    requires rows { ArePrepared rules.now }
+    requires shape { HasGapShape (program rules.now) (forms_at (program rules.now)) (gap_of g.now) }
+    requires touches { AreTouches (forms_at (program rules.now)) g.now.set.items touches.now }
+    requires group { IsGroup touches.now group.now }
+    ensures { AreNets (program rules.now) (gap_of g.now) group.now.symbol result }
 {
     let mut sums = [0i128; 33];
-    for i in 0..g.set.len() {
-        add_net(&mut sums, rules, g.set[i], &g.moves[i], symbol);
+    for index in group.start..group.end {
+        add_touch(&mut sums, rules, g, &touches[index]);
     }
     sums
 }
@@ -92,20 +108,19 @@ fn is_off(balance: i128, shut: &[bool], place: u32) -> bool
 }
 
 // The first place of a symbol that isn't shut and isn't balanced, the constant, place 0, before all others.
-fn first_place(rules: &Rules, g: &Gap, symbol: u32) -> Option<u32>
-    requires valid { IsValid (program rules.now) }
-    requires rows { ArePrepared rules.now }
-    requires shape { HasGapShape (program rules.now) (forms_at (program rules.now)) (gap_of g.now) }
+fn first_place(p: &Program, g: &Gap, nets: &[i128], shut: &[bool], symbol: u32) -> Option<u32>
+    requires valid { IsValid (program_of p.now) }
+    requires shape { HasGapShape (program_of p.now) (forms_at (program_of p.now)) (gap_of g.now) }
+    requires nets { AreNets (program_of p.now) (gap_of g.now) symbol nets.now }
+    requires flags { AreShutFlags shut.now (gap_of g.now).shut symbol }
     ensures { MatchOption result
-        (AllByRecursion (IsBalanced (program rules.now) (gap_of g.now)) (places_at (program rules.now) (gap_of g.now) symbol))
-        (λ place. IsFirstFailing (IsBalanced (program rules.now) (gap_of g.now))
-        (places_at (program rules.now) (gap_of g.now) symbol) (coefficient_at symbol place)) }
+        (AllByRecursion (IsBalanced (program_of p.now) (gap_of g.now)) (places_at (program_of p.now) (gap_of g.now) symbol))
+        (λ place. IsFirstFailing (IsBalanced (program_of p.now) (gap_of g.now))
+        (places_at (program_of p.now) (gap_of g.now) symbol) (coefficient_at symbol place)) }
 {
-    let nets = nets_of(rules, g, symbol);
-    let shut = shut_flags(&g.shut, symbol);
-    for place in 0..places_of(rules.program, symbol) + 1 {
-        let balance = balance_at(rules.program, g, &nets, symbol, place);
-        let off = is_off(balance, &shut, place);
+    for place in 0..places_of(p, symbol) + 1 {
+        let balance = balance_at(p, g, nets, symbol, place);
+        let off = is_off(balance, shut, place);
         if off {
             return Some(place);
         }
@@ -113,27 +128,84 @@ fn first_place(rules: &Rules, g: &Gap, symbol: u32) -> Option<u32>
     None
 }
 
+// The first place that isn't shut and isn't balanced, of the symbols of these touches.
+fn first_of_touches(
+    rules: &Rules,
+    g: &Gap,
+    touches: &[Touch],
+    rows: &[[bool; 33]],
+) -> Option<(u32, u32)>
+    requires valid { IsValid (program rules.now) }
+    requires rows { ArePrepared rules.now }
+    requires shape { HasGapShape (program rules.now) (forms_at (program rules.now)) (gap_of g.now) }
+    requires touches { AreTouches (forms_at (program rules.now)) g.now.set.items touches.now }
+    requires long { length rows.now ≡ length touches.now }
+    requires shut { AreShutRows touches.now (gap_of g.now).shut rows.now }
+    ensures { IsFirstUnbalanced (program rules.now) (gap_of g.now) result }
+{
+    let mut start = 0;
+    while start < touches.len() {
+        let group = group_at(touches, start);
+        let nets = nets_of(rules, g, touches, &group);
+        let off = first_place(rules.program, g, &nets, &rows[start], group.symbol);
+        if let Some(place) = off {
+            return Some((group.symbol, place));
+        }
+        start = group.end;
+    }
+    None
+}
+
+// The first place that isn't shut and isn't balanced, with room for two touches of each rule of the set, and for flags of
+// each. What stands there makes no difference.
+fn first_within(
+    rules: &Rules,
+    g: &Gap,
+    touches: &mut [Touch],
+    rows: &mut [[bool; 33]],
+) -> Option<(u32, u32)>
+    requires valid { IsValid (program rules.now) }
+    requires rows { ArePrepared rules.now }
+    requires shape { HasGapShape (program rules.now) (forms_at (program rules.now)) (gap_of g.now) }
+    requires room { length touches.old ≡ 2 * length g.now.set.items }
+    requires long { length rows.old ≡ 2 * length g.now.set.items }
+    ensures { IsFirstUnbalanced (program rules.now) (gap_of g.now) result }
+{
+    order_touches(touches, rules.program, &g.set);
+    mark_shut(rows, touches, &g.shut);
+    first_of_touches(rules, g, touches, rows)
+}
+
+// The same, with as much room or more.
+fn first_in(
+    rules: &Rules,
+    g: &Gap,
+    touches: &mut [Touch],
+    rows: &mut [[bool; 33]],
+) -> Option<(u32, u32)>
+    requires valid { IsValid (program rules.now) }
+    requires rows { ArePrepared rules.now }
+    requires shape { HasGapShape (program rules.now) (forms_at (program rules.now)) (gap_of g.now) }
+    requires room { 2 * length g.now.set.items ≤ length touches.old }
+    requires long { 2 * length g.now.set.items ≤ length rows.old }
+    ensures { IsFirstUnbalanced (program rules.now) (gap_of g.now) result }
+{
+    let count = 2 * g.set.len();
+    first_within(rules, g, &mut touches[..count], &mut rows[..count])
+}
+
 /// The first place that isn't shut and isn't balanced, by symbols and then by places, the constant of a symbol, place 0,
-/// before its places. The set is walked for each symbol that one of its rules leaves or leads to, and each new value of
-/// a move is taken once.
+/// before its places. The time is near-linear in the gap: each new value of a move is taken once, and each shut place is
+/// looked up once among the touches of the set, which are sorted. A small set takes less room.
 pub(crate) fn first_unbalanced(p: &Program, preps: &[RuleRows], g: &Gap) -> Option<(u32, u32)>
     requires valid { IsValid (program_of p.now) }
     requires rows { AreRowsOf preps.now (program_of p.now) }
     requires shape { HasGapShape (program_of p.now) (forms_at (program_of p.now)) (gap_of g.now) }
-    ensures { MatchOption result
-        (AllByRecursion (IsBalanced (program_of p.now) (gap_of g.now)) (balanced (program_of p.now) (gap_of g.now)))
-        (λ c. IsFirstFailing (IsBalanced (program_of p.now) (gap_of g.now))
-        (balanced (program_of p.now) (gap_of g.now)) (coefficient_at c.0 c.1)) }
+    ensures { IsFirstUnbalanced (program_of p.now) (gap_of g.now) result }
 {
     let rules = Rules { program: p, preps };
-    let mut next = next_touched(p, g, 0);
-    for symbol in 0..p.symbols.len() {
-        if let Some(number) = number_if(next, symbol) {
-            if let Some(place) = first_place(&rules, g, number) {
-                return Some((number, place));
-            }
-            next = next_touched(p, g, symbol + 1);
-        }
+    if g.set.len() <= 16 {
+        return first_in(&rules, g, &mut [no_touch(); 32], &mut [[false; 33]; 32]);
     }
-    None
+    first_in(&rules, g, &mut [no_touch(); 2000], &mut [[false; 33]; 2000])
 }

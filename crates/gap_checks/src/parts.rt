@@ -10,8 +10,8 @@ ghost use Rattle.proof_tree.specs.proof_setting.RankedSets.{forms_at};
 ghost use Rattle.proof_tree.specs.proof_nodes.AcceptsPlain.{IsRule};
 ghost use Rattle.proof_tree.specs.proof_nodes.GapChecks.{value_at};
 ghost use Rattle.proof_tree.specs.AnswerViews.{scaled_of};
-ghost use Rattle.gap_checks.specs.GapTests.{forms_by, IsNear, coefficient_at, value_limit, net_limit};
-ghost use Rattle.gap_checks.specs.GapBalances.{ArePrepared, net_by, program};
+ghost use Rattle.gap_checks.specs.GapTests.{forms_by, IsNear, coefficient_at, value_limit};
+ghost use Rattle.gap_checks.specs.GapBalances.{ArePrepared, program};
 
 use crate::gap_points::prep_at;
 use crate::program_rules::Rules;
@@ -72,8 +72,8 @@ pub(crate) fn leaving(p: &Program, rule: u32, z: &Scaled, symbol: u32, place: u3
     }
 }
 
-// What arrives at a place of a symbol by a rule from a scaled point.
-fn arriving(rules: &Rules, rule: u32, z: &Scaled, symbol: u32, place: u32) -> i128
+/// What arrives at a place of a symbol by a rule from a scaled point.
+pub(crate) fn arriving(rules: &Rules, rule: u32, z: &Scaled, symbol: u32, place: u32) -> i128
     requires rows { ArePrepared rules.now }
     requires news { All HasRowNumbers (forms_by rules.now.preps.now rule).news }
     requires rule { IsRule (program rules.now) rule }
@@ -90,16 +90,4 @@ fn arriving(rules: &Rules, rule: u32, z: &Scaled, symbol: u32, place: u32) -> i1
         },
         None => 0,
     }
-}
-
-/// What leaves a place of a symbol by a rule at a scaled point, less what arrives there.
-pub(crate) fn net_of(rules: &Rules, rule: u32, z: &Scaled, symbol: u32, place: u32) -> i128
-    requires rows { ArePrepared rules.now }
-    requires news { All HasRowNumbers (forms_by rules.now.preps.now rule).news }
-    requires rule { IsRule (program rules.now) rule }
-    requires near { IsNear (scaled_of z.now) }
-    ensures value { result ≡ net_by (program rules.now) rule (scaled_of z.now) (coefficient_at symbol place) }
-    ensures size { unsigned_abs result ≤ net_limit }
-{
-    leaving(rules.program, rule, z, symbol, place) - arriving(rules, rule, z, symbol, place)
 }

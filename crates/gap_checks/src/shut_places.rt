@@ -1,8 +1,11 @@
-//! Which places of a symbol are shut.
+//! Which places of the symbols that a set touches are shut.
 
 ghost use Rattle.std.specs.Prelude.{◌≡◌, ℕ, ◌<◌, ◌&&◌, ◌||◌, nat_eq, length, map, false, slice_index_or};
+ghost use Rattle.std.specs.List.Sorted.{IsNonDecreasingBy};
 ghost use Rattle.proof_tree.specs.AnswerViews.{shut_of};
-ghost use Rattle.gap_checks.specs.GapTests.{AreShutFlags};
+ghost use Rattle.gap_checks.specs.GapBalances.{AreClear, AreShutRows, AreWide, MarksFirst};
+
+use crate::touching::{Touch, touches_below};
 
 // Sets the flag of a place, where it is one of the symbol.
 fn mark(flags: &mut [bool], spot: &(u32, u32), symbol: u32)
@@ -20,13 +23,40 @@ fn mark(flags: &mut [bool], spot: &(u32, u32), symbol: u32)
     flags[spot.1 as usize] = true;
 }
 
-/// Of place 0 and each place that a symbol may have, whether it is one of these. The time is linear in them.
-pub(crate) fn shut_flags(shut: &[(u32, u32)], symbol: u32) -> [bool; 33]
-    ensures { AreShutFlags result (map shut_of shut.now) symbol }
+// Sets the flag of a place at the first touch of its symbol, where the set touches that.
+fn mark_first(rows: &mut [[bool; 33]], touches: &[Touch], spot: &(u32, u32))
+    requires ordered { IsNonDecreasingBy (λ t. t.symbol) touches.now }
+    requires room { length rows.old ≡ length touches.now }
+    requires wide { AreWide rows.old }
+    ensures { MarksFirst touches.now (shut_of spot.now) rows.old rows.new }
 {
-    let mut flags = [false; 33];
-    for spot in shut {
-        mark(&mut flags, spot, symbol);
+    let first = touches_below(touches, u64::from(spot.0));
+    if first < touches.len() {
+        mark(&mut rows[first], spot, touches[first].symbol);
     }
-    flags
+}
+
+// Clears all flags.
+fn clear(rows: &mut [[bool; 33]])
+    ensures long { length rows.new ≡ length rows.old }
+    ensures wide { AreWide rows.new }
+    ensures clear { AreClear rows.new }
+{
+    for index in 0..rows.len() {
+        rows[index] = [false; 33];
+    }
+}
+
+/// Sets at the first touch of each symbol the flags of those of its places that are shut, and no others: one for place 0
+/// and for each place that a symbol may have. The time is near-linear in the touches and the shut places.
+pub(crate) fn mark_shut(rows: &mut [[bool; 33]], touches: &[Touch], shut: &[(u32, u32)])
+    requires ordered { IsNonDecreasingBy (λ t. t.symbol) touches.now }
+    requires room { length rows.old ≡ length touches.now }
+    ensures long { length rows.new ≡ length rows.old }
+    ensures shut { AreShutRows touches.now (map shut_of shut.now) rows.new }
+{
+    clear(rows);
+    for spot in shut {
+        mark_first(rows, touches, spot);
+    }
 }

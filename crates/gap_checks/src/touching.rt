@@ -1,82 +1,122 @@
-//! Which symbols the rules of a set leave or lead to.
+//! Which symbols the rules of a set leave or lead to, in the order of symbols.
 
-ghost use Rattle.std.specs.Prelude.{◌≡◌, ◌↔◌, MatchOption, IsTrue, true, false, Some};
-ghost use Rattle.farkas_cert.specs.model.Paths.{same_symbol};
+ghost use Rattle.std.specs.Prelude.{◌≡◌, ◌*◌, ◌<◌, ◌≤◌, ℕ, length, slice_index_or};
+ghost use Rattle.std.specs.List.{AllWithin};
+ghost use Rattle.std.specs.List.Sorted.{IsNonDecreasingBy};
 ghost use Rattle.its_model.specs.Views.{program_of};
-ghost use Rattle.gap_checks.specs.GapTests.{touches_by};
-ghost use Rattle.gap_checks.specs.GapBalances.{IsBefore, IsNearer, IsNextTouched};
+ghost use Rattle.proof_tree.specs.proof_setting.RankedSets.{forms_at};
+ghost use Rattle.proof_tree.specs.proof_nodes.AcceptsPlain.{IsRule};
+ghost use Rattle.gap_checks.specs.Touches.{AreTouches, AreRules, IsGroup, touches_from};
 
 use its_model::Program;
-use proof_tree::{Gap, source_of, target_of};
-
-// Whether a symbol is the one that was found.
-fn is_found(found: Option<u32>, symbol: u32) -> bool
-    ensures { result ≡ same_symbol (Some symbol) found }
-{
-    match found {
-        Some(number) => symbol == number,
-        None => false,
-    }
-}
+use proof_tree::{source_of, target_of};
 
 /// Whether a rule leaves a symbol or leads to it.
-pub(crate) fn is_touched_by(p: &Program, rule: u32, symbol: u32) -> bool
-    ensures { result ≡ touches_by (program_of p.now) rule symbol }
-{
-    let leaves = is_found(source_of(p, rule), symbol);
-    if leaves {
-        return true;
-    }
-    is_found(target_of(p, rule), symbol)
+#[derive(Clone, Copy)]
+pub(crate) enum Side {
+    Leaves,
+    Arrives,
 }
 
-/// The number of a symbol, where it was found.
-pub(crate) fn number_if(found: Option<u32>, symbol: usize) -> Option<u32>
-    ensures { MatchOption result (same_symbol (Some symbol) found ≡ false)
-        (λ number. (number ≡ symbol) × (same_symbol (Some symbol) found ≡ true)) }
-{
-    match found {
-        Some(number) => if number as usize == symbol {
-            Some(number)
-        } else {
-            None
-        },
-        None => None,
-    }
+/// The rule at a position of a set leaves a symbol, or leads to it.
+#[derive(Clone, Copy)]
+pub(crate) struct Touch {
+    pub(crate) symbol: u32,
+    pub(crate) position: usize,
+    pub(crate) side: Side,
 }
 
-// Whether a symbol comes before what was found, if anything was.
-fn is_before(symbol: u32, found: Option<u32>) -> bool
-    ensures { IsTrue result ↔ IsBefore symbol found }
-{
-    match found {
-        Some(number) => symbol < number,
-        None => true,
+/// The touches of one symbol, among those of a set in order: from a position on up to one.
+#[derive(Clone, Copy)]
+pub(crate) struct Group {
+    pub(crate) symbol: u32,
+    pub(crate) start: usize,
+    pub(crate) end: usize,
+}
+
+/// A touch that stands where none was put yet.
+pub(crate) fn no_touch() -> Touch {
+    Touch {
+        symbol: 0,
+        position: 0,
+        side: Side::Leaves,
     }
 }
 
-// What was found, or a symbol before it, if that isn't before the one from which they count.
-fn nearer(found: Option<u32>, from: usize, symbol: Option<u32>) -> Option<u32>
-    ensures { IsNearer found from symbol result }
+// The symbol that a rule leaves.
+fn left_by(p: &Program, rule: u32) -> u32
+    requires { IsRule (program_of p.now) rule }
+    ensures { result ≡ (forms_at (program_of p.now) rule).source }
 {
-    match symbol {
-        Some(number) => if number as usize >= from && is_before(number, found) {
-            Some(number)
-        } else {
-            found
-        },
-        None => found,
+    match source_of(p, rule) {
+        Some(symbol) => symbol,
+        None => 0,
     }
 }
 
-/// The least symbol, from one on, that a rule of the gap's set leaves or leads to.
-pub(crate) fn next_touched(p: &Program, g: &Gap, from: usize) -> Option<u32>
-    ensures { IsNextTouched (program_of p.now) g.now.set.items from result }
+// The symbol that a rule leads to.
+fn reached_by(p: &Program, rule: u32) -> u32
+    requires { IsRule (program_of p.now) rule }
+    ensures { result ≡ (forms_at (program_of p.now) rule).target }
 {
-    let mut next = None;
-    for rule in &g.set {
-        next = nearer(next, from, source_of(p, *rule));
-        next = nearer(next, from, target_of(p, *rule));
+    match target_of(p, rule) {
+        Some(symbol) => symbol,
+        None => 0,
     }
-    next
+}
+
+// Puts the touches of a set, rule by rule.
+fn put_touches(touches: &mut [Touch], p: &Program, set: &[u32])
+    requires rules { AreRules (program_of p.now) set.now }
+    requires room { length touches.old ≡ 2 * length set.now }
+    ensures { touches.new ≡ touches_from (forms_at (program_of p.now)) set.now 0 (length set.now) }
+{
+    for position in 0..set.len() {
+        let leaves = Touch {
+            symbol: left_by(p, set[position]),
+            position,
+            side: Side::Leaves,
+        };
+        let arrives = Touch {
+            symbol: reached_by(p, set[position]),
+            position,
+            side: Side::Arrives,
+        };
+        touches[2 * position] = leaves;
+        touches[2 * position + 1] = arrives;
+    }
+}
+
+/// Puts the touches of a set, of which there are two for each rule, in the order of symbols.
+pub(crate) fn order_touches(touches: &mut [Touch], p: &Program, set: &[u32])
+    requires rules { AreRules (program_of p.now) set.now }
+    requires room { length touches.old ≡ 2 * length set.now }
+    ensures { AreTouches (forms_at (program_of p.now)) set.now touches.new }
+{
+    put_touches(touches, p, set);
+    touches.sort_unstable_by_key(|touch| touch.symbol);
+}
+
+/// How many touches are of symbols below this one. The time is logarithmic in the touches.
+pub(crate) fn touches_below(touches: &[Touch], symbol: u64) -> usize
+    requires { IsNonDecreasingBy (λ t. t.symbol) touches.now }
+    ensures bound { result ≤ length touches.now }
+    ensures below { AllWithin (λ t. t.symbol < symbol) touches.now 0 result }
+    ensures behind { AllWithin (λ t. symbol ≤ t.symbol) touches.now result (length touches.now) }
+{
+    touches.partition_point(|touch| u64::from(touch.symbol) < symbol)
+}
+
+/// The touches of the symbol of the touch at a position, where all before it are of symbols below.
+pub(crate) fn group_at(touches: &[Touch], start: usize) -> Group
+    requires ordered { IsNonDecreasingBy (λ t. t.symbol) touches.now }
+    requires inside { start < length touches.now }
+    requires first { (k : ℕ) (d e : Touch) → k < start
+        → (slice_index_or touches.now k d).symbol < (slice_index_or touches.now start e).symbol }
+    ensures group { IsGroup touches.now result }
+    ensures from { result.start ≡ start }
+{
+    let symbol = touches[start].symbol;
+    let end = touches_below(touches, u64::from(symbol) + 1);
+    Group { symbol, start, end }
 }

@@ -1,17 +1,17 @@
-use Rattle.std.proofs.Common.{ℕ, ◌<◌, List, map, ap, ◌∙◌, arith}
+use Rattle.std.proofs.Common.{◌<◌, ◌∙◌, arith}
 use Rattle.std.proofs.lemmas.Int.{to_z-of_z}
 use mir.Syntax.{w128}
 use Rattle.farkas_cert.specs.model.Programs.{arity_of}
 use Rattle.its_model.specs.Views.{program_of}
 use Rattle.proof_tree.specs.proof_nodes.Gaps.{is_shut}
-use Rattle.proof_tree.specs.AnswerViews.{gap_of, shut_of}
+use Rattle.proof_tree.specs.AnswerViews.{gap_of}
 use Rattle.gap_checks.specs.GapTests.{IsBalanced}
 use Rattle.gap_checks.proofs.Balances.{places-hold, places-fail, open-alike}
 use Rattle.gap_checks.proofs.balancing.first_place.Goals as goal
 
 pub returns-then-off : goal.returns-then-off
 returns-then-off c =
-    let p = program_of c.args.rules.now.program.now in
+    let p = program_of c.args.p.now in
     let g = gap_of c.args.g.now in
     let off = c.is_off-off.ensures.0 c.if-off.true in
     let place = c.loop-place.place in
@@ -19,11 +19,12 @@ returns-then-off c =
     let low : place < 33 = omega (arith, c.loop-place-test.true, c.places_of-place-end.ensures.1) in
     places-fail (IsBalanced p g) c.args.symbol (arity_of p c.args.symbol) (is_shut g.shut c.args.symbol) c.loop-place.place
     (omega (arith, count, c.loop-place-test.true)) c.loop-place.invariant
-    (open-alike place _ _ off.1 (c.shut_flags-shut.ensures.each place low ∙ ap (λ (xs : List (ℕ × ℕ)). is_shut (map shut_of xs) c.args.symbol place) c.deref.ensures.value)) (λ e. off.0 (to_z-of_z w128 c.balance_at-balance.result (record { sfits = c.balance_at-balance.type_inv }) ∙ (c.balance_at-balance.ensures ∙ e)))
+    (open-alike place _ _ off.1 (c.requires.flags.each place low))
+    (λ e. off.0 (to_z-of_z w128 c.balance_at-balance.result (record { sfits = c.balance_at-balance.type_inv }) ∙ (c.balance_at-balance.ensures ∙ e)))
 
 pub returns : goal.returns
 returns c =
-    let p = program_of c.args.rules.now.program.now in
+    let p = program_of c.args.p.now in
     let g = gap_of c.args.g.now in
     let count = c.places_of-place-end.ensures.0 in
     places-hold (IsBalanced p g) c.args.symbol (arity_of p c.args.symbol) (is_shut g.shut c.args.symbol)

@@ -1,5 +1,5 @@
 use Rattle.std.proofs.Common.{◌≡◌, ◌⊎◌, ℕ, ◌<◌, false}
-use Rattle.gap_checks.specs.GapBalances.{program}
+use Rattle.its_model.specs.Views.{program_of}
 use Rattle.proof_tree.specs.proof_nodes.Gaps.{is_shut}
 use Rattle.proof_tree.specs.AnswerViews.{gap_of}
 use Rattle.gap_checks.specs.GapTests.{coefficient_at, IsBalanced}
@@ -8,4 +8,4 @@ use Rattle.gap_checks.proofs.balancing.first_place.Given as goal
 abbrev pub invariant-loop-place : goal.invariant-loop-place
 invariant-loop-place l =
     (i : ℕ) → i < l.place → (i ≡ 0) ⊎ (is_shut (gap_of l.g).shut l.symbol i ≡ false)
-    → IsBalanced (program l.rules) (gap_of l.g) (coefficient_at l.symbol i)
+    → IsBalanced (program_of l.p) (gap_of l.g) (coefficient_at l.symbol i)

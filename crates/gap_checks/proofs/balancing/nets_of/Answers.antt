@@ -1,63 +1,60 @@
-use Rattle.std.proofs.Common.{ℕ, ◌*◌, ◌<◌, ◌≤◌, length, get_or, subst, sym, ◌∙◌, arith}
-use Rattle.guard_prep.proofs.StepLaws.{few-places}
-use Rattle.proof_tree.specs.proof_nodes.AcceptsPlain.{IsRule}
-use Rattle.proof_tree.specs.AnswerViews.{gap_of, scaled_of}
+use Rattle.std.proofs.Common.{◌*◌, ◌<◌, ◌≤◌, length, get_or, arith}
 use Rattle.std.proofs.lemmas.List.{get_or_default}
-use Rattle.gap_checks.specs.GapBalances.{AddsNet, program}
-use Rattle.gap_checks.specs.GapTests.{IsNear, net_limit}
-use Rattle.gap_checks.proofs.GapFaults.{in-list, shape-short, near-moves}
-use Rattle.gap_checks.proofs.GapPositions.{position-is}
+use Rattle.guard_prep.proofs.StepLaws.{few-places}
+use Rattle.proof_tree.specs.proof_setting.RankedSets.{forms_at}
+use Rattle.proof_tree.specs.AnswerViews.{gap_of}
+use Rattle.gap_checks.specs.GapBalances.{program}
+use Rattle.gap_checks.specs.GapTests.{value_limit}
+use Rattle.gap_checks.specs.declared.touching.Side.TheVariants.{Leaves}
+use Rattle.gap_checks.specs.declared.touching.Touch.{Touch}
+use Rattle.gap_checks.proofs.GapFaults.{shape-short}
 use Rattle.gap_checks.proofs.Sums.{sums-weaker, sums-none, sums-more, sums-all}
+use Rattle.gap_checks.proofs.TouchLists.{touch-count, touch-real}
 use Rattle.gap_checks.proofs.balancing.nets_of.Goals as goal
 
-pub loop-i-init : goal.loop-i-init
-loop-i-init c =
+-- a touch, where none is meant
+abbrev none : Touch
+none = record { symbol = 0; position = 0; side = Leaves }
+
+pub loop-index-init : goal.loop-index-init
+loop-index-init c =
     let p = program c.args.rules.now in
-    let few = few-places p.symbols c.args.symbol c.requires.valid.symbols in
-    sums-none p c.args.g.now.set.items c.args.g.now.moves.items c.args.symbol (omega (arith, few))
+    let few = few-places p.symbols c.args.group.now.symbol c.requires.valid.symbols in
+    sums-none p (gap_of c.args.g.now) c.args.touches.now c.requires.touches c.requires.shape.one_move none c.args.group.now
+    c.requires.group (omega (arith, few))
 
-pub add_net-requires-clause-rule : goal.add_net-requires-clause-rule
-add_net-requires-clause-rule c =
-    let set = c.args.g.now.set.items in
-    let i = c.loop-i.i in
-    let inside : i < length set = omega (arith, c.loop-i-test.true, c.len-i-end.ensures, c.args.g.now.set.ok.0) in
-    let t = c.index.ensures ∙ get_or_default set i c.index.result.now 0 inside in
-    subst (IsRule (program c.args.rules.now)) (sym t) (c.requires.shape.rules (get_or set i 0) (in-list set i 0 inside))
+pub add_touch-requires-clause-inside : goal.add_touch-requires-clause-inside
+add_touch-requires-clause-inside c =
+    (touch-real (forms_at (program c.args.rules.now)) c.args.g.now.set.items c.args.touches.now c.requires.touches
+    c.loop-index.index _ (omega (arith, c.loop-index-test.true, c.requires.group.bound))).0
 
-pub add_net-requires-clause-near : goal.add_net-requires-clause-near
-add_net-requires-clause-near c =
-    let g = c.args.g.now in
-    let i = c.loop-i.i in
-    let inside : i < length g.set.items = omega (arith, c.loop-i-test.true, c.len-i-end.ensures, g.set.ok.0) in
-    let near = near-moves (program c.args.rules.now) c.requires.valid (gap_of g) c.requires.shape in
-    subst IsNear
-    (position-is (λ t z. IsNear z) g.set.items g.moves.items i c.index-in-loop-i.result.now near.ascending near.long inside
-    c.index-in-loop-i.ensures) (near.near (get_or g.set.items i 0) (in-list g.set.items i 0 inside))
-
-pub add_net-requires-clause-room : goal.add_net-requires-clause-room
-add_net-requires-clause-room c =
-    let g = c.args.g.now in
-    let i = c.loop-i.i in
-    let inside : i < length g.set.items = omega (arith, c.loop-i-test.true, c.len-i-end.ensures, g.set.ok.0) in
-    let few : length g.set.items ≤ 1000 = shape-short (program c.args.rules.now) c.requires.valid (gap_of g) c.requires.shape in
-    sums-weaker c.loop-i.sums (i * net_limit) (999 * net_limit) (omega (arith, inside, few)) c.loop-i.invariant.sums
-
-pub loop-i-preserved : goal.loop-i-preserved
-loop-i-preserved c =
+pub add_touch-requires-clause-room : goal.add_touch-requires-clause-room
+add_touch-requires-clause-room c =
     let p = program c.args.rules.now in
     let g = c.args.g.now in
-    let i = c.loop-i.i in
-    let set = g.set.items in
-    let m = c.index-in-loop-i.result.now in
-    let inside : i < length set = omega (arith, c.loop-i-test.true, c.len-i-end.ensures, g.set.ok.0) in
-    let t = c.index.ensures ∙ get_or_default set i c.index.result.now 0 inside in
-    sums-more p set g.moves.items c.args.symbol i m c.loop-i.sums c.add_net.new.sums c.requires.shape.one_move inside c.index-in-loop-i.ensures
-    c.loop-i.invariant (subst (λ (u : ℕ). AddsNet p u (scaled_of m) c.args.symbol c.loop-i.sums c.add_net.new.sums) t c.add_net.ensures)
+    let i = c.loop-index.index in
+    let count = touch-count (forms_at p) g.set.items c.args.touches.now c.requires.touches in
+    let few : length g.set.items ≤ 1000 = shape-short p c.requires.valid (gap_of g) c.requires.shape in
+    sums-weaker c.loop-index.sums (i * value_limit) (1999 * value_limit)
+    (omega (arith, c.loop-index-test.true, c.requires.group.bound, count, few)) c.loop-index.invariant.sums
+
+pub loop-index-preserved : goal.loop-index-preserved
+loop-index-preserved c =
+    let ts = c.args.touches.now in
+    let i = c.loop-index.index in
+    let inside : i < length ts = omega (arith, c.loop-index-test.true, c.requires.group.bound) in
+    sums-more (program c.args.rules.now) (gap_of c.args.g.now) ts c.requires.touches c.requires.shape.one_move
+    c.args.group.now.symbol i (get_or ts i none) c.loop-index.sums c.add_touch.new.sums inside
+    (get_or_default ts i none (get_or ts i none) inside)
+    (c.requires.group.within i none c.loop-index.auto.index c.loop-index-test.true) c.loop-index.invariant c.add_touch.ensures
 
 pub returns : goal.returns
 returns c =
+    let p = program c.args.rules.now in
     let g = c.args.g.now in
-    let few : length g.set.items ≤ 1000 = shape-short (program c.args.rules.now) c.requires.valid (gap_of g) c.requires.shape in
-    sums-all (program c.args.rules.now) g c.args.symbol c.loop-i.i c.loop-i.sums
-    (omega (arith, c.loop-i-test.false, c.len-i-end.ensures, g.set.ok.0))
-    (omega (arith, few, c.loop-i.auto.i-end, c.len-i-end.ensures, g.set.ok.0)) c.loop-i.invariant
+    let count = touch-count (forms_at p) g.set.items c.args.touches.now c.requires.touches in
+    let few : length g.set.items ≤ 1000 = shape-short p c.requires.valid (gap_of g) c.requires.shape in
+    let upto = c.loop-index.auto.index-end (omega (arith, c.requires.group.some)) in
+    sums-all p (gap_of g) c.args.touches.now c.requires.touches c.requires.shape.one_move none c.args.group.now
+    c.loop-index.index c.loop-index.sums c.requires.group (omega (arith, c.loop-index-test.false, upto))
+    (omega (arith, upto, c.requires.group.bound, count, few)) c.loop-index.invariant

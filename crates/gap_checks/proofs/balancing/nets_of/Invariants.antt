@@ -1,6 +1,8 @@
+use Rattle.proof_tree.specs.AnswerViews.{gap_of}
 use Rattle.gap_checks.specs.GapBalances.{program}
 use Rattle.gap_checks.proofs.Sums.{AreSumsSoFar}
 use Rattle.gap_checks.proofs.balancing.nets_of.Given as goal
 
-abbrev pub invariant-loop-i : goal.invariant-loop-i
-invariant-loop-i l = AreSumsSoFar (program l.rules) l.g.set.items l.g.moves.items l.symbol l.i l.sums
+-- the touches of the symbol so far
+abbrev pub invariant-loop-index : goal.invariant-loop-index
+invariant-loop-index l = AreSumsSoFar (program l.rules) (gap_of l.g) l.touches l.group.symbol l.index l.sums
