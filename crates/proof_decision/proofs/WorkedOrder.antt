@@ -42,6 +42,8 @@ size_reasons_in_order = record {
   second_before = refl;
   size_before_large = refl;
   large = refl;
+  large_before = refl;
+  small_before = refl;
   time_before_large = refl;
   large_loop = refl;
 }

@@ -1,12 +1,12 @@
 -- Nodes with more than one fault, and which is told first, worked out by hand.
-use Rattle.std.specs.Prelude.{◌≡◌, ℕ, List, [], ◌∷◌, ℤ, pos, Some}
+use Rattle.std.specs.Prelude.{◌≡◌, ℕ, List, [], ◌∷◌, ℤ, pos, Option, Some, None}
 use Rattle.proof_setting.specs.model.Bounds.{Constant, Input}
 use Rattle.proof_setting.specs.model.Facts.{Fact, Time, Size}
 use Rattle.proof_setting.specs.proof_nodes.Nodes.{Member, Proof, Cite, Start, Empty, Never, Spread, Cycle, Weaken}
 use Rattle.proof_setting.specs.proof_nodes.Nodes.{Proofs, NoProof}
 use Rattle.proof_setting.specs.proof_nodes.Setting.{Setting}
 use Rattle.proof_setting.specs.proof_nodes.Reasons.{Shape, Move, Floor, ArmUp, ArmLow, MissingTime, MissingSize, Bent}
-use Rattle.proof_setting.specs.proof_nodes.Reasons.{Large}
+use Rattle.proof_setting.specs.proof_nodes.Reasons.{Large, Reason}
 use Rattle.proof_setting.specs.proof_nodes.Worked.{entered_member, doubled}
 use Rattle.proof_setting.specs.proof_nodes.WorkedSettings as settings
 use Rattle.proof_setting.specs.proof_nodes.WorkedReasons.{tower, towering}
@@ -91,6 +91,24 @@ pub record LoopReasonsAreInOrder : Type 0 where
 abbrev pub chosen : Member
 chosen = member 1 2 (arm (two (pos 0) (pos 1)) (pos 0) (1 ∷ 0 ∷ [])) (arm (two (pos 1) (pos 0)) (pos 0) (0 ∷ 1 ∷ []))
 
+-- the program that counts down, with a rewriting that makes every bound 0
+abbrev pub vanishing : Setting
+vanishing = record {
+  program = towering.program;
+  rows = towering.rows;
+  news = towering.news;
+  poly = towering.poly;
+  cost_rows = towering.cost_rows;
+  cost_value = towering.cost_value;
+  cost_poly = towering.cost_poly;
+  rewrite = λ b. Constant 0;
+  below = towering.below;
+}
+
+-- the reason at the place after the first rule, where that after the virtual entry is a power so many times
+abbrev pub over_tower : ℕ → Option Reason
+over_tower n = first_reason vanishing ((Size 0 1 (tower n) ∷ []) ∷ []) (Spread entered_member (cited (1 ∷ [])))
+
 -- a loop that doubles, with a rewriting after which every bound has 201 levels
 abbrev pub doubling_towers : Setting
 doubling_towers = record {
@@ -106,7 +124,8 @@ doubling_towers = record {
 }
 
 -- a size that the up arm reads comes before one that the low arm reads, whatever their places; one is needed after each
--- rule that can come before, in their order; and what is missing comes before what is too large
+-- rule that can come before, in their order; what is missing comes before what is too large; and a bound is measured
+-- before it is rewritten, and after that
 pub record SizeReasonsAreInOrder : Type 0 where
   pub up_before_low : first_reason_in chosen_between [] (Spread chosen NoProof) ≡ Some (MissingSize 0 2)
   pub first_before : first_reason_in nested_loops [] (Spread handed_over NoProof) ≡ Some (MissingSize 1 1)
@@ -114,6 +133,8 @@ pub record SizeReasonsAreInOrder : Type 0 where
       first_reason_in nested_loops (only place_fact) (Spread handed_over (cited (1 ∷ []))) ≡ Some (MissingSize 4 1)
   pub size_before_large : first_reason towering [] (Spread entered_member NoProof) ≡ Some (MissingSize 0 1)
   pub large : first_reason towering [] (Spread entered_member entered) ≡ Some (Large 201)
+  pub large_before : over_tower 196 ≡ Some (Large 404)
+  pub small_before : over_tower 195 ≡ None
   pub time_before_large :
       first_reason doubling_towers (only place_fact) (Cycle doubled (cited (1 ∷ []))) ≡ Some (MissingTime 2)
   pub large_loop :
