@@ -40,7 +40,7 @@ replay_says p r s x (NoRun a) = inr (a.ends, (a.bad, a.first))
 -- a replay asks so of two files
 pub replaying : Determined → IsCommand Replay runs IsReplayOf IsInRange HasBadStep NotARun RunRefused
 replaying laws = record {
-  decided = run_texts_decided;
+  decided = λ bytes p spelled. run_texts_decided p;
   apart = λ p r good bad. laws.replays.none_bad p r.start (last_first r) bad.0 good bad.1;
   says = replay_says;
   refuses = λ p. refl;

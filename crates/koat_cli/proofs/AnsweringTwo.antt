@@ -102,17 +102,17 @@ not_over : (n limit : ℕ) → limit < n → n ≤ limit → ⊥
 not_over n limit over within = omega (arith, over, within)
 
 -- what excludes each other of a program excludes each other of the bytes
-pub apart_of : Determined → (bytes : List ℕ) (A B : Program → Type 0) → ((p : Program) → A p → B p → ⊥) → SpellsOne bytes A
-    → SpellsOne bytes B → ⊥
+pub apart_of : Determined → (bytes : List ℕ) (A B : Program → Type 0) → ((p : Program) → SpellsWithin bytes p → A p → B p → ⊥)
+    → SpellsOne bytes A → SpellsOne bytes B → ⊥
 apart_of laws bytes A B apart a b =
     let program : a.program ≡ b.program = laws.programs.each bytes a.program b.program a.spelled.spells b.spelled.spells in
-    apart b.program (subst A program a.holds) b.holds
+    apart b.program b.spelled (subst A program a.holds) b.holds
 
--- a command asks so of two files: texts of its kind are decided; what is answered of a thing is a status of its own, by
+-- a command asks so of two files: texts of its kind are decided for a program that is spelled; what is answered of a thing is a status of its own, by
 -- whether the thing is good or bad, which exclude each other; and its four statuses differ
 pub record IsCommand {T : Type 0} (request : Word → Word → Request) (kind : Program → TextKind T)
     (Out : Program → T → Status → List ℕ → Type 0) (Good Bad : Program → T → Type 0) (bad refused : Status) : Type 0 where
-  pub decided : (p : Program) → IsDecided (kind p)
+  pub decided : (bytes : List ℕ) (p : Program) → SpellsWithin bytes p → IsDecided (kind p)
   pub apart : (p : Program) (t : T) → Good p t → Bad p t → ⊥
   pub says : (p : Program) (t : T) (s : Status) (x : List ℕ) → Out p t s x → ((s ≡ Done) × Good p t) ⊎ ((s ≡ bad) × Bad p t)
   pub refuses : (p : Program) → (kind p).refused ≡ refused
@@ -134,9 +134,9 @@ module _ {T : Type 0} (request : Word → Word → Request) (kind : Program → 
   HasNone p = HasNoText (kind p) second
 
   -- a good thing isn't a bad one
-  texts_apart : (p : Program) → HasGood p → HasBad p → ⊥
-  texts_apart p a b =
-      let same : a.thing ≡ b.thing = (command.decided p).one second a.thing b.thing a.stands b.stands in
+  texts_apart : (p : Program) → SpellsWithin bytes p → HasGood p → HasBad p → ⊥
+  texts_apart p spelled a b =
+      let same : a.thing ≡ b.thing = (command.decided bytes p spelled).one second a.thing b.thing a.stands b.stands in
       command.apart p b.thing (subst (Good p) same a.holds) b.holds
 
   -- and neither is none
@@ -148,9 +148,9 @@ module _ {T : Type 0} (request : Word → Word → Request) (kind : Program → 
   exclude : Exclude (SpellsOne bytes HasGood) (SpellsOne bytes HasBad) (SpellsOne bytes HasNone) (SpellsNone bytes)
   exclude = record {
     done_bad = apart_of laws bytes HasGood HasBad texts_apart;
-    done_none = apart_of laws bytes HasGood HasNone (none_apart Good);
+    done_none = apart_of laws bytes HasGood HasNone (λ p spelled. none_apart Good p);
     done_refused = program_apart bytes HasGood;
-    bad_none = apart_of laws bytes HasBad HasNone (none_apart Bad);
+    bad_none = apart_of laws bytes HasBad HasNone (λ p spelled. none_apart Bad p);
     bad_refused = program_apart bytes HasBad;
     none_refused = program_apart bytes HasNone;
   }
@@ -161,7 +161,7 @@ module _ {T : Type 0} (request : Word → Word → Request) (kind : Program → 
 
   module _ (call : Call) (put : Put) (h : AsksOfTwo call put request bytes second) where
     -- what is said of a program that the bytes spell is said of them
-    module _ (p : Program) (spelled : (A : Program → Type 0) → A p → SpellsOne bytes A) where
+    module _ (p : Program) (is : SpellsWithin bytes p) (spelled : (A : Program → Type 0) → A p → SpellsOne bytes A) where
       -- by what is said of the thing
       of_thing : (s : Status) (t : T) → length second ≤ (kind p).limit → (kind p).StandsFor second t
           → ((s ≡ Done) × Good p t) ⊎ ((s ≡ bad) × Bad p t) → Tells s
@@ -184,7 +184,7 @@ module _ {T : Type 0} (request : Word → Word → Request) (kind : Program → 
           let same : a.bytes ≡ second = same_held call.shelf.held h.second second a.bytes h.second_held a.fetched.held in
           let no : (kind p).IsRefusedAs second x = subst (λ (b : List ℕ). (kind p).IsRefusedAs b x) same a.refused in
           IsNoText (a.ends ∙ command.refuses p)
-          (spelled HasNone (inr (λ t stands. (command.decided p).apart second t x stands no)))
+          (spelled HasNone (inr (λ t stands. (command.decided bytes p is).apart second t x stands no)))
       of_text s x (OfText a) =
           let same : a.given.bytes ≡ second =
           same_held call.shelf.held h.second second a.given.bytes h.second_held a.given.fetched.held in
@@ -199,10 +199,12 @@ module _ {T : Type 0} (request : Word → Word → Request) (kind : Program → 
         IsRefused none.0 none.1
     of_files s x (Behind a) =
         let same : a.given.bytes ≡ bytes = same_held call.shelf.held h.file bytes a.given.bytes h.held a.given.held in
-        of_text a.program (λ A holds. record {
+        let spelled : SpellsWithin bytes a.program =
+        subst (λ (b : List ℕ). SpellsWithin b a.program) same a.given.spelled in
+        of_text a.program spelled (λ A holds. record {
           within = subst (λ (b : List ℕ). length b ≤ program_limit) same a.given.within;
           program = a.program;
-          spelled = subst (λ (b : List ℕ). SpellsWithin b a.program) same a.given.spelled;
+          spelled = spelled;
           holds = holds;
         }) s x a.said
 

@@ -12,7 +12,7 @@ use Rattle.model.specs.Programs.{Program}
 use Rattle.its_model.specs.text_core.Readers.{Fault}
 use Rattle.its_model.specs.text_core.Reading as reading
 use Rattle.its_reader.specs.its_text.Kinds.{Kind}
-use Rattle.its_reader.specs.its_text.Spelling.{OneProgram}
+use Rattle.its_reader.specs.its_text.Spelling.{OneProgram, SpellsWithin}
 use Rattle.its_reader.specs.its_text.Answers.{verdict}
 use Rattle.its_reader.specs.its_text.Verdicts.{VerdictsAreSpelled}
 use Rattle.its_writer.specs.Generated.{generated}
@@ -216,6 +216,17 @@ one_without laws seen (Generate n) s t x y none a b = (a.ends ∙ sym b.ends, a.
 one_without laws seen (Selfrun n) s t x y none a b = one_summary laws (generated n) s t x y a b
 one_without laws seen (Facts n f) s t x y none a b = absurd (none tt)
 
+-- what is answered by the program of a first file is answered by one that some bytes spell
+by_spelled : (Out : Program → Status → List ℕ → Type 0) (seen : Seen) (f : Word) (s : Status) (x : List ℕ)
+    → OnProgramFirst seen f Out s x
+    → OnProgramFirst seen f (λ p t y. ((b : List ℕ) × SpellsWithin b p) × Out p t y) s x
+by_spelled Out seen f s x (NoProgram h) = NoProgram h
+by_spelled Out seen f s x (Behind h) = Behind (record {
+  program = h.program;
+  given = h.given;
+  said = ((h.given.bytes, h.given.spelled), h.said);
+})
+
 -- so has each, where the shelf tells what it holds
 one_answer : Determined → (seen : Seen) (files : Files) → seen.held ≡ Some files → (r : Request) (s t : Status) (x y : List ℕ)
     → (s ≡ ReadFault → (f : Word) → MayFail seen.held f seen.faults_before seen.faults_after → Lacks seen.held f)
@@ -228,11 +239,13 @@ one_answer laws seen files e (Prove n f) s t x y ls lt a b =
     one_told (λ p. IsProofOf p n) s t x y (λ p. one_proof laws p n s t x y) (file_of (get files f))
     (file_tells (λ p. IsProofOf p n) s x laws seen files f e (λ h. ls h f) a) (file_tells (λ p. IsProofOf p n) t y laws seen files f e (λ h. lt h f) b)
 one_answer laws seen files e (Check f q) s t x y ls lt a b =
-    let out : Program → Status → List ℕ → Type 0 = λ p. OnText (proofs p) seen q (IsCheckOf p) in
+    let check : Program → Status → List ℕ → Type 0 = λ p. OnText (proofs p) seen q (IsCheckOf p) in
+    let out : Program → Status → List ℕ → Type 0 = λ p r z. ((b : List ℕ) × SpellsWithin b p) × check p r z in
     one_told out s t x y
-    (λ p. one_of_text (proofs p) (proof_texts_decided p) (IsCheckOf p) s t x y seen files q e (λ h. ls h q) (λ h. lt h q)
-    (λ f. one_check p f s t x y)) (file_of (get files f))
-    (first_tells out s x laws seen files f e (λ h. ls h f) a) (first_tells out t y laws seen files f e (λ h. lt h f) b)
+    (λ p c d. one_of_text (proofs p) (proof_texts_decided c.0.0 p c.0.1) (IsCheckOf p) s t x y seen files q e (λ h. ls h q)
+    (λ h. lt h q) (λ f. one_check p f s t x y) c.1 d.1) (file_of (get files f))
+    (first_tells out s x laws seen files f e (λ h. ls h f) (by_spelled check seen f s x a))
+    (first_tells out t y laws seen files f e (λ h. lt h f) (by_spelled check seen f t y b))
 one_answer laws seen files e (Replay f q) s t x y ls lt a b =
     let out : Program → Status → List ℕ → Type 0 = λ p. OnText (runs p) seen q (IsReplayOf p) in
     one_told out s t x y

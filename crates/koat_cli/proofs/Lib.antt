@@ -13,6 +13,7 @@ pub mod EndsMean
 pub mod Endings
 pub mod Preparing
 pub mod GivenFiles
+pub mod FewSymbols
 pub mod RunAnswers
 pub mod TextExclusions
 pub mod ProofAnswers
@@ -22,7 +23,6 @@ pub mod Answering
 pub mod AnsweringTwo
 pub mod AnsweringReplays
 pub mod AnsweringChecks
-pub mod FewSymbols
 pub mod ProvenChecks
 pub mod MissingFiles
 pub mod NumbersAnswered

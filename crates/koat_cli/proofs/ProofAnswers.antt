@@ -1,12 +1,16 @@
 -- The bytes of a proof's text are those of one proof file within the limits, and have no first fault; other bytes have
 -- one first fault at most; and a proof file is accepted, or is refused at one place.
-use Rattle.std.proofs.Common.{◌≡◌, ℕ, List, length, ap, sym, ◌∙◌, subst}
+use Rattle.std.proofs.Common.{◌≡◌, ℕ, ◌^◌, ◌<◌, List, length, ap, sym, ◌∙◌, subst}
 use Rattle.model.specs.Facts.{Fact}
 use Rattle.model.specs.Programs.{Program}
 use Rattle.text_grammar.specs.text_core.Readers.{Fault}
+use Rattle.its_model.specs.Valid.{IsValid}
+use Rattle.its_reader.specs.its_text.Spelling.{SpellsWithin}
+use Rattle.its_reader.proofs.its_text.ValidPrograms.{spelled_valid}
 use Rattle.text_grammar.specs.text_core.Faults.{IsFirst}
+use Rattle.text_grammar.specs.text_core.Reading.{Answer, Answers as ReadAnswers, IsTree}
 use Rattle.text_grammar.specs.Texts.{reader}
-use Rattle.text_grammar.proofs.text_core.FirstFaults.{one_first_each}
+use Rattle.text_grammar.proofs.text_core.FirstFaults.{answer_is, one_first_each}
 use Rattle.text_grammar.proofs.ReaderLaws.{reader_laws}
 use Rattle.proof_tree.specs.proof_nodes.GapChecks.{GapFault}
 use Rattle.proof_tree.specs.proof_nodes.Gaps.{ProofFile}
@@ -17,14 +21,18 @@ use Rattle.proof_tree.specs.proof_setting.Setting.{setting_of}
 use Rattle.proof_tree.proofs.proof_nodes.FilesInLine.{file-refusals-in-line}
 use Rattle.proof_tree.proofs.proof_nodes.Refusals.{refusals-in-line}
 use Rattle.proof_text.specs.Reading.{proofs_of}
+use Rattle.proof_text.specs.Spelled.{IsTextWithin}
 use Rattle.proof_text.specs.proof_pieces.declared.kind.ProofKind.{ProofKind}
 use Rattle.proof_text.specs.proof_pieces.Lexing.{tokens}
+use Rattle.proof_text.proofs.FileTexts.{text_stands}
 use Rattle.proof_text.proofs.Lawful.{lawful}
+use Rattle.proof_text.proofs.States.{sure_of}
 use Rattle.check_text.specs.Texts.{accepted_text, no_lemma_text, no_gap_text, proof_refusal_text}
 use Rattle.check_text.specs.Verdicts.{IsAcceptance, IsRefusal, AtNode, AtGap}
 use Rattle.koat_cli.specs.declared.status.Status.{Status}
 use Rattle.koat_cli.specs.Checks.{IsCheckOf, Accepts, Refuses}
-use Rattle.koat_cli.specs.ProofTexts.{proofs, IsProofText}
+use Rattle.koat_cli.specs.ProofTexts.{proofs}
+use Rattle.koat_cli.proofs.FewSymbols.{few_symbols}
 use Rattle.koat_cli.proofs.TextExclusions.{IsDecided}
 
 -- other bytes than those of a proof's text have one first fault at most
@@ -34,13 +42,27 @@ one_proof_fault : (p : Program) (bytes : List ℕ) (x y : Fault ProofKind)
 one_proof_fault p bytes x y =
     (one_first_each (reader (proofs_of p)) (reader_laws (proofs_of p) (lawful p))).each (length bytes) (tokens p bytes) x y
 
--- texts of proof files are decided
-pub proof_texts_decided : (p : Program) → IsDecided (proofs p)
-proof_texts_decided p = record {
-  one = λ bytes a b h k. k.only a h.written;
+-- nothing stands against the text of a proof file within the limits, which is a text of no other one
+text_is_read : (p : Program) (bytes : List ℕ) (f : ProofFile) → IsValid p → length p.symbols < 2 ^ 32 → IsTextWithin p bytes f
+    → IsTree (reader (proofs_of p)) (length bytes) (tokens p bytes) f
+text_is_read p bytes f valid few h =
+    subst (λ (a : Answer ProofFile ProofKind). ReadAnswers (reader (proofs_of p)) (length bytes) (tokens p bytes) a)
+    (text_stands p (sure_of p valid few) bytes f h)
+    (answer_is (reader (proofs_of p)) (reader_laws (proofs_of p) (lawful p)) (length bytes) (tokens p bytes))
+
+-- of a program that is spelled
+text_read : (spelling : List ℕ) (p : Program) → SpellsWithin spelling p → (bytes : List ℕ) (f : ProofFile) → IsTextWithin p bytes f
+    → IsTree (reader (proofs_of p)) (length bytes) (tokens p bytes) f
+text_read spelling p spelled bytes f h =
+    text_is_read p bytes f (spelled_valid spelling p spelled) (few_symbols spelling p spelled) h
+
+-- texts of proof files of a program that is spelled are decided
+pub proof_texts_decided : (spelling : List ℕ) (p : Program) → SpellsWithin spelling p → IsDecided (proofs p)
+proof_texts_decided spelling p spelled = record {
+  one = λ bytes a b h k. (text_read spelling p spelled bytes b k).only a (text_read spelling p spelled bytes a h).written;
   one_refusal = λ bytes x y a b.
       a.told ∙ (ap (λ (f : Fault ProofKind). proof_refusal_text f) (one_proof_fault p bytes a.fault b.fault a.first b.first) ∙ sym b.told);
-  apart = λ bytes f x stands refused. stands.faultless refused.fault refused.first.is;
+  apart = λ bytes f x stands refused. (text_read spelling p spelled bytes f stands).faultless refused.fault refused.first.is;
 }
 
 -- a proof file that is refused isn't accepted

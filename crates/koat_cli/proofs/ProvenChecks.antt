@@ -4,30 +4,17 @@ use Rattle.std.proofs.Common.{◌∙◌, subst, inl, inr, true, false}
 use Rattle.std.proofs.lemmas.List.{append_cancel_left}
 use Rattle.std.specs.Io.KnownBytes.{Appends}
 use Rattle.asks.specs.Requests.{Prove, Check}
-use Rattle.its_model.specs.Valid.{IsValid}
 use Rattle.its_reader.specs.its_text.Spelling.{SpellsWithin}
-use Rattle.its_reader.proofs.its_text.ValidPrograms.{spelled_valid}
 use Rattle.model.specs.Programs.{Program}
-use Rattle.text_grammar.specs.text_core.Reading.{Answer, Answers as ReadAnswers, Stands}
-use Rattle.text_grammar.specs.Texts.{reader}
-use Rattle.text_grammar.proofs.text_core.FirstFaults.{answer_is}
-use Rattle.text_grammar.proofs.ReaderLaws.{reader_laws}
-use Rattle.proof_tree.specs.proof_nodes.Gaps.{ProofFile}
 use Rattle.proof_tree.specs.proof_setting.Laws.{AcceptsFileFor}
-use Rattle.proof_text.specs.Reading.{proofs_of}
 use Rattle.proof_text.specs.Spelled.{IsTextWithin}
-use Rattle.proof_text.specs.proof_pieces.declared.kind.ProofKind.{ProofKind}
-use Rattle.proof_text.specs.proof_pieces.Lexing.{tokens}
-use Rattle.proof_text.proofs.FileTexts.{text_stands}
-use Rattle.proof_text.proofs.Lawful.{lawful}
-use Rattle.proof_text.proofs.States.{sure_of}
 use Rattle.proved_files.specs.ProvedFiles.{file_of_outcome}
 use Rattle.koat_cli.specs.declared.status.Status.{Status}
 use Rattle.koat_cli.specs.declared.status.Status.TheVariants.{Done, Unknown, WriteFault, Memory}
 use Rattle.koat_cli.specs.Calls.{Call, Put}
 use Rattle.koat_cli.specs.Checks.{IsProofOf}
 use Rattle.koat_cli.specs.OnFiles.{program_limit, OnProgram, IsNoProgram, Without, Of}
-use Rattle.koat_cli.specs.ProofTexts.{proofs, proof_limit, IsProofText}
+use Rattle.koat_cli.specs.ProofTexts.{proofs, proof_limit}
 use Rattle.koat_cli.specs.Ends.{Ends}
 use Rattle.koat_cli.specs.Answering.{SpellsOne}
 use Rattle.koat_cli.specs.AnsweringTwo.{HasText}
@@ -35,16 +22,7 @@ use Rattle.koat_cli.specs.ProvenChecks.{WroteProofText, WhatIsProvedIsAccepted}
 use Rattle.koat_cli.proofs.Answering.{same_held}
 use Rattle.koat_cli.proofs.AnsweringChecks.{checks_answered}
 use Rattle.koat_cli.proofs.Exclusions.{Determined}
-use Rattle.koat_cli.proofs.FewSymbols.{few_symbols}
 use Rattle.koat_cli.proofs.OneRequest.{answer_of, no_done, no_unknown}
-
--- the text of a proof file within the limits stands for it
-text_is_proof : (p : Program) (bytes : List ℕ) (f : ProofFile) → IsValid p → length p.symbols < 2 ^ 32 → IsTextWithin p bytes f
-    → IsProofText p bytes f
-text_is_proof p bytes f valid few h =
-    subst (λ (a : Answer ProofFile ProofKind). ReadAnswers (reader (proofs_of p)) (length bytes) (tokens p bytes) a)
-    (text_stands p (sure_of p valid few) bytes f h)
-    (answer_is (reader (proofs_of p)) (reader_laws (proofs_of p) (lawful p)) (length bytes) (tokens p bytes))
 
 -- what was appended where it is told is one text
 one_appended : (before after : Option (List ℕ)) (x y : List ℕ) → IsSome before → Appends before after x → Appends before after y
@@ -105,7 +83,7 @@ module _ (bytes text : List ℕ) (w : WroteProofText bytes text) (short : length
         holds = record {
           within = short;
           thing = f;
-          stands = text_is_proof p text f (spelled_valid bytes p spelled) (few_symbols bytes p spelled) told;
+          stands = told;
           holds = h.said.proved.accepted;
         };
       }

@@ -3,10 +3,10 @@ use Rattle.std.specs.Prelude.{◌≡◌, ℕ, ◌^◌, List, length}
 use Rattle.model.specs.Programs.{Program}
 use Rattle.text_grammar.specs.text_core.Readers.{Fault}
 use Rattle.text_grammar.specs.text_core.Faults.{IsFirst}
-use Rattle.text_grammar.specs.text_core.Reading.{IsTree}
 use Rattle.text_grammar.specs.Texts.{reader}
 use Rattle.proof_tree.specs.proof_nodes.Gaps.{ProofFile}
 use Rattle.proof_text.specs.Reading.{proofs_of}
+use Rattle.proof_text.specs.Spelled.{IsTextWithin}
 use Rattle.proof_text.specs.proof_pieces.declared.kind.ProofKind.{ProofKind}
 use Rattle.proof_text.specs.proof_pieces.Lexing.{tokens}
 use Rattle.check_text.specs.Texts.{proof_too_long_text, proof_refusal_text}
@@ -17,22 +17,18 @@ use Rattle.koat_cli.specs.OnTexts.{TextKind}
 abbrev pub proof_limit : ℕ
 proof_limit = 2 ^ 26
 
--- the bytes are a text of this proof file of the program, against which nothing stands, and of no other
-abbrev pub IsProofText : Program → List ℕ → ProofFile → Type 0
-IsProofText program bytes proof = IsTree (reader (proofs_of program)) (length bytes) (tokens program bytes) proof
-
 -- something stands against the bytes as the text of a proof file of the program, and the text tells what stands first
 pub record IsProofRefusedAs (program : Program) (bytes text : List ℕ) : Type 0 where
   pub fault : Fault ProofKind
   pub first : IsFirst (reader (proofs_of program)) (length bytes) (tokens program bytes) fault
   pub told : text ≡ proof_refusal_text fault
 
--- texts of proof files of a program, within the limits
+-- texts of proof files of a program: bytes stand for a file within the limits whose text they are
 abbrev pub proofs : Program → TextKind ProofFile
 proofs program = record {
   limit = proof_limit;
   refused = ProofRefused;
   too_long = proof_too_long_text;
-  StandsFor = IsProofText program;
+  StandsFor = IsTextWithin program;
   IsRefusedAs = IsProofRefusedAs program;
 }

@@ -1,6 +1,6 @@
 //! What the program says, before it is written.
 
-ghost use Rattle.std.specs.Prelude.{◌≡◌, ◌≤◌, ◌<◌, map, string_bytes, IfOk};
+ghost use Rattle.std.specs.Prelude.{◌≡◌, ◌≤◌, ◌<◌, ◌^◌, length, map, string_bytes, IfOk};
 ghost use Rattle.koat_cli.specs.Answers.{FetchesNothing, Says};
 ghost use Rattle.koat_cli.specs.Calls.{call_of, seen_of};
 ghost use Rattle.koat_cli.specs.OnFiles.{OnProgram};
@@ -158,7 +158,8 @@ fn check_on<F: Shelf>(
     file: &str,
     shelf: &mut F,
 ) -> Result<StatusText, Memory>
-    requires { IsValid (program_of program.now) }
+    requires valid { IsValid (program_of program.now) }
+    requires few { length (program_of program.now).symbols < 2 ^ 32 }
     ensures keeps_files { F.held shelf.new ≡ F.held shelf.old }
     ensures keeps_count { F.faults shelf.old ≤ F.faults shelf.new }
     ensures fault { IfOk result (λ said.

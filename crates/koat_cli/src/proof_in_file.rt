@@ -1,6 +1,6 @@
 //! The file of a proof: the proof file whose text it has, or what is answered where the file gives none.
 
-ghost use Rattle.std.specs.Prelude.{◌≡◌, ◌≤◌, ◌<◌, IfOk};
+ghost use Rattle.std.specs.Prelude.{◌≡◌, ◌≤◌, ◌<◌, ◌^◌, length, IfOk};
 ghost use Rattle.asks.specs.Lines.{Word};
 ghost use Rattle.its_model.specs.Valid.{IsValid};
 ghost use Rattle.its_model.specs.Views.{program_of};
@@ -38,7 +38,8 @@ pub(crate) fn proof_in<F: Shelf>(
     file: &str,
     shelf: &mut F,
 ) -> Result<ProofInFile, Memory>
-    requires { IsValid (program_of program.now) }
+    requires valid { IsValid (program_of program.now) }
+    requires few { length (program_of program.now).symbols < 2 ^ 32 }
     ensures keeps_files { F.held shelf.new ≡ F.held shelf.old }
     ensures keeps_count { F.faults shelf.old ≤ F.faults shelf.new }
     ensures fault { IfOk result (λ r. F.faults shelf.old < F.faults shelf.new → IsFaultOfProofFile r) }
@@ -63,7 +64,8 @@ pub(crate) fn proof_in<F: Shelf>(
 
 // What a file of these bytes is.
 fn proof_file(alloc: Global, program: &Program, bytes: &[u8]) -> Result<ProofInFile, Memory>
-    requires { IsValid (program_of program.now) }
+    requires valid { IsValid (program_of program.now) }
+    requires few { length (program_of program.now).symbols < 2 ^ 32 }
     ensures { IfOk result (λ r. (seen : Seen) (file : Word) → Fetches seen file proof_limit bytes.now
         → IsProofFileOf (program_of program.now) seen file r) }
 {

@@ -1,4 +1,5 @@
 use Rattle.its_model.specs.Views.{program_of}
+use Rattle.koat_cli.proofs.FewSymbols.{few_symbols}
 use Rattle.koat_cli.proofs.Preparing.{behind_program}
 use Rattle.koat_cli.specs.Checks.{IsCheckOf}
 use Rattle.koat_cli.specs.OnTexts.{OnText, NoProgram}
@@ -15,3 +16,8 @@ returns-in-Program-clause-says g c =
 
 pub returns-in-Answer-clause-says : goal.returns-in-Answer-clause-says
 returns-in-Answer-clause-says g c = NoProgram (rw c.in-Answer.is at c.in_ok-said.ensures.file)
+
+pub check_on-requires-few : goal.check_on-requires-few
+check_on-requires-few g c =
+    let given = (rw c.in-Program.is at c.in_ok-said.ensures.file).0 in
+    few_symbols given.bytes (program_of c.in-Program.program) given.spelled
