@@ -24,3 +24,4 @@ pub mod Products
 pub mod Squares
 pub mod Growths
 pub mod FirstReasons
+pub mod FirstUntimed

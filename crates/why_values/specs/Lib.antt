@@ -9,3 +9,4 @@ pub mod LoosePlaces
 pub mod Products
 pub mod Growths
 pub mod FirstReasons
+pub mod FirstUntimed

@@ -6,6 +6,7 @@
 
 ghost use Rattle.why_values.specs.FirstReasons.{FirstReasonsAreWorkedOut};
 ghost use Rattle.why_values.specs.FirstTrips.{FirstTripsAreWorkedOut};
+ghost use Rattle.why_values.specs.FirstUntimed.{FirstUntimedIsWorkedOut};
 ghost use Rattle.why_values.specs.Growths.{GrowthsAreWorkedOut};
 ghost use Rattle.why_values.specs.Limits.{LimitsAreWorkedOut};
 ghost use Rattle.why_values.specs.LoosePlaces.{LoosePlacesAreWorkedOut};
@@ -17,8 +18,9 @@ ghost use Rattle.why_values.specs.Trips.{TripsAreWorkedOut};
 /// Why rules have no time and places no size, on small programs, as it was worked out by hand: linear programs that
 /// pass a limit of pivots, of numbers or of a table's size, which of several rules is told, and the one for a point
 /// where no function and no form is found; places that are loose on a side; sizes that rest on others, that bend in a
-/// loop, that grow by a rule without a time, and that are large, and which of several such reasons is told; and a time
-/// that is large. Not that an answer has no whole numbers small enough. It has no code: its contract is these values.
+/// loop, that grow by a rule without a time, and that are large, which of several such reasons is told, and of several
+/// such rules the first; and a time that is large. Not that an answer has no whole numbers small enough. It has no code:
+/// its contract is these values.
 pub fn missing_bounds_are_as_worked_out()
     ensures trips { TripsAreWorkedOut }
     ensures first_trips { FirstTripsAreWorkedOut }
@@ -29,4 +31,5 @@ pub fn missing_bounds_are_as_worked_out()
     ensures products { ProductsAreWorkedOut }
     ensures growths { GrowthsAreWorkedOut }
     ensures first_reasons { FirstReasonsAreWorkedOut }
+    ensures first_untimed { FirstUntimedIsWorkedOut }
 {}

@@ -1,5 +1,6 @@
 use Rattle.why_values.proofs.FirstReasons.{first_reasons_worked}
 use Rattle.why_values.proofs.FirstTrips.{first_trips_worked}
+use Rattle.why_values.proofs.FirstUntimed.{first_untimed_worked}
 use Rattle.why_values.proofs.Growths.{growths_worked}
 use Rattle.why_values.proofs.Limits.{limits_worked}
 use Rattle.why_values.proofs.LoosePlaces.{loose_places_worked}
@@ -10,4 +11,4 @@ use Rattle.why_values.proofs.Trips.{trips_worked}
 use Rattle.why_values.proofs.missing_bounds_are_as_worked_out.Goals as goal
 
 pub returns : goal.returns
-returns c = record { trips = trips_worked; first_trips = first_trips_worked; point_trips = point_trips_worked; limits = limits_worked; loose_places = loose_places_worked; squares = squares_worked; products = products_worked; growths = growths_worked; first_reasons = first_reasons_worked }
+returns c = record { trips = trips_worked; first_trips = first_trips_worked; point_trips = point_trips_worked; limits = limits_worked; loose_places = loose_places_worked; squares = squares_worked; products = products_worked; growths = growths_worked; first_reasons = first_reasons_worked; first_untimed = first_untimed_worked }
