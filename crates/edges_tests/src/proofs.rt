@@ -183,6 +183,7 @@ const CHECKS: &[(&str, &str, Status, &str)] = &[
 // Programs, with the status and the text of their proof files.
 const PROOFS: &[(&str, Status, &str)] = &[
     (ENTERING, Status::Done, ENTERED),
+    (COUNTING, Status::Done, COUNTED),
     (
         STAYING,
         Status::Unknown,
