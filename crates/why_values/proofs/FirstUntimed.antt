@@ -1,16 +1,14 @@
 -- Which of two rules without a time is told of a loop that grows by both.
-use Rattle.std.proofs.Common.{◌≡◌, inl, inr, ℕ, ◌≤◌, List, [], ◌∷◌, All, refl, arith}
+use Rattle.std.proofs.Common.{inl, inr, ℕ, ◌≤◌, [], ◌∷◌, refl, arith}
 use Rattle.std.specs.Prelude.{ℤ, pos, negsuc, nat_abs}
 use Rattle.std.proofs.lemmas.Int.{ints}
 use Rattle.std.proofs.lemmas.List.Elements.{All-nil, All-cons}
 use Rattle.model.specs.Bounds.{Constant, Input}
-use Rattle.model.specs.Programs.{rule_at}
 use Rattle.model.proofs.Cases.{none_some}
 use Rattle.outcome.specs.Reports.{Timed, SizeUntimed}
 use Rattle.proof_tree.specs.proof_nodes.AcceptsSizes.{HasLinearShape, HasMemberShape, HasCycleShape, AcceptsUp, AcceptsLow}
 use Rattle.proof_tree.specs.proof_nodes.Checks.{cycle_checks}
 use Rattle.proof_tree.specs.proof_nodes.Limits.{IsInLimit}
-use Rattle.proof_tree.specs.proof_nodes.Nodes.{Member}
 use Rattle.proof_tree.specs.proof_nodes.Reasons as reasons
 use Rattle.proof_tree.specs.proof_nodes.Reasons.{IsFirstAmong}
 use Rattle.proof_tree.specs.proof_nodes.WorkedSettings.{form}

@@ -1,6 +1,7 @@
 -- sequences of tableaux, followed by computation
 pub mod Runs
 pub mod WholeEnds
+pub mod SmallRuns
 -- what stands at places
 pub mod TwoPlaces
 pub mod SquareFlows
@@ -19,6 +20,7 @@ pub mod SquareTimes
 pub mod FirstTrips
 pub mod PointTrips
 pub mod Limits
+pub mod Scales
 pub mod LoosePlaces
 pub mod Products
 pub mod Squares

@@ -1,4 +1,4 @@
--- Sequences of tableaux of whole numbers, followed by computation, and whether they pass the limit of pivots.
+-- Sequences of tableaux, followed by computation: of whole numbers; and whether they pass the limit of pivots.
 use Rattle.std.proofs.Common.{◌≡◌, ℕ, suc, ◌+◌, ◌<◌, ◌≤◌, ◌&&◌, Bool, true, false, Option, Some, None, refl, sym, ap, subst}
 use Rattle.std.proofs.Common.{arith}
 use Rattle.std.specs.Prelude.{ℤ, pos, ◌-ℤ◌, unsigned_abs, nat_lt}
@@ -91,53 +91,77 @@ there_is : (p : LinearProgram) (o : Option Tableau) → is_there o ≡ true → 
 there_is p None e = absurd (no_is_not_yes false refl e)
 there_is p (Some t) e = refl
 
--- the table isn't too wide, after so many pivots, which are allowed, there is a tableau, and all so far have whole
--- numbers
-pub record IsWholeRun (p : LinearProgram) (allowed k : ℕ) : Type 0 where
+-- the table isn't too wide, after so many pivots, which are allowed, there is a tableau, and all so far pass a test
+pub record IsRun (p : LinearProgram) (test : Tableau → Bool) (allowed k : ℕ) : Type 0 where
   pub fits : table_size p ≤ widest
   pub within : k ≤ allowed
   pub reached : is_there (tableau_at p k) ≡ true
-  pub whole : every (suc k) (λ i. is_whole p (tableau_after p i)) ≡ true
+  pub passed : every (suc k) (λ i. test (tableau_after p i)) ≡ true
 
 -- whether it is so
-abbrev pub is_whole_run : LinearProgram → ℕ → ℕ → Bool
-is_whole_run p allowed k =
+abbrev pub is_run : LinearProgram → (Tableau → Bool) → ℕ → ℕ → Bool
+is_run p test allowed k =
     nat_lt (table_size p) (suc widest)
     && (nat_lt k (suc allowed)
-    && (is_there (tableau_at p k) && every (suc k) (λ i. is_whole p (tableau_after p i))))
+    && (is_there (tableau_at p k) && every (suc k) (λ i. test (tableau_after p i))))
 
-pub whole_run : (p : LinearProgram) (allowed k : ℕ) → is_whole_run p allowed k ≡ true → IsWholeRun p allowed k
-whole_run p allowed k h =
+pub run_told : (p : LinearProgram) (test : Tableau → Bool) (allowed k : ℕ) → is_run p test allowed k ≡ true
+    → IsRun p test allowed k
+run_told p test allowed k h =
     let a = passes_both (nat_lt (table_size p) (suc widest))
-    (nat_lt k (suc allowed) && (is_there (tableau_at p k) && every (suc k) (λ i. is_whole p (tableau_after p i)))) h in
+    (nat_lt k (suc allowed) && (is_there (tableau_at p k) && every (suc k) (λ i. test (tableau_after p i)))) h in
     let b = passes_both (nat_lt k (suc allowed))
-    (is_there (tableau_at p k) && every (suc k) (λ i. is_whole p (tableau_after p i))) a.1 in
-    let c = passes_both (is_there (tableau_at p k)) (every (suc k) (λ i. is_whole p (tableau_after p i))) b.1 in
+    (is_there (tableau_at p k) && every (suc k) (λ i. test (tableau_after p i))) a.1 in
+    let c = passes_both (is_there (tableau_at p k)) (every (suc k) (λ i. test (tableau_after p i))) b.1 in
     record {
       fits = below (table_size p) widest (ltb-true (table_size p) (suc widest) a.0);
       within = below k allowed (ltb-true k (suc allowed) b.0);
       reached = c.0;
-      whole = c.1;
+      passed = c.1;
     }
   where
     below : (m n : ℕ) → m < suc n → m ≤ n
     below m n l = omega (arith, l)
 
-pub run_whole : (p : LinearProgram) (allowed k : ℕ) → IsWholeRun p allowed k → (i : ℕ) → i < suc k → IsInRange p (tableau_after p i)
-run_whole p allowed k r i low =
-    whole_in_range p (tableau_after p i) (every-each (suc k) (λ l. is_whole p (tableau_after p l)) r.whole i low)
+-- where the tableaux that pass the test are in range, all so far are, and the last one comes after so many pivots
+pub run_in_range : (p : LinearProgram) (test : Tableau → Bool) (allowed k : ℕ)
+    → ((t : Tableau) → test t ≡ true → IsInRange p t) → IsRun p test allowed k → (i : ℕ) → i < suc k
+    → IsInRange p (tableau_after p i)
+run_in_range p test allowed k sound r i low =
+    sound (tableau_after p i) (every-each (suc k) (λ l. test (tableau_after p l)) r.passed i low)
+
+pub run_after : (p : LinearProgram) (test : Tableau → Bool) (allowed k : ℕ)
+    → ((t : Tableau) → test t ≡ true → IsInRange p t) → IsRun p test allowed k → ComesAfter p k (tableau_after p k)
+run_after p test allowed k sound r = record {
+  is = there_is p (tableau_at p k) r.reached;
+  before = λ i u low e.
+      subst (λ (t : Tableau). IsInRange p t) (ap (tableau_in p) e)
+      (run_in_range p test allowed k sound r i (omega (arith, low)));
+}
+
+-- all tableaux so far have whole numbers
+abbrev pub IsWholeRun : LinearProgram → ℕ → ℕ → Type 0
+IsWholeRun p allowed k = IsRun p (is_whole p) allowed k
+
+-- whether they have
+abbrev pub is_whole_run : LinearProgram → ℕ → ℕ → Bool
+is_whole_run p allowed k = is_run p (is_whole p) allowed k
+
+pub whole_run : (p : LinearProgram) (allowed k : ℕ) → is_whole_run p allowed k ≡ true → IsWholeRun p allowed k
+whole_run p allowed k h = run_told p (is_whole p) allowed k h
+
+pub run_whole : (p : LinearProgram) (allowed k : ℕ) → IsWholeRun p allowed k → (i : ℕ) → i < suc k
+    → IsInRange p (tableau_after p i)
+run_whole p allowed k r i low = run_in_range p (is_whole p) allowed k (whole_in_range p) r i low
 
 pub run_comes : (p : LinearProgram) (allowed k : ℕ) → IsWholeRun p allowed k → ComesAfter p k (tableau_after p k)
-run_comes p allowed k r = record {
-  is = there_is p (tableau_at p k) r.reached;
-  before = λ i u low e. subst (λ (t : Tableau). IsInRange p t) (ap (tableau_in p) e) (run_whole p allowed k r i (omega (arith, low)));
-}
+run_comes p allowed k r = run_after p (is_whole p) allowed k (whole_in_range p) r
 
 pub run_scale : (p : LinearProgram) (allowed k : ℕ) → IsWholeRun p allowed k → (i : ℕ) → i < p.rows + 3
     → (tableau_after p k).scale i ≡ pos 1
 run_scale p allowed k r i low =
     (row_whole p (tableau_after p k)
-    (every-each (suc k) (λ l. is_whole p (tableau_after p l)) r.whole k (omega arith)) i low).0
+    (every-each (suc k) (λ l. is_whole p (tableau_after p l)) r.passed k (omega arith)) i low).0
 
 -- where another tableau follows behind the allowed pivots, their number trips the program
 pub budget_run : (p : LinearProgram) (allowed : ℕ) → is_whole_run p allowed allowed ≡ true

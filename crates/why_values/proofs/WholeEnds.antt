@@ -17,8 +17,9 @@ use Rattle.its_model.specs.linear_forms.Forms.{at}
 use Rattle.its_model.specs.linear_forms.Limits.{certificate_limit, point_limit}
 use Rattle.its_model.specs.linear_forms.LinearProgram.{LinearProgram}
 use Rattle.simplex_core.specs.Bland.{is_infeasible, entering, dual_of}
-use Rattle.simplex_core.specs.Outcome.{IsBasicValue}
-use Rattle.simplex_core.specs.Scaling.{AreScaled}
+use Rattle.simplex_core.specs.Outcome.{IsBasicValue, EndsInfeasibly}
+use Rattle.simplex_core.specs.Problem.{table_size, widest}
+use Rattle.simplex_core.specs.Scaling.{AreOver, AreScaled, AreWithin}
 use Rattle.simplex_core.specs.Search.{every, some}
 use Rattle.simplex_core.specs.Sizes.{number_limit}
 use Rattle.simplex_core.specs.Tableau.{Tableau, unknowns, cost_row}
@@ -37,7 +38,7 @@ abbrev pub are_low : List ℤ → Bool
 are_low [] = true
 are_low (z ∷ zs) = nat_lt (unsigned_abs z) number_limit && are_low zs
 
-abbrev whole : (z : ℤ) → unsigned_abs z < number_limit → Frac
+abbrev pub whole : (z : ℤ) → unsigned_abs z < number_limit → Frac
 whole z low = record {
   num = z;
   den = pos 1;
@@ -291,21 +292,29 @@ pub solution_run : (p : LinearProgram) (allowed k : ℕ) (zs : List ℤ) (basis 
     → is_solution_run p allowed k zs basis ≡ true → IsScaledSolution p allowed zs 1
 solution_run p allowed k zs basis h = solution_given p allowed k zs basis (solution_parts p allowed k zs basis h)
 
--- what is answered by a dual passes no limit
+-- what ends as infeasible with fractions that small whole numbers stand for passes no limit
+pub infeasible_untripped : (p : LinearProgram) (allowed k : ℕ) (fs : List Frac) (zs : List ℤ) (den : ℕ)
+    → table_size p ≤ widest → EndsInfeasibly p allowed fs k → AreOver fs (length fs) zs den
+    → AreWithin point_limit (length fs) zs → (c : Cause) → ¬ (Trips p allowed c)
+infeasible_untripped p allowed k fs zs den fits ends over within (range m) t =
+    range-apart p allowed k m ends.last ends.in_range (infeasible-stops p allowed k fs ends) t.1
+infeasible_untripped p allowed k fs zs den fits ends over within (budget m) t =
+    budget-apart p allowed k ends.last (infeasible-last p ends.last ends.infeasible)
+    (infeasible-stops p allowed k fs ends) t.2
+infeasible_untripped p allowed k fs zs den fits ends over within (wide n) t = let low = t.0 in omega (arith, low, fits)
+infeasible_untripped p allowed k fs zs den fits ends over within scale (w, inl t) =
+    ends-apart p allowed t.k k t.at t.basis fs t.ends ends
+infeasible_untripped p allowed k fs zs den fits ends over within scale (w, inr t) =
+    let same = (infeasible-same p allowed k t.k fs t.dual ends t.ends).0 in
+    t.exceeds zs den (over-same fs t.dual zs den same over)
+    (record { each = λ j l. within.each j (let a = same.lengths in omega (arith, l, a)) })
+
+-- so what is answered by a dual passes none
 pub dual_untripped : (p : LinearProgram) (allowed : ℕ) (zs : List ℤ) (den : ℕ) → IsScaledDual p allowed zs den
     → (c : Cause) → ¬ (Trips p allowed c)
-dual_untripped p allowed zs den s (range m) t =
-    range-apart p allowed s.k m s.ends.last s.ends.in_range (infeasible-stops p allowed s.k s.dual s.ends) t.1
-dual_untripped p allowed zs den s (budget m) t =
-    budget-apart p allowed s.k s.ends.last (infeasible-last p s.ends.last s.ends.infeasible)
-    (infeasible-stops p allowed s.k s.dual s.ends) t.2
-dual_untripped p allowed zs den s (wide n) t = let low = t.0 in let fits = s.fits in omega (arith, low, fits)
-dual_untripped p allowed zs den s scale (w, inl t) = ends-apart p allowed t.k s.k t.at t.basis s.dual t.ends s.ends
-dual_untripped p allowed zs den s scale (w, inr t) =
-    let same = (infeasible-same p allowed s.k t.k s.dual t.dual s.ends t.ends).0 in
-    t.exceeds zs den (over-same s.dual t.dual zs den same s.scaled.over) (record {
-      each = λ j l. s.within.each j (let a = same.lengths in let b = s.scaled.lengths in omega (arith, l, a, b));
-    })
+dual_untripped p allowed zs den s =
+    infeasible_untripped p allowed s.k s.dual zs den s.fits s.ends s.scaled.over
+    (record { each = λ j l. s.within.each j (let b = s.scaled.lengths in omega (arith, l, b)) })
 
 -- and neither does what is answered by a solution
 pub solution_untripped : (p : LinearProgram) (allowed : ℕ) (zs : List ℤ) (den : ℕ) → IsScaledSolution p allowed zs den

@@ -4,7 +4,7 @@ use Rattle.std.specs.Prelude.{ℕ, List, [], ◌∷◌, pos, negsuc, None}
 use Rattle.model.specs.Bounds.{Constant}
 use Rattle.model.specs.Programs.{Rule, Program}
 use Rattle.model.specs.Terms.{Literal, Variable, Addition}
-use Rattle.outcome.specs.Reports.{TimeTripped, Timed, Untimed, SizeUntimed, Unsized, Time, Report}
+use Rattle.outcome.specs.Reports.{TimeTripped, Timed, Untimed, SizeUntimed, Unsized, Time}
 use Rattle.proof_tree.specs.declared.answer.Question.TheVariants as asked
 use Rattle.proof_tree.specs.proof_nodes.Nodes.{Member}
 use Rattle.proof_tree.specs.proof_nodes.Worked.{arm}

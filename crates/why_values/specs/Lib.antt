@@ -5,6 +5,7 @@ pub mod Squares
 pub mod FirstTrips
 pub mod PointTrips
 pub mod Limits
+pub mod Scales
 pub mod LoosePlaces
 pub mod Products
 pub mod Growths

@@ -6,9 +6,10 @@ use Rattle.why_values.proofs.Limits.{limits_worked}
 use Rattle.why_values.proofs.LoosePlaces.{loose_places_worked}
 use Rattle.why_values.proofs.PointTrips.{point_trips_worked}
 use Rattle.why_values.proofs.Products.{products_worked}
+use Rattle.why_values.proofs.Scales.{scales_worked}
 use Rattle.why_values.proofs.Squares.{squares_worked}
 use Rattle.why_values.proofs.Trips.{trips_worked}
 use Rattle.why_values.proofs.missing_bounds_are_as_worked_out.Goals as goal
 
 pub returns : goal.returns
-returns c = record { trips = trips_worked; first_trips = first_trips_worked; point_trips = point_trips_worked; limits = limits_worked; loose_places = loose_places_worked; squares = squares_worked; products = products_worked; growths = growths_worked; first_reasons = first_reasons_worked; first_untimed = first_untimed_worked }
+returns c = record { trips = trips_worked; first_trips = first_trips_worked; point_trips = point_trips_worked; limits = limits_worked; scales = scales_worked; loose_places = loose_places_worked; squares = squares_worked; products = products_worked; growths = growths_worked; first_reasons = first_reasons_worked; first_untimed = first_untimed_worked }
