@@ -6,6 +6,6 @@ pub mod FirstFaults
 pub mod Balances
 pub mod TouchLists
 pub mod TouchSums
-pub mod Touched
+pub mod SymbolsInOrder
 pub mod ShutRows
 pub mod Sums

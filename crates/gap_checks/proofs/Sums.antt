@@ -19,8 +19,8 @@ use Rattle.gap_checks.specs.declared.touching.Group.{Group}
 use Rattle.gap_checks.specs.declared.touching.Touch.{Touch}
 use Rattle.gap_checks.specs.GapTests.{coefficient_at, value_limit}
 use Rattle.gap_checks.specs.GapBalances.{AddsTouch, AreNets, AreSums, sum_at}
-use Rattle.gap_checks.specs.Touches.{AreTouches, IsGroup, part_of}
-use Rattle.gap_checks.proofs.TouchSums.{parts_sum, group-starts, group-ends}
+use Rattle.gap_checks.specs.Touches.{AreTouches, IsGroup, share_of}
+use Rattle.gap_checks.proofs.TouchSums.{shares_sum, group-starts, group-ends}
 
 -- two numbers whose absolute values are small are read as they are
 both-read : (s r : ℤ) → unsigned_abs s + unsigned_abs r < 2 ^ 127
@@ -95,7 +95,7 @@ module _ (f : ℕ → ℤ) (old : List ℤ) where
 -- all places of the symbol of a touch
 pub added-all : (p : Program) (g : Gap) (touch : Touch) (old new : List ℤ) (place : ℕ)
     → arity_of p touch.symbol + 1 ≤ place
-    → AreAddedBefore (λ k. part_of (forms_at p) g.set g.moves (coefficient_at touch.symbol k) touch) place old new
+    → AreAddedBefore (λ k. share_of (forms_at p) g.set g.moves (coefficient_at touch.symbol k) touch) place old new
     → AddsTouch p g touch old new
 added-all p g touch old new place l h = record {
   long = h.long;
@@ -113,7 +113,7 @@ added-all p g touch old new place l h = record {
 pub record AreSumsSoFar (p : Program) (g : Gap) (ts : List Touch) (symbol i : ℕ) (nets : List ℤ) : Type 0 where
   pub sums : AreSums nets (i * value_limit)
   pub each : (k : ℕ) → k < arity_of p symbol + 1
-      → sum_at nets k +ℤ parts_sum (part_of (forms_at p) g.set g.moves (coefficient_at symbol k)) (drop i ts)
+      → sum_at nets k +ℤ shares_sum (share_of (forms_at p) g.set g.moves (coefficient_at symbol k)) (drop i ts)
       ≡ net (forms_at p) (coefficient_at symbol k) g.set g.moves
 
 -- sums that are small are so within a greater limit
@@ -154,20 +154,20 @@ module _ (p : Program) (g : Gap) (ts : List Touch) (h : AreTouches (forms_at p) 
     where
       -- what the touch has at a place, and what those from a position on have
       part : ℕ → ℤ
-      part k = part_of (forms_at p) g.set g.moves (coefficient_at symbol k) touch
+      part k = share_of (forms_at p) g.set g.moves (coefficient_at symbol k) touch
 
       left : ℕ → ℕ → ℤ
-      left k n = parts_sum (part_of (forms_at p) g.set g.moves (coefficient_at symbol k)) (drop n ts)
+      left k n = shares_sum (share_of (forms_at p) g.set g.moves (coefficient_at symbol k)) (drop n ts)
 
       added : (k : ℕ) → k < arity_of p symbol + 1 → sum_at new k ≡ sum_at old k +ℤ part k
       added k c =
           subst (λ (s : ℕ). k < arity_of p s + 1
-          → sum_at new k ≡ sum_at old k +ℤ part_of (forms_at p) g.set g.moves (coefficient_at s k) touch) same (b.each k) c
+          → sum_at new k ≡ sum_at old k +ℤ share_of (forms_at p) g.set g.moves (coefficient_at s k) touch) same (b.each k) c
 
       next : (k : ℕ) → left k i ≡ part k +ℤ left k (i + 1)
       next k =
-          ap (parts_sum (part_of (forms_at p) g.set g.moves (coefficient_at symbol k))) (drop_more ts i touch l)
-          ∙ ap (λ (t : Touch). part_of (forms_at p) g.set g.moves (coefficient_at symbol k) t +ℤ left k (i + 1)) (sym e)
+          ap (shares_sum (share_of (forms_at p) g.set g.moves (coefficient_at symbol k))) (drop_more ts i touch l)
+          ∙ ap (λ (t : Touch). share_of (forms_at p) g.set g.moves (coefficient_at symbol k) t +ℤ left k (i + 1)) (sym e)
 
   -- behind the last touch of a symbol they are what leaves by all moves, less what arrives
   pub sums-all : (d : Touch) (group : Group) (i : ℕ) (sums : List ℤ) → IsGroup ts group → i ≡ group.end → i ≤ 2000
@@ -176,6 +176,6 @@ module _ (p : Program) (g : Gap) (ts : List Touch) (h : AreTouches (forms_at p) 
     sums = record { long = a.sums.long; size = λ k b. omega (arith, few, a.sums.size k b) };
     each = λ k b.
         all_done _ _ _ (a.each k b)
-        (ap (λ (n : ℕ). parts_sum (part_of (forms_at p) g.set g.moves (coefficient_at group.symbol k)) (drop n ts)) e
+        (ap (λ (n : ℕ). shares_sum (share_of (forms_at p) g.set g.moves (coefficient_at group.symbol k)) (drop n ts)) e
         ∙ group-ends (forms_at p) g.set g.moves ts h group is k long d);
   }

@@ -14,8 +14,8 @@ use Rattle.farkas_cert.specs.model.Programs.{Program, Rule}
 use Rattle.proof_tree.specs.proof_setting.RankedSets.{forms_in, forms_at}
 use Rattle.proof_tree.specs.proof_nodes.AcceptsPlain.{IsRule}
 use Rattle.proof_tree.specs.proof_nodes.Graph.{touches}
-use Rattle.gap_checks.specs.declared.touching.Side.{Side}
-use Rattle.gap_checks.specs.declared.touching.Side.TheVariants.{Leaves, Arrives}
+use Rattle.gap_checks.specs.declared.touching.Way.{Way}
+use Rattle.gap_checks.specs.declared.touching.Way.TheVariants.{Leaves, Arrives}
 use Rattle.gap_checks.specs.declared.touching.Touch.{Touch}
 use Rattle.gap_checks.specs.Touches.{AreRules, AreTouches, IsGroup, rule_in, leaving_touch, arriving_touch, touches_from}
 use Rattle.gap_checks.proofs.Balances.{target-is}
@@ -26,13 +26,13 @@ pub source-is : (p : Program) (t : ℕ) (is : IsRule p t) → source_of p t ≡ 
 source-is p t is = subst (λ (o : Option Rule). source_in o ≡ Some (forms_in o).source) (sym is.numbered) refl
 
 -- the symbol that a rule leaves, or to which it leads
-abbrev pub symbol_by : Side → RuleForms → ℕ
+abbrev pub symbol_by : Way → RuleForms → ℕ
 symbol_by Leaves r = r.source
 symbol_by Arrives r = r.target
 
--- a touch is of a rule of a set that has so many, and of the symbol on its side
+-- a touch is of a rule of a set that has so many, and of the symbol that the rule leaves or leads to
 abbrev pub IsTouchOf : (ℕ → RuleForms) → List ℕ → Touch → Type 0
-IsTouchOf rule set t = (t.position < length set) × (t.symbol ≡ symbol_by t.side (rule (rule_in set t.position)))
+IsTouchOf rule set t = (t.position < length set) × (t.symbol ≡ symbol_by t.way (rule (rule_in set t.position)))
 
 module _ (rule : ℕ → RuleForms) (set : List ℕ) where
   -- the touches of one rule more
@@ -64,14 +64,14 @@ module _ (rule : ℕ → RuleForms) (set : List ℕ) where
   -- so where their symbols were found
   pub put-next : (ts : List Touch) (i s t : ℕ) → s ≡ (rule (rule_in set i)).source → t ≡ (rule (rule_in set i)).target
       → 2 * i + 1 < length ts → take (2 * i) ts ≡ touches_from rule set 0 i
-      → take (2 * (i + 1)) (put (put ts (2 * i) (record { symbol = s; position = i; side = Leaves })) (2 * i + 1)
-      (record { symbol = t; position = i; side = Arrives }))
+      → take (2 * (i + 1)) (put (put ts (2 * i) (record { symbol = s; position = i; way = Leaves })) (2 * i + 1)
+      (record { symbol = t; position = i; way = Arrives }))
       ≡ touches_from rule set 0 (i + 1)
   put-next ts i s t e f l h =
-      ap (λ (n : ℕ). take (2 * (i + 1)) (put (put ts (2 * i) (record { symbol = n; position = i; side = Leaves })) (2 * i + 1)
-      (record { symbol = t; position = i; side = Arrives }))) e
+      ap (λ (n : ℕ). take (2 * (i + 1)) (put (put ts (2 * i) (record { symbol = n; position = i; way = Leaves })) (2 * i + 1)
+      (record { symbol = t; position = i; way = Arrives }))) e
       ∙ (ap (λ (n : ℕ). take (2 * (i + 1)) (put (put ts (2 * i) (leaving_touch rule set i)) (2 * i + 1)
-      (record { symbol = n; position = i; side = Arrives }))) f
+      (record { symbol = n; position = i; way = Arrives }))) f
       ∙ put-more ts i l h)
 
   -- behind the last rule all are put

@@ -17,11 +17,11 @@ use Rattle.proof_tree.specs.proof_nodes.GapChecks.{value_at, net}
 use Rattle.proof_tree.specs.proof_nodes.Gaps.{ScaledPoint}
 use Rattle.proof_tree.specs.AnswerViews.{scaled_of}
 use Rattle.gap_checks.specs.declared.touching.Group.{Group}
-use Rattle.gap_checks.specs.declared.touching.Side.{Side}
-use Rattle.gap_checks.specs.declared.touching.Side.TheVariants.{Leaves, Arrives}
+use Rattle.gap_checks.specs.declared.touching.Way.{Way}
+use Rattle.gap_checks.specs.declared.touching.Way.TheVariants.{Leaves, Arrives}
 use Rattle.gap_checks.specs.declared.touching.Touch.{Touch}
 use Rattle.gap_checks.specs.GapTests.{coefficient_at}
-use Rattle.gap_checks.specs.Touches.{AreTouches, IsGroup, rule_in, point_in, touches_from, part_by, part_of}
+use Rattle.gap_checks.specs.Touches.{AreTouches, IsGroup, rule_in, point_in, touches_from, share_by, share_of}
 use Rattle.gap_checks.proofs.Balances.{net-next, net-end}
 use Rattle.gap_checks.proofs.TouchLists.{IsTouchOf, symbol_by, touch-real}
 
@@ -33,9 +33,9 @@ point-found zs i z l e =
     ∙ (get_or-map scaled_of zs i z ∙ ap scaled_of (sym e))
 
 -- the sum of what touches have
-abbrev pub parts_sum : (Touch → ℤ) → List Touch → ℤ
-parts_sum f [] = pos 0
-parts_sum f (t ∷ ts) = f t +ℤ parts_sum f ts
+abbrev pub shares_sum : (Touch → ℤ) → List Touch → ℤ
+shares_sum f [] = pos 0
+shares_sum f (t ∷ ts) = f t +ℤ shares_sum f ts
 
 -- by how much a number is above 0, and below
 abbrev above : ℤ → ℕ
@@ -53,13 +53,13 @@ both-sides (negsuc n) = let e : negsuc n ≡ pos 0 -ℤ pos (suc n) = omega (ari
 module _ (f : Touch → ℤ) where
   -- a sum is that of what is above 0, less that of what is below
   sides-sum : (ts : List Touch)
-      → parts_sum f ts ≡ pos (sum_by (λ t. above (f t)) ts) -ℤ pos (sum_by (λ t. below (f t)) ts)
+      → shares_sum f ts ≡ pos (sum_by (λ t. above (f t)) ts) -ℤ pos (sum_by (λ t. below (f t)) ts)
   sides-sum [] = refl
   sides-sum (t ∷ ts) =
       omega (arith, ints, both-sides (f t), sides-sum ts, sum_by-cons (λ u. above (f u)) t ts, sum_by-cons (λ u. below (f u)) t ts)
 
   -- the order makes no difference
-  pub sum-permuted : (ts us : List Touch) → IsPermutation ts us → parts_sum f us ≡ parts_sum f ts
+  pub sum-permuted : (ts us : List Touch) → IsPermutation ts us → shares_sum f us ≡ shares_sum f ts
   sum-permuted ts us h =
       omega (
         arith,
@@ -72,7 +72,7 @@ module _ (f : Touch → ℤ) where
 
   -- where those before a position have nothing, what is left has all
   pub sum-before : (ts : List Touch) (k : ℕ) (d : Touch) → k ≤ length ts → ((j : ℕ) → j < k → f (get_or ts j d) ≡ pos 0)
-      → parts_sum f (drop k ts) ≡ parts_sum f ts
+      → shares_sum f (drop k ts) ≡ shares_sum f ts
   sum-before ts zero d l h = refl
   sum-before [] (suc k) d l h = absurd (omega (arith, l))
   sum-before (t ∷ ts) (suc k) d l h =
@@ -81,7 +81,7 @@ module _ (f : Touch → ℤ) where
 
   -- where those from a position on have nothing, nothing is left
   pub sum-behind : (ts : List Touch) (k : ℕ) (d : Touch)
-      → ((j : ℕ) → k ≤ j → j < length ts → f (get_or ts j d) ≡ pos 0) → parts_sum f (drop k ts) ≡ pos 0
+      → ((j : ℕ) → k ≤ j → j < length ts → f (get_or ts j d) ≡ pos 0) → shares_sum f (drop k ts) ≡ pos 0
   sum-behind [] zero d h = refl
   sum-behind [] (suc k) d h = refl
   sum-behind (t ∷ ts) zero d h =
@@ -92,7 +92,7 @@ module _ (f : Touch → ℤ) where
 module _ (rule : ℕ → RuleForms) (set : List ℕ) (zs : List ScaledPoint) where
   -- what all touches of a set have at a place of a symbol is what leaves it by the moves, less what arrives there
   touches-net : (c : Coefficient) → length zs ≡ length set → (n i : ℕ) → i + n ≡ length set
-      → parts_sum (part_of rule set zs c) (touches_from rule set i n) ≡ net rule c (drop i set) (drop i zs)
+      → shares_sum (share_of rule set zs c) (touches_from rule set i n) ≡ net rule c (drop i set) (drop i zs)
   touches-net c l zero i e = sym (net-end rule c set zs i (omega (arith, e)))
   touches-net c l (suc n) i e =
       let rest = touches-net c l n (i + 1) (omega (arith, e)) in
@@ -100,36 +100,36 @@ module _ (rule : ℕ → RuleForms) (set : List ℕ) (zs : List ScaledPoint) whe
       omega (arith, ints, rest, next)
 
   -- what arrives at the place of a touch by the rule at its position, taken away, is what the touch has there
-  pub part-arrives : (touch : Touch) (place t : ℕ) (z : ScaledPoint) (r : ℤ) → touch.side ≡ Arrives
+  pub share-arrives : (touch : Touch) (place t : ℕ) (z : ScaledPoint) (r : ℤ) → touch.way ≡ Arrives
       → t ≡ rule_in set touch.position → point_in zs touch.position ≡ z
       → r ≡ value_at (at_target (rule t) (coefficient_at touch.symbol place)) z
-      → pos 0 -ℤ r ≡ part_of rule set zs (coefficient_at touch.symbol place) touch
-  part-arrives touch place t z r e f g h =
+      → pos 0 -ℤ r ≡ share_of rule set zs (coefficient_at touch.symbol place) touch
+  share-arrives touch place t z r e f g h =
       ap (λ (x : ℤ). pos 0 -ℤ x) h
       ∙ (ap (λ (u : ℕ). pos 0 -ℤ value_at (at_target (rule u) (coefficient_at touch.symbol place)) z) f
       ∙ (ap (λ (y : ScaledPoint). pos 0 -ℤ value_at (at_target (rule (rule_in set touch.position)) (coefficient_at touch.symbol place)) y)
       (sym g)
-      ∙ sym (ap (λ (s : Side). part_by s (rule (rule_in set touch.position)) (point_in zs touch.position) (coefficient_at touch.symbol place)) e)))
+      ∙ sym (ap (λ (s : Way). share_by s (rule (rule_in set touch.position)) (point_in zs touch.position) (coefficient_at touch.symbol place)) e)))
 
   -- and so what leaves it
-  pub part-leaves : (touch : Touch) (place t : ℕ) (z : ScaledPoint) (r : ℤ) → touch.side ≡ Leaves
+  pub share-leaves : (touch : Touch) (place t : ℕ) (z : ScaledPoint) (r : ℤ) → touch.way ≡ Leaves
       → t ≡ rule_in set touch.position → point_in zs touch.position ≡ z
       → r ≡ value_at (at_source (rule t) (coefficient_at touch.symbol place)) z
-      → r ≡ part_of rule set zs (coefficient_at touch.symbol place) touch
-  part-leaves touch place t z r e f g h =
+      → r ≡ share_of rule set zs (coefficient_at touch.symbol place) touch
+  share-leaves touch place t z r e f g h =
       h
       ∙ (ap (λ (u : ℕ). value_at (at_source (rule u) (coefficient_at touch.symbol place)) z) f
       ∙ (ap (λ (y : ScaledPoint). value_at (at_source (rule (rule_in set touch.position)) (coefficient_at touch.symbol place)) y)
       (sym g)
-      ∙ sym (ap (λ (s : Side). part_by s (rule (rule_in set touch.position)) (point_in zs touch.position) (coefficient_at touch.symbol place)) e)))
+      ∙ sym (ap (λ (s : Way). share_by s (rule (rule_in set touch.position)) (point_in zs touch.position) (coefficient_at touch.symbol place)) e)))
 
   -- a touch has nothing at the places of another symbol
-  part-none : (t : Touch) (s place : ℕ) → IsTouchOf rule set t → s ≢ t.symbol
-      → part_of rule set zs (coefficient_at s place) t ≡ pos 0
-  part-none t s place h n = go t.side (rule (rule_in set t.position)) (point_in zs t.position) (λ e. n (e ∙ sym h.1))
+  share-none : (t : Touch) (s place : ℕ) → IsTouchOf rule set t → s ≢ t.symbol
+      → share_of rule set zs (coefficient_at s place) t ≡ pos 0
+  share-none t s place h n = go t.way (rule (rule_in set t.position)) (point_in zs t.position) (λ e. n (e ∙ sym h.1))
     where
-      go : (side : Side) (r : RuleForms) (z : ScaledPoint) → s ≢ symbol_by side r
-          → part_by side r z (coefficient_at s place) ≡ pos 0
+      go : (way : Way) (r : RuleForms) (z : ScaledPoint) → s ≢ symbol_by way r
+          → share_by way r z (coefficient_at s place) ≡ pos 0
       go Leaves r z m =
           ap (λ (v : Bool). value_at (if v then before_rule place else zero_form) z) (ne_eqb s r.source m)
           ∙ omega (arith, ints)
@@ -140,22 +140,22 @@ module _ (rule : ℕ → RuleForms) (set : List ℕ) (zs : List ScaledPoint) whe
   module _ (ts : List Touch) (h : AreTouches rule set ts) (group : Group) (g : IsGroup ts group) (place : ℕ)
       (l : length zs ≡ length set) where
     abbrev pub there : Touch → ℤ
-    there = part_of rule set zs (coefficient_at group.symbol place)
+    there = share_of rule set zs (coefficient_at group.symbol place)
 
     -- what the touches from the first of a symbol on have at its places is all that leaves, less what arrives
-    pub group-starts : (d : Touch) → parts_sum there (drop group.start ts)
+    pub group-starts : (d : Touch) → shares_sum there (drop group.start ts)
         ≡ net rule (coefficient_at group.symbol place) set zs
     group-starts d =
         sum-before there ts group.start d (omega (arith, g.some, g.bound))
-        (λ j m. part-none (get_or ts j d) group.symbol place
+        (λ j m. share-none (get_or ts j d) group.symbol place
         (touch-real rule set ts h j d (omega (arith, m, g.some, g.bound)))
         (λ e. omega (arith, e, g.before j d (omega arith) m)))
         ∙ (sum-permuted there (touches_from rule set 0 (length set)) ts h.all
         ∙ touches-net (coefficient_at group.symbol place) l (length set) 0 (omega arith))
 
     -- and behind the last of it nothing is left
-    pub group-ends : (d : Touch) → parts_sum there (drop group.end ts) ≡ pos 0
+    pub group-ends : (d : Touch) → shares_sum there (drop group.end ts) ≡ pos 0
     group-ends d =
         sum-behind there ts group.end d
-        (λ j m n. part-none (get_or ts j d) group.symbol place (touch-real rule set ts h j d n)
+        (λ j m n. share-none (get_or ts j d) group.symbol place (touch-real rule set ts h j d n)
         (λ e. omega (arith, e, g.behind j d m n)))

@@ -10,7 +10,7 @@ use Rattle.proof_tree.specs.proof_setting.RankedSets.{forms_at}
 use Rattle.gap_checks.specs.declared.program_rules.Rules.{Rules}
 use Rattle.gap_checks.specs.declared.touching.Touch.{Touch}
 use Rattle.gap_checks.specs.GapTests.{coefficient_at, value_limit, AreShutFlags}
-use Rattle.gap_checks.specs.Touches.{part_of}
+use Rattle.gap_checks.specs.Touches.{share_of}
 
 -- the program of rules, as plain data
 abbrev pub program : Rules → Program
@@ -34,7 +34,7 @@ pub record AddsTouch (p : Program) (g : Gap) (touch : Touch) (old new : List ℤ
   pub long : length new ≡ length old
   pub each : (place : ℕ) → place < arity_of p touch.symbol + 1
       → sum_at new place
-      ≡ sum_at old place +ℤ part_of (forms_at p) g.set g.moves (coefficient_at touch.symbol place) touch
+      ≡ sum_at old place +ℤ share_of (forms_at p) g.set g.moves (coefficient_at touch.symbol place) touch
   pub size : (place : ℕ) → place < length old
       → unsigned_abs (sum_at new place) ≤ unsigned_abs (sum_at old place) + value_limit
 

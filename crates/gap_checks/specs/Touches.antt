@@ -9,8 +9,8 @@ use Rattle.proof_tree.specs.proof_nodes.AcceptsPlain.{IsRule}
 use Rattle.proof_tree.specs.proof_nodes.GapChecks.{value_at}
 use Rattle.proof_tree.specs.proof_nodes.Gaps.{ScaledPoint}
 use Rattle.gap_checks.specs.declared.touching.Group.{Group}
-use Rattle.gap_checks.specs.declared.touching.Side.{Side}
-use Rattle.gap_checks.specs.declared.touching.Side.TheVariants.{Leaves, Arrives}
+use Rattle.gap_checks.specs.declared.touching.Way.{Way}
+use Rattle.gap_checks.specs.declared.touching.Way.TheVariants.{Leaves, Arrives}
 use Rattle.gap_checks.specs.declared.touching.Touch.{Touch}
 
 -- each number of a set is that of a rule
@@ -27,11 +27,11 @@ point_in zs i = slice_index_or zs i (record { parts = []; den = 0 })
 
 -- the rule at a position of a set leaves a symbol
 abbrev pub leaving_touch : (ℕ → RuleForms) → List ℕ → ℕ → Touch
-leaving_touch rule set i = record { symbol = (rule (rule_in set i)).source; position = i; side = Leaves }
+leaving_touch rule set i = record { symbol = (rule (rule_in set i)).source; position = i; way = Leaves }
 
 -- and leads to one
 abbrev pub arriving_touch : (ℕ → RuleForms) → List ℕ → ℕ → Touch
-arriving_touch rule set i = record { symbol = (rule (rule_in set i)).target; position = i; side = Arrives }
+arriving_touch rule set i = record { symbol = (rule (rule_in set i)).target; position = i; way = Arrives }
 
 -- the touches of so many rules of a set, from a position on
 abbrev pub touches_from : (ℕ → RuleForms) → List ℕ → ℕ → ℕ → List Touch
@@ -52,10 +52,10 @@ pub record IsGroup (touches : List Touch) (group : Group) : Type 0 where
   pub behind : AllWithin (λ t. group.symbol < t.symbol) touches group.end (length touches)
 
 -- what a rule takes from a place of a symbol at its point, or what it brings there, taken away
-abbrev pub part_by : Side → RuleForms → ScaledPoint → Coefficient → ℤ
-part_by Leaves r z c = value_at (at_source r c) z
-part_by Arrives r z c = pos 0 -ℤ value_at (at_target r c) z
+abbrev pub share_by : Way → RuleForms → ScaledPoint → Coefficient → ℤ
+share_by Leaves r z c = value_at (at_source r c) z
+share_by Arrives r z c = pos 0 -ℤ value_at (at_target r c) z
 
 -- what a touch has in the balance of a place of a symbol, by the points of the rules of the set
-abbrev pub part_of : (ℕ → RuleForms) → List ℕ → List ScaledPoint → Coefficient → Touch → ℤ
-part_of rule set zs c t = part_by t.side (rule (rule_in set t.position)) (point_in zs t.position) c
+abbrev pub share_of : (ℕ → RuleForms) → List ℕ → List ScaledPoint → Coefficient → Touch → ℤ
+share_of rule set zs c t = share_by t.way (rule (rule_in set t.position)) (point_in zs t.position) c

@@ -13,13 +13,13 @@ ghost use Rattle.proof_tree.specs.Composing.{AreRowsOf};
 ghost use Rattle.gap_checks.specs.GapTests.{IsFirstFailing, coefficient_at, value_limit, IsBalanced, places_at};
 ghost use Rattle.gap_checks.specs.GapTests.{AreShutFlags, IsFirstUnbalanced};
 ghost use Rattle.gap_checks.specs.GapBalances.{AddsTouch, AreNets, ArePrepared, AreShutRows, AreSums, program};
-ghost use Rattle.gap_checks.specs.Touches.{AreTouches, IsGroup, part_of};
+ghost use Rattle.gap_checks.specs.Touches.{AreTouches, IsGroup, share_of};
 
 use crate::parts::{arriving, leaving};
 use crate::program_rules::Rules;
 use crate::rule_numbers::arity_at;
 use crate::shut_places::mark_shut;
-use crate::touching::{Group, Side, Touch, group_at, no_touch, order_touches};
+use crate::touching::{Group, Touch, Way, group_at, no_touch, order_touches};
 use guard_prep::RuleRows;
 use its_model::Program;
 use proof_tree::Gap;
@@ -33,20 +33,20 @@ fn places_of(p: &Program, symbol: u32) -> u32
 }
 
 // What a touch has in the balance of a place of its symbol, by the moves.
-fn part_at(rules: &Rules, g: &Gap, touch: &Touch, place: u32) -> i128
+fn share_at(rules: &Rules, g: &Gap, touch: &Touch, place: u32) -> i128
     requires valid { IsValid (program rules.now) }
     requires rows { ArePrepared rules.now }
     requires shape { HasGapShape (program rules.now) (forms_at (program rules.now)) (gap_of g.now) }
     requires inside { touch.now.position < length g.now.set.items }
-    ensures value { result ≡ part_of (forms_at (program rules.now)) (gap_of g.now).set (gap_of g.now).moves
+    ensures value { result ≡ share_of (forms_at (program rules.now)) (gap_of g.now).set (gap_of g.now).moves
         (coefficient_at touch.now.symbol place) touch.now }
     ensures size { unsigned_abs result ≤ value_limit }
 {
     let rule = g.set[touch.position];
     let z = &g.moves[touch.position];
-    match touch.side {
-        Side::Leaves => leaving(rules.program, rule, z, touch.symbol, place),
-        Side::Arrives => -arriving(rules, rule, z, touch.symbol, place),
+    match touch.way {
+        Way::Leaves => leaving(rules.program, rule, z, touch.symbol, place),
+        Way::Arrives => -arriving(rules, rule, z, touch.symbol, place),
     }
 }
 
@@ -60,7 +60,7 @@ fn add_touch(sums: &mut [i128], rules: &Rules, g: &Gap, touch: &Touch)
     ensures { AddsTouch (program rules.now) (gap_of g.now) touch.now sums.old sums.new }
 {
     for place in 0..places_of(rules.program, touch.symbol) + 1 {
-        sums[place as usize] += part_at(rules, g, touch, place);
+        sums[place as usize] += share_at(rules, g, touch, place);
     }
 }
 

@@ -11,9 +11,9 @@ ghost use Rattle.gap_checks.specs.Touches.{AreTouches, AreRules, IsGroup, touche
 use its_model::Program;
 use proof_tree::{source_of, target_of};
 
-/// Whether a rule leaves a symbol or leads to it.
+/// Which way a rule touches a symbol: it leaves it, or leads to it.
 #[derive(Clone, Copy)]
-pub(crate) enum Side {
+pub(crate) enum Way {
     Leaves,
     Arrives,
 }
@@ -23,7 +23,7 @@ pub(crate) enum Side {
 pub(crate) struct Touch {
     pub(crate) symbol: u32,
     pub(crate) position: usize,
-    pub(crate) side: Side,
+    pub(crate) way: Way,
 }
 
 /// The touches of one symbol, among those of a set in order: from a position on up to one.
@@ -39,7 +39,7 @@ pub(crate) fn no_touch() -> Touch {
     Touch {
         symbol: 0,
         position: 0,
-        side: Side::Leaves,
+        way: Way::Leaves,
     }
 }
 
@@ -75,12 +75,12 @@ fn put_touches(touches: &mut [Touch], p: &Program, set: &[u32])
         let leaves = Touch {
             symbol: left_by(p, set[position]),
             position,
-            side: Side::Leaves,
+            way: Way::Leaves,
         };
         let arrives = Touch {
             symbol: reached_by(p, set[position]),
             position,
-            side: Side::Arrives,
+            way: Way::Arrives,
         };
         touches[2 * position] = leaves;
         touches[2 * position + 1] = arrives;

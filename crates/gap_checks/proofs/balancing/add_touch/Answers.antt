@@ -9,7 +9,7 @@ overflow_add-sums c =
     let place = c.loop-place.place in
     let low : place < 33 = omega (arith, c.loop-place-test.true, c.places_of-place-end.ensures.1) in
     let old = ap unsigned_abs (c.loop-place.invariant.others place (omega arith)) in
-    sum-fits (sum_at c.loop-place.sums place) c.part_at.result (omega (arith, old, c.requires.room.size place low, c.part_at.ensures.size))
+    sum-fits (sum_at c.loop-place.sums place) c.share_at.result (omega (arith, old, c.requires.room.size place low, c.share_at.ensures.size))
 
 pub loop-place-preserved : goal.loop-place-preserved
 loop-place-preserved c =
@@ -17,9 +17,9 @@ loop-place-preserved c =
     let low : place < 33 = omega (arith, c.loop-place-test.true, c.places_of-place-end.ensures.1) in
     let old = ap unsigned_abs (c.loop-place.invariant.others place (omega arith)) in
     let within : place < length c.args.sums.now = omega (arith, low, c.requires.room.long) in
-    added-more _ c.args.sums.now place c.loop-place.sums _ c.part_at.result within c.loop-place.invariant
-    (sum-read (sum_at c.loop-place.sums place) c.part_at.result (omega (arith, old, c.requires.room.size place low, c.part_at.ensures.size)))
-    c.part_at.ensures.value c.part_at.ensures.size
+    added-more _ c.args.sums.now place c.loop-place.sums _ c.share_at.result within c.loop-place.invariant
+    (sum-read (sum_at c.loop-place.sums place) c.share_at.result (omega (arith, old, c.requires.room.size place low, c.share_at.ensures.size)))
+    c.share_at.ensures.value c.share_at.ensures.size
 
 pub returns : goal.returns
 returns c =

@@ -2,14 +2,14 @@ use Rattle.std.proofs.Common.{ℕ, sym, subst, arith}
 use Rattle.proof_tree.specs.AnswerViews.{gap_of}
 use Rattle.gap_checks.specs.GapBalances.{program, flags_at}
 use Rattle.gap_checks.specs.GapTests.{AreShutFlags}
-use Rattle.gap_checks.specs.declared.touching.Side.TheVariants.{Leaves}
+use Rattle.gap_checks.specs.declared.touching.Way.TheVariants.{Leaves}
 use Rattle.gap_checks.specs.declared.touching.Touch.{Touch}
-use Rattle.gap_checks.proofs.Touched.{AreDoneBefore, done-all, done-fails}
+use Rattle.gap_checks.proofs.SymbolsInOrder.{AreDoneBefore, done-all, done-fails}
 use Rattle.gap_checks.proofs.balancing.first_of_touches.Goals as goal
 
 -- a touch, where none is meant
 abbrev none : Touch
-none = record { symbol = 0; position = 0; side = Leaves }
+none = record { symbol = 0; position = 0; way = Leaves }
 
 pub first_place-off-requires-clause-flags : goal.first_place-off-requires-clause-flags
 first_place-off-requires-clause-flags c =

@@ -1,7 +1,7 @@
 use Rattle.std.proofs.Common.{◌-◌, length}
 use Rattle.proof_tree.specs.AnswerViews.{gap_of}
 use Rattle.gap_checks.specs.GapBalances.{program}
-use Rattle.gap_checks.proofs.Touched.{AreDoneBefore}
+use Rattle.gap_checks.proofs.SymbolsInOrder.{AreDoneBefore}
 use Rattle.gap_checks.proofs.balancing.first_of_touches.Given as goal
 
 -- the symbols so far

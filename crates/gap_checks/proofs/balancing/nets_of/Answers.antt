@@ -5,7 +5,7 @@ use Rattle.proof_tree.specs.proof_setting.RankedSets.{forms_at}
 use Rattle.proof_tree.specs.AnswerViews.{gap_of}
 use Rattle.gap_checks.specs.GapBalances.{program}
 use Rattle.gap_checks.specs.GapTests.{value_limit}
-use Rattle.gap_checks.specs.declared.touching.Side.TheVariants.{Leaves}
+use Rattle.gap_checks.specs.declared.touching.Way.TheVariants.{Leaves}
 use Rattle.gap_checks.specs.declared.touching.Touch.{Touch}
 use Rattle.gap_checks.proofs.GapFaults.{shape-short}
 use Rattle.gap_checks.proofs.Sums.{sums-weaker, sums-none, sums-more, sums-all}
@@ -14,7 +14,7 @@ use Rattle.gap_checks.proofs.balancing.nets_of.Goals as goal
 
 -- a touch, where none is meant
 abbrev none : Touch
-none = record { symbol = 0; position = 0; side = Leaves }
+none = record { symbol = 0; position = 0; way = Leaves }
 
 pub loop-index-init : goal.loop-index-init
 loop-index-init c =

@@ -10,8 +10,8 @@ use Rattle.gap_checks.specs.GapTests.{IsNear}
 use Rattle.gap_checks.proofs.GapFaults.{in-list, have-small, near-moves}
 use Rattle.gap_checks.proofs.GapPositions.{position-is}
 use Rattle.gap_checks.proofs.Sums.{opposite-read}
-use Rattle.gap_checks.proofs.TouchSums.{part-arrives, part-leaves, point-found}
-use Rattle.gap_checks.proofs.balancing.part_at.Goals as goal
+use Rattle.gap_checks.proofs.TouchSums.{share-arrives, share-leaves, point-found}
+use Rattle.gap_checks.proofs.balancing.share_at.Goals as goal
 
 pub leaving-requires-clause-rule : goal.leaving-requires-clause-rule
 leaving-requires-clause-rule c =
@@ -56,7 +56,7 @@ returns-in-Leaves-clause-value c =
     let few : i < length g.moves.items = omega (arith, c.requires.inside, c.requires.shape.one_move, length-map g.moves.items scaled_of) in
     let t = c.index-rule.ensures ∙ get_or_default g.set.items i c.index-rule.result.now 0 c.requires.inside in
     to_z-of_z w128 c.leaving.result (record { sfits = c.leaving.type_inv })
-    ∙ part-leaves (forms_at (program c.args.rules.now)) g.set.items (gap_of g).moves c.args.touch.now c.args.place
+    ∙ share-leaves (forms_at (program c.args.rules.now)) g.set.items (gap_of g).moves c.args.touch.now c.args.place
     c.index-rule.result.now (scaled_of c.index-z.result.now) _ c.in-Leaves.is t
     (point-found g.moves.items i c.index-z.result.now few c.index-z.ensures) c.leaving.ensures.value
 
@@ -67,6 +67,6 @@ returns-in-Arrives-clause-value c =
     let few : i < length g.moves.items = omega (arith, c.requires.inside, c.requires.shape.one_move, length-map g.moves.items scaled_of) in
     let t = c.index-rule.ensures ∙ get_or_default g.set.items i c.index-rule.result.now 0 c.requires.inside in
     opposite-read c.arriving.result (omega (arith, c.arriving.ensures.size))
-    ∙ part-arrives (forms_at (program c.args.rules.now)) g.set.items (gap_of g).moves c.args.touch.now c.args.place
+    ∙ share-arrives (forms_at (program c.args.rules.now)) g.set.items (gap_of g).moves c.args.touch.now c.args.place
     c.index-rule.result.now (scaled_of c.index-z.result.now) _ c.in-Arrives.is t
     (point-found g.moves.items i c.index-z.result.now few c.index-z.ensures) c.arriving.ensures.value

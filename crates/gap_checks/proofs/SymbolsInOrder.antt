@@ -13,8 +13,8 @@ use Rattle.proof_tree.specs.proof_nodes.GapChecks.{balanced_at}
 use Rattle.proof_tree.specs.proof_nodes.Gaps.{Gap}
 use Rattle.proof_tree.specs.proof_nodes.Graph.{touches}
 use Rattle.gap_checks.specs.declared.touching.Group.{Group}
-use Rattle.gap_checks.specs.declared.touching.Side.{Side}
-use Rattle.gap_checks.specs.declared.touching.Side.TheVariants.{Leaves, Arrives}
+use Rattle.gap_checks.specs.declared.touching.Way.{Way}
+use Rattle.gap_checks.specs.declared.touching.Way.TheVariants.{Leaves, Arrives}
 use Rattle.gap_checks.specs.declared.touching.Touch.{Touch}
 use Rattle.gap_checks.specs.GapBalances.{IsFirstOfSymbol}
 use Rattle.gap_checks.specs.GapTests.{IsBalanced, IsFirstFailing, IsFirstUnbalanced, coefficient_at, places_at}
@@ -24,8 +24,8 @@ use Rattle.gap_checks.proofs.GapFaults.{in-list}
 use Rattle.gap_checks.proofs.TouchLists.{symbol_by, touch-real, is_of, touched-any, any-at, at-any}
 
 -- a rule of a valid program leaves a symbol of it and leads to one
-symbol-known : (p : Program) → IsValid p → (t : ℕ) (is : IsRule p t) (side : Side)
-    → symbol_by side (forms_at p t) < length p.symbols
+symbol-known : (p : Program) → IsValid p → (t : ℕ) (is : IsRule p t) (way : Way)
+    → symbol_by way (forms_at p t) < length p.symbols
 symbol-known p valid t is Leaves =
     subst (λ (o : Option Rule). (forms_in o).source < length p.symbols) (sym is.numbered)
     (rule-valid p t is.rule valid is.numbered).source
@@ -107,7 +107,7 @@ module _ (p : Program) (g : Gap) (ts : List Touch) where
               same,
               real.1,
               symbol-known p valid (rule_in g.set here.position)
-                  (rules (rule_in g.set here.position) (in-list g.set here.position 0 real.0)) here.side,
+                  (rules (rule_in g.set here.position) (in-list g.set here.position 0 real.0)) here.way,
             )
 
         touched : touches p g.set group.symbol ≡ true
