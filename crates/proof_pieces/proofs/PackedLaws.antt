@@ -1,7 +1,6 @@
 -- A piece more among packed pieces, and the one that is taken off them.
-use Rattle.std.proofs.Common.{◌≡◌, ℕ, suc, ◌+◌, Bool, true, false, cond, List, [], ◌∷◌, ◌++◌, length, Option, Some, None}
-use Rattle.std.proofs.Common.{refl, ap, sym, subst, ◌∙◌, arith, length-append}
-use Rattle.std.specs.Prelude.{is_some, option_to_list}
+use Rattle.std.proofs.Common.{◌≡◌, suc, ◌+◌, Bool, true, false, cond, List, [], ◌∷◌, ◌++◌, length}
+use Rattle.std.proofs.Common.{refl, ap, sym, ◌∙◌, arith}
 use Rattle.proof_pieces.specs.declared.inner.Inner.{Inner}
 use Rattle.proof_pieces.specs.declared.marks.Mark.{Mark}
 use Rattle.proof_pieces.specs.declared.marks.Mark.TheVariants as mark
@@ -103,9 +102,3 @@ short_taken ms = let c = shorts_more ms mark.Short in let d = longs_more ms mark
 pub long_taken : (ms : List Mark)
     → (shorts_taken (ms ++ mark.Long ∷ []) ≡ shorts_taken ms) × (longs_taken (ms ++ mark.Long ∷ []) ≡ longs_taken ms + 1)
 long_taken ms = let c = shorts_more ms mark.Long in let d = longs_more ms mark.Long in (omega (arith, c), omega (arith, d))
-
--- one that was put and is taken off again
-pub popped_length : {X : Type 0} (o : Option X) (xs ys : List X) (x : X) → xs ++ x ∷ [] ≡ ys ++ option_to_list o
-    → length ys + length (option_to_list o) ≡ length xs + 1 → is_some o ≡ true → length ys ≡ length xs
-popped_length None xs ys x e l s = cc
-popped_length (Some y) xs ys x e l s = omega (arith, l)

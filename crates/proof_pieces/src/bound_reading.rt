@@ -188,7 +188,8 @@ pub(crate) fn step(
     behind: PackedRest<'_>,
 ) -> Result<Stepped, AllocError>
     requires { IsTrue (is_settled reader.old) }
-    ensures { IfOk result (Steps names (front_of reader.old) (piece_of piece) (pieces_in (inners_in behind.entry)) reader.new) }
+    ensures { IfOk result
+        (Steps names (front_of reader.old) (piece_of piece) (pieces_in (inners_in behind.entry)) reader.new) }
 {
     let told = told_before(reader, names, is_caret_next(behind), piece);
     match reader.step(alloc, piece) {

@@ -40,7 +40,7 @@ pub(crate) struct Short {
     pub kind: ShortKind,
 }
 
-/// Where the piece of a mark is found: it is known by the mark, or it is the next of the short ones or of the long ones.
+/// Where the piece of a mark is found: it is known by the mark, or is the next of the short or of the long ones.
 #[derive(Clone, Copy)]
 pub(crate) enum Source {
     Known(Inner),

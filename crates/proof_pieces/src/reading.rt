@@ -55,7 +55,8 @@ impl Reading {
     ) -> Result<Stepped, AllocError>
         requires settled { IsSettledTree self.old.reader }
         ensures { (f : Front) → Carries f self.old
-            → IfOk result (StepsOn names f (piece_of piece) (pieces_in (inners_in behind.entry)) self.old.reader self.new) }
+            → IfOk result (StepsOn names f (piece_of piece) (pieces_in (inners_in behind.entry)) self.old.reader
+            self.new) }
     {
         if self.follower.take(piece)? {
             match self.reader.take() {

@@ -1,4 +1,4 @@
-use Rattle.std.proofs.Common.{◌≡◌, ℕ, ◌-◌, ◌+◌, ◌||◌, Bool, cond, None, length, ap, subst, ◌∙◌, arith, refl}
+use Rattle.std.proofs.Common.{◌≡◌, ℕ, ◌-◌, ◌+◌, ◌||◌, Bool, cond, None, length, ap, subst, ◌∙◌, arith}
 use Rattle.bound_text.specs.Printing.{piece_of}
 use Rattle.std.specs.Prelude.{IfOk}
 use Rattle.bound_text.specs.Fronts.{Front}

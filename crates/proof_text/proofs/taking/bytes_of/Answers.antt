@@ -1,4 +1,4 @@
-use Rattle.std.proofs.Common.{ap, arith}
+use Rattle.std.proofs.Common.{arith}
 use Rattle.proof_pieces.specs.Packed.{inners_in}
 use Rattle.proof_text.proofs.BoundBytes.{bytes_more, bytes_none}
 use Rattle.proof_text.proofs.taking.bytes_of.Goals as goal
@@ -7,7 +7,7 @@ pub loop-inner-preserved : goal.loop-inner-preserved
 loop-inner-preserved c =
     let i = c.loop-inner.invariant.0 in
     let l = c.loop-inner.invariant.1 in
-    let some = c.if-left-0.false in
+    let some = c.if-left-eq0.false in
     let e = bytes_more c.loop-inner.left (inners_in c.loop-inner.rest) (inners_in c.in-Some.behind) c.in-Some.inner
     c.in-Some.ensures (omega (arith, some)) in
     let s = c.saturating_add-sum.ensures in
