@@ -16,15 +16,15 @@ next_facts-found-requires-clause-ordered c =
 
 pub returns-clause-kept : goal.returns-clause-kept
 returns-clause-kept c =
-    let most = those-most (IsImpliedByAll (program_of c.args.p.now) c.args.pivots c.loop-alloc.kept.items)
-    c.loop-alloc.kept.items c.loop-alloc.found.kept.items c.loop-alloc.invariant.next in
-    ends-here (program_of c.args.p.now) c.args.pivots c.loop-alloc.kept.items c.loop-alloc.found.kept.items
-    c.loop-alloc.invariant.next (omega (arith, most)) c.loop-alloc.invariant.ends
+    let most = those-most (IsImpliedByAll (program_of c.args.p.now) c.args.pivots c.loop-search.kept.items)
+    c.loop-search.kept.items c.loop-search.found.kept.items c.loop-search.invariant.next in
+    ends-here (program_of c.args.p.now) c.args.pivots c.loop-search.kept.items c.loop-search.found.kept.items
+    c.loop-search.invariant.next (omega (arith, most)) c.loop-search.invariant.ends
 
 pub returns-clause-proved : goal.returns-clause-proved
 returns-clause-proved c =
-    let most = those-most (IsImpliedByAll (program_of c.args.p.now) c.args.pivots c.loop-alloc.kept.items)
-    c.loop-alloc.kept.items c.loop-alloc.found.kept.items c.loop-alloc.invariant.next in
-    proved-here (program_of c.args.p.now) c.args.pivots c.loop-alloc.kept.items c.loop-alloc.found.kept.items
-    (proofs_of c.loop-alloc.found) c.loop-alloc.invariant.next (omega (arith, most)) c.loop-alloc.invariant.ordered
-    c.loop-alloc.invariant.proofs
+    let most = those-most (IsImpliedByAll (program_of c.args.p.now) c.args.pivots c.loop-search.kept.items)
+    c.loop-search.kept.items c.loop-search.found.kept.items c.loop-search.invariant.next in
+    proved-here (program_of c.args.p.now) c.args.pivots c.loop-search.kept.items c.loop-search.found.kept.items
+    (proofs_of c.loop-search.found) c.loop-search.invariant.next (omega (arith, most)) c.loop-search.invariant.ordered
+    c.loop-search.invariant.proofs

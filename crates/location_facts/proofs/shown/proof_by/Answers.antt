@@ -9,4 +9,4 @@ pub returns-in_ok-copy-in-None-clause-told : goal.returns-in_ok-copy-in-None-cla
 returns-in_ok-copy-in-None-clause-told c rows again =
     told-none c.args.pivots c.args.asked.prep.now.unknowns rows
     (row_after (map form_of c.args.asked.prep.now.news.items) c.args.earlier.fact) c.args.asked.under.now
-    (slice_get c.args.earlier.proofs.now c.args.k) c.in_ok-copy.copy c.in-None.is (c.in_ok-copy.ensures {u = tt}) again
+    (slice_get c.args.earlier.proofs.now c.args.k) c.in_ok-copy-in-None.copy c.in-None.is (c.in_ok-copy-in-None.ensures {u = tt}) again
