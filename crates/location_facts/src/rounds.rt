@@ -48,8 +48,9 @@ pub fn facts(
         preps,
         pivots,
     };
+    let candidates = all_candidates(alloc, p)?;
     let tried = LocFacts {
-        kept: all_candidates(alloc, p)?,
+        kept: candidates,
         proofs: Vec::new(alloc),
     };
     let all = vec![in alloc; true; p.rules.len()]?;

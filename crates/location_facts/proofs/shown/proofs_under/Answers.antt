@@ -1,6 +1,7 @@
 use Rattle.std.proofs.Common.{◌≡◌, ℕ, ◌+◌, ◌-◌, ap, arith, ◌∙◌, List, [], length, get_or, subst, sym}
 use Rattle.std.specs.Prelude.{slice_get}
 use Rattle.std.proofs.lemmas.List.Elements.{All-cons, All-nil}
+use Rattle.proof_tree.specs.guard_prep.declared.rule_rows.RuleRows.{RuleRows}
 use Rattle.its_model.specs.Views.{program_of}
 use Rattle.location_facts.specs.declared.fact.FactProof.{FactProof}
 use Rattle.location_facts.specs.Elements.{IsMeasured, IsElement}
@@ -36,16 +37,16 @@ bounds-unders-rule c =
 
 pub proof_by-requires-clause-prepared : goal.proof_by-requires-clause-prepared
 proof_by-requires-clause-prepared c =
-    prep-read (program_of c.args.search.program.now) c.args.search.preps.now c.index-rule.result.now c.index-search-rule.result
+    prep-read (program_of c.args.search.program.now) c.args.search.preps.now c.index-rule.result.now (get_or c.args.search.preps.now (c.index-rule.result.now - 1) c.index-search-rule.result)
     c.requires.valid c.requires.rows (into-rule (program_of c.args.search.program.now) c.args.earlier.fact.symbol c.loop-k.k c.index-rule.result.now
-    c.in_ok-into.into.items (c.in_ok-into.ensures {u = tt}) (omega arith) c.index-rule.ensures) c.index-search-rule.is
+    c.in_ok-into.into.items (c.in_ok-into.ensures {u = tt}) (omega arith) c.index-rule.ensures) (ap (λ (x : RuleRows). get_or c.args.search.preps.now (c.index-rule.result.now - 1) x) c.index-search-rule.is)
 
 pub proof_by-requires-clause-rows : goal.proof_by-requires-clause-rows
 proof_by-requires-clause-rows c =
     rows-read (program_of c.args.search.program.now) c.args.search.preps.now c.args.search.pivots (slice_get c.requires.under.due (c.index-rule.result.now - 1)) c.requires.under.kept
-    c.index-rule.result.now c.index-search-rule.result c.index-unders-rule.result c.requires.rows (into-rule (program_of c.args.search.program.now) c.args.earlier.fact.symbol c.loop-k.k c.index-rule.result.now
+    c.index-rule.result.now (get_or c.args.search.preps.now (c.index-rule.result.now - 1) c.index-search-rule.result) c.index-unders-rule.result c.requires.rows (into-rule (program_of c.args.search.program.now) c.args.earlier.fact.symbol c.loop-k.k c.index-rule.result.now
     c.in_ok-into.into.items (c.in_ok-into.ensures {u = tt}) (omega arith) c.index-rule.ensures)
-    c.index-search-rule.is
+    (ap (λ (x : RuleRows). get_or c.args.search.preps.now (c.index-rule.result.now - 1) x) c.index-search-rule.is)
     (under-read (program_of c.args.search.program.now) c.args.search.pivots c.requires.under.due c.requires.under.kept c.args.unders.now c.index-rule.result.now
     c.index-unders-rule.result (into-rule (program_of c.args.search.program.now) c.args.earlier.fact.symbol c.loop-k.k c.index-rule.result.now
     c.in_ok-into.into.items (c.in_ok-into.ensures {u = tt}) (omega arith) c.index-rule.ensures) c.requires.under.are c.index-unders-rule.is)
@@ -59,10 +60,10 @@ returns-in-Against-clause-told c = λ due kept are on stand.
     missed-read (program_of c.args.search.program.now) c.args.search.pivots kept c.args.earlier.fact c.loop-k.k c.index-rule.result.now
     c.in_ok-into.into.items (c.in_ok-into.ensures {u = tt}) (omega arith) c.index-rule.ensures
     (told-answer (program_of c.args.search.program.now) c.args.search.preps.now c.args.search.pivots due kept c.args.earlier.fact
-    c.args.earlier.proofs.now c.in_ok-into.into.items c.loop-k.k c.index-rule.result.now c.index-search-rule.result
+    c.args.earlier.proofs.now c.in_ok-into.into.items c.loop-k.k c.index-rule.result.now (get_or c.args.search.preps.now (c.index-rule.result.now - 1) c.index-search-rule.result)
     c.index-unders-rule.result _ _ c.in-Against.is c.requires.rows (c.in_ok-into.ensures {u = tt})
     (omega arith) c.index-rule.ensures (into-rule (program_of c.args.search.program.now) c.args.earlier.fact.symbol c.loop-k.k c.index-rule.result.now
-    c.in_ok-into.into.items (c.in_ok-into.ensures {u = tt}) (omega arith) c.index-rule.ensures) c.index-search-rule.is
+    c.in_ok-into.into.items (c.in_ok-into.ensures {u = tt}) (omega arith) c.index-rule.ensures) (ap (λ (x : RuleRows). get_or c.args.search.preps.now (c.index-rule.result.now - 1) x) c.index-search-rule.is)
     (under-read (program_of c.args.search.program.now) c.args.search.pivots due kept c.args.unders.now c.index-rule.result.now
     c.index-unders-rule.result (into-rule (program_of c.args.search.program.now) c.args.earlier.fact.symbol c.loop-k.k c.index-rule.result.now
     c.in_ok-into.into.items (c.in_ok-into.ensures {u = tt}) (omega arith) c.index-rule.ensures) are c.index-unders-rule.is) stand
@@ -71,19 +72,19 @@ returns-in-Against-clause-told c = λ due kept are on stand.
 pub returns-in-Against-clause-measured : goal.returns-in-Against-clause-measured
 returns-in-Against-clause-measured c =
     All-cons (IsMeasured (program_of c.args.search.program.now)) _ [] (element-measured (program_of c.args.search.program.now) c.args.search.preps.now c.args.search.pivots
-    c.index-rule.result.now c.index-search-rule.result c.args.earlier.fact c.index-unders-rule.result c.in-Against.at
+    c.index-rule.result.now (get_or c.args.search.preps.now (c.index-rule.result.now - 1) c.index-search-rule.result) c.args.earlier.fact c.index-unders-rule.result c.in-Against.at
     (into-rule (program_of c.args.search.program.now) c.args.earlier.fact.symbol c.loop-k.k c.index-rule.result.now
     c.in_ok-into.into.items (c.in_ok-into.ensures {u = tt}) (omega arith) c.index-rule.ensures)
     (subst (StandsOf _ _ c.index-unders-rule.result) c.in-Against.is c.in_ok-proof.ensures.stands)
-    (prep-read (program_of c.args.search.program.now) c.args.search.preps.now c.index-rule.result.now c.index-search-rule.result
+    (prep-read (program_of c.args.search.program.now) c.args.search.preps.now c.index-rule.result.now (get_or c.args.search.preps.now (c.index-rule.result.now - 1) c.index-search-rule.result)
     c.requires.valid c.requires.rows (into-rule (program_of c.args.search.program.now) c.args.earlier.fact.symbol c.loop-k.k c.index-rule.result.now
-    c.in_ok-into.into.items (c.in_ok-into.ensures {u = tt}) (omega arith) c.index-rule.ensures) c.index-search-rule.is))
+    c.in_ok-into.into.items (c.in_ok-into.ensures {u = tt}) (omega arith) c.index-rule.ensures) (ap (λ (x : RuleRows). get_or c.args.search.preps.now (c.index-rule.result.now - 1) x) c.index-search-rule.is)))
     (All-nil (IsMeasured (program_of c.args.search.program.now)))
 
 pub returns-in-Against-clause-elements : goal.returns-in-Against-clause-elements
 returns-in-Against-clause-elements c = λ due kept are stand.
     All-cons (IsElement (program_of c.args.search.program.now) c.args.search.pivots kept) _ [] (element-found (program_of c.args.search.program.now) c.args.search.preps.now c.args.search.pivots
-    c.index-rule.result.now c.index-search-rule.result c.args.earlier.fact c.index-unders-rule.result c.in-Against.at
+    c.index-rule.result.now (get_or c.args.search.preps.now (c.index-rule.result.now - 1) c.index-search-rule.result) c.args.earlier.fact c.index-unders-rule.result c.in-Against.at
     (into-rule (program_of c.args.search.program.now) c.args.earlier.fact.symbol c.loop-k.k c.index-rule.result.now
     c.in_ok-into.into.items (c.in_ok-into.ensures {u = tt}) (omega arith) c.index-rule.ensures)
     (subst (StandsOf _ _ c.index-unders-rule.result) c.in-Against.is c.in_ok-proof.ensures.stands) (slice_get due (c.index-rule.result.now - 1)) kept
@@ -91,10 +92,10 @@ returns-in-Against-clause-elements c = λ due kept are stand.
     c.index-unders-rule.result (into-rule (program_of c.args.search.program.now) c.args.earlier.fact.symbol c.loop-k.k c.index-rule.result.now
     c.in_ok-into.into.items (c.in_ok-into.ensures {u = tt}) (omega arith) c.index-rule.ensures) are c.index-unders-rule.is)
     (told-answer (program_of c.args.search.program.now) c.args.search.preps.now c.args.search.pivots due kept c.args.earlier.fact
-    c.args.earlier.proofs.now c.in_ok-into.into.items c.loop-k.k c.index-rule.result.now c.index-search-rule.result
+    c.args.earlier.proofs.now c.in_ok-into.into.items c.loop-k.k c.index-rule.result.now (get_or c.args.search.preps.now (c.index-rule.result.now - 1) c.index-search-rule.result)
     c.index-unders-rule.result _ _ c.in-Against.is c.requires.rows (c.in_ok-into.ensures {u = tt})
     (omega arith) c.index-rule.ensures (into-rule (program_of c.args.search.program.now) c.args.earlier.fact.symbol c.loop-k.k c.index-rule.result.now
-    c.in_ok-into.into.items (c.in_ok-into.ensures {u = tt}) (omega arith) c.index-rule.ensures) c.index-search-rule.is
+    c.in_ok-into.into.items (c.in_ok-into.ensures {u = tt}) (omega arith) c.index-rule.ensures) (ap (λ (x : RuleRows). get_or c.args.search.preps.now (c.index-rule.result.now - 1) x) c.index-search-rule.is)
     (under-read (program_of c.args.search.program.now) c.args.search.pivots due kept c.args.unders.now c.index-rule.result.now
     c.index-unders-rule.result (into-rule (program_of c.args.search.program.now) c.args.earlier.fact.symbol c.loop-k.k c.index-rule.result.now
     c.in_ok-into.into.items (c.in_ok-into.ensures {u = tt}) (omega arith) c.index-rule.ensures) are c.index-unders-rule.is) stand
@@ -106,10 +107,10 @@ returns-in-Missed-clause-told c = λ due kept are on stand.
     missed-read (program_of c.args.search.program.now) c.args.search.pivots kept c.args.earlier.fact c.loop-k.k c.index-rule.result.now
     c.in_ok-into.into.items (c.in_ok-into.ensures {u = tt}) (omega arith) c.index-rule.ensures
     (told-answer (program_of c.args.search.program.now) c.args.search.preps.now c.args.search.pivots due kept c.args.earlier.fact
-    c.args.earlier.proofs.now c.in_ok-into.into.items c.loop-k.k c.index-rule.result.now c.index-search-rule.result
+    c.args.earlier.proofs.now c.in_ok-into.into.items c.loop-k.k c.index-rule.result.now (get_or c.args.search.preps.now (c.index-rule.result.now - 1) c.index-search-rule.result)
     c.index-unders-rule.result _ _ c.in-Missed.is c.requires.rows (c.in_ok-into.ensures {u = tt})
     (omega arith) c.index-rule.ensures (into-rule (program_of c.args.search.program.now) c.args.earlier.fact.symbol c.loop-k.k c.index-rule.result.now
-    c.in_ok-into.into.items (c.in_ok-into.ensures {u = tt}) (omega arith) c.index-rule.ensures) c.index-search-rule.is
+    c.in_ok-into.into.items (c.in_ok-into.ensures {u = tt}) (omega arith) c.index-rule.ensures) (ap (λ (x : RuleRows). get_or c.args.search.preps.now (c.index-rule.result.now - 1) x) c.index-search-rule.is)
     (under-read (program_of c.args.search.program.now) c.args.search.pivots due kept c.args.unders.now c.index-rule.result.now
     c.index-unders-rule.result (into-rule (program_of c.args.search.program.now) c.args.earlier.fact.symbol c.loop-k.k c.index-rule.result.now
     c.in_ok-into.into.items (c.in_ok-into.ensures {u = tt}) (omega arith) c.index-rule.ensures) are c.index-unders-rule.is) stand
@@ -126,10 +127,10 @@ loop-k-preserved c = record {
       c.index-rule.result.now c.in-Shown.proof c.in_ok-into.into.items (c.in_ok-into.ensures {u = tt}) (omega arith)
       c.index-rule.ensures (c.loop-k.invariant.implied due kept are stand) c.loop-k.invariant.many
       (told-answer (program_of c.args.search.program.now) c.args.search.preps.now c.args.search.pivots due kept c.args.earlier.fact
-      c.args.earlier.proofs.now c.in_ok-into.into.items c.loop-k.k c.index-rule.result.now c.index-search-rule.result
+      c.args.earlier.proofs.now c.in_ok-into.into.items c.loop-k.k c.index-rule.result.now (get_or c.args.search.preps.now (c.index-rule.result.now - 1) c.index-search-rule.result)
       c.index-unders-rule.result _ _ c.in-Shown.is c.requires.rows (c.in_ok-into.ensures {u = tt})
       (omega arith) c.index-rule.ensures (into-rule (program_of c.args.search.program.now) c.args.earlier.fact.symbol c.loop-k.k c.index-rule.result.now
-      c.in_ok-into.into.items (c.in_ok-into.ensures {u = tt}) (omega arith) c.index-rule.ensures) c.index-search-rule.is
+      c.in_ok-into.into.items (c.in_ok-into.ensures {u = tt}) (omega arith) c.index-rule.ensures) (ap (λ (x : RuleRows). get_or c.args.search.preps.now (c.index-rule.result.now - 1) x) c.index-search-rule.is)
       (under-read (program_of c.args.search.program.now) c.args.search.pivots due kept c.args.unders.now c.index-rule.result.now
       c.index-unders-rule.result (into-rule (program_of c.args.search.program.now) c.args.earlier.fact.symbol c.loop-k.k c.index-rule.result.now
       c.in_ok-into.into.items (c.in_ok-into.ensures {u = tt}) (omega arith) c.index-rule.ensures) are c.index-unders-rule.is) stand
