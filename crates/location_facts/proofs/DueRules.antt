@@ -277,9 +277,11 @@ module _ (p : plain.Program) (pivots : ℕ) (old new : List LocFact) (proofs : L
       subst (λ (o : Option FactProof). TellsEarlier pivots (forms_at p t).unknowns (combined (forms_at p t) new)
       (row_after (forms_at p t).news f) o) (sym there)
       (subst (λ (fs : List Form). TellsGoal pivots (forms_at p t).unknowns fs (row_after (forms_at p t).news f) (Some proof))
-      (same-rows t within not)
-      (implied-at p pivots old f k t low read-t all, limit,
-      has.shown k t proof few (record { rule = at; listed = there })))
+      (same-rows t within not) (
+        implied-at p pivots old f k t low read-t all,
+        limit,
+        has.shown k t proof few (record { rule = at; listed = there }),
+      ))
 
   pub stands-next : AllStand p pivots due new proofs
   stands-next = record {

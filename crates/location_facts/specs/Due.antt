@@ -112,7 +112,7 @@ pub record Stands (p : Program) (pivots : ℕ) (due : List Bool) (kept : List Lo
     : Type 0 where
   pub each : (k t : ℕ) → slice_get (rules_into p f.symbol) k ≡ Some t → slice_get due (t - 1) ≡ Some false
       → TellsEarlier pivots (forms_at p t).unknowns (combined (forms_at p t) kept) (row_after (forms_at p t).news f)
-          (slice_get ps k)
+      (slice_get ps k)
 
 -- the proofs at a position, none where the list is shorter
 abbrev pub listed_in : Option (List FactProof) → List FactProof

@@ -72,13 +72,13 @@ pub(crate) fn proofs_under(
         → AreUnder (program_of search.entry.program.now) search.entry.pivots due kept unders.now
         → AreElements (program_of search.entry.program.now) search.entry.pivots kept elements.now
         → Stands (program_of search.entry.program.now) search.entry.pivots due kept earlier.entry.fact
-            earlier.entry.proofs.now
+        earlier.entry.proofs.now
         → TellsProofs (program_of search.entry.program.now) search.entry.pivots kept earlier.entry.fact (proofs_in t)) }
     ensures measured { IfOk result (λ t. All (IsMeasured (program_of search.entry.program.now)) (elements_in t)) }
     ensures elements { IfOk result (λ t. (due : List Bool) (kept : List Fact)
         → AreUnder (program_of search.entry.program.now) search.entry.pivots due kept unders.now
         → Stands (program_of search.entry.program.now) search.entry.pivots due kept earlier.entry.fact
-            earlier.entry.proofs.now
+        earlier.entry.proofs.now
         → AreElements (program_of search.entry.program.now) search.entry.pivots kept (elements_in t)) }
 {
     if is_refuted(search.program, search.preps, elements, earlier.fact) {
@@ -114,10 +114,10 @@ fn proof_by(
     requires rows { HasRows asked.prep.now.unknowns asked.under.now }
     ensures told { IfOk result (λ a. (rows : List Form)
         → TellsAgain pivots asked.entry.prep.now.unknowns rows
-            (goal_of (map form_of asked.entry.prep.now.news.items) earlier.entry.fact) asked.entry.under.now
-            (slice_get earlier.entry.proofs.now k)
+        (goal_of (map form_of asked.entry.prep.now.news.items) earlier.entry.fact) asked.entry.under.now
+        (slice_get earlier.entry.proofs.now k)
         → TellsGoal pivots asked.entry.prep.now.unknowns rows
-            (goal_of (map form_of asked.entry.prep.now.news.items) earlier.entry.fact) (proof_in a)) }
+        (goal_of (map form_of asked.entry.prep.now.news.items) earlier.entry.fact) (proof_in a)) }
     ensures stands { IfOk result (StandsOf asked.entry.prep.now.unknowns
         (goal_of (map form_of asked.entry.prep.now.news.items) earlier.entry.fact) asked.entry.under.now) }
 {

@@ -1,5 +1,7 @@
-use Rattle.std.proofs.Common.{arith, ◌∙◌, subst}
+use Rattle.std.proofs.Common.{arith, ◌∙◌, subst, sym, List, Bool}
 use Rattle.its_model.specs.Views.{program_of}
+use Rattle.location_facts.specs.declared.fact.LocFact.{LocFact}
+use Rattle.location_facts.specs.Due.{AreDue, AllStand}
 use Rattle.location_facts.specs.Faults.{proofs_of}
 use Rattle.location_facts.specs.Kept.{IsImpliedByAll, EndsWith, GoesOn}
 use Rattle.location_facts.proofs.DueRules.{all-due, stands-next}
@@ -41,9 +43,15 @@ next_facts-requires-in-loop-search-clause-ordered c =
 
 pub next_facts-requires-in-loop-search-clause-stand : goal.next_facts-requires-in-loop-search-clause-stand
 next_facts-requires-in-loop-search-clause-stand c =
-    stands-next (program_of c.args.p.now) c.args.pivots c.loop-search.kept.items c.loop-search.found.kept.items
-    (proofs_of c.loop-search.found) _ c.loop-search.invariant.next c.loop-search.invariant.proofs
-    (c.in_ok-due.ensures {u = tt})
+    let p = program_of c.args.p.now in
+    let from-old = subst (λ (fs : List LocFact). AreDue p fs c.deref-in-loop-search-2.result.now c.in_ok-due.due.items)
+    c.deref-in-loop-search.ensures.value (c.in_ok-due.ensures {u = tt}) in
+    let is = subst (λ (fs : List LocFact). AreDue p c.loop-search.kept.items fs c.in_ok-due.due.items)
+    c.deref-in-loop-search-2.ensures.value from-old in
+    subst (λ (ds : List Bool). AllStand p c.args.pivots ds c.loop-search.found.kept.items (proofs_of c.loop-search.found))
+    (sym c.deref-in-loop-search-3.ensures.value)
+    (stands-next p c.args.pivots c.loop-search.kept.items c.loop-search.found.kept.items (proofs_of c.loop-search.found)
+    c.in_ok-due.due.items c.loop-search.invariant.next c.loop-search.invariant.proofs is)
 
 pub next_facts-requires-in-loop-search-clause-points : goal.next_facts-requires-in-loop-search-clause-points
 next_facts-requires-in-loop-search-clause-points c =
