@@ -1,7 +1,7 @@
 -- Points and rays of the rows of rules: the values of facts there, and which facts they refute.
 use Rattle.std.proofs.Common.{◌≡◌, inl, inr, ℕ, zero, suc, ◌-◌, ◌<◌, ◌≤◌, ap, arith, refl, sym, ◌∙◌, subst, List, map}
 use Rattle.std.proofs.Common.{length, get_or, Option, Some, None}
-use Rattle.std.specs.Prelude.{ℤ, pos, ◌-ℤ◌, ◌+ℤ◌, ◌*ℤ◌, ◌<ℤ◌, nat_abs, unsigned_abs, slice_get}
+use Rattle.std.specs.Prelude.{Bool, ℤ, pos, ◌-ℤ◌, ◌+ℤ◌, ◌*ℤ◌, ◌<ℤ◌, nat_abs, unsigned_abs, slice_get}
 use Rattle.std.specs.List.{All}
 use Rattle.std.proofs.lemmas.Int.{ints}
 use Rattle.std.proofs.lemmas.List.Elements.{All-weaker}
@@ -35,7 +35,7 @@ use Rattle.location_facts.specs.declared.implied.Under.{Under}
 use Rattle.location_facts.specs.Elements.{IsMeasured, IsElement, AreElements}
 use Rattle.location_facts.specs.Implied.{TellsGoal}
 use Rattle.location_facts.specs.Kept.{IsImplied, IsImpliedByAll}
-use Rattle.location_facts.specs.Later.{IsLater, StandsOf}
+use Rattle.location_facts.specs.Due.{IsUnderIfDue, StandsOf}
 use Rattle.location_facts.specs.Rows.{value_after, row_after, combined}
 use Rattle.location_facts.proofs.GoalAnswers.{against-excludes}
 use Rattle.location_facts.proofs.GoalProblems.{rows-fit}
@@ -163,13 +163,13 @@ module _ (p : plain.Program) (preps : List RuleRows) (pivots t : ℕ) (m : RuleR
       }
 
   -- it is an element of the rule, where this one doesn't imply the fact
-  pub element-found : (old kept : List LocFact) → IsLater pivots (forms_at p t) old kept o
+  pub element-found : (due : Option Bool) (kept : List LocFact) → IsUnderIfDue pivots (forms_at p t) due kept o
       → TellsGoal pivots (forms_at p t).unknowns (combined (forms_at p t) kept) (row_after (forms_at p t).news f) None
       → IsElement p pivots kept (record { rule = t; at = z })
-  element-found old kept is not = go o stands is
+  element-found due kept is not = go o stands is
     where
       go : (w : Option Under) → StandsOf m.unknowns (row_after (map form_of m.news.items) f) w (Against z)
-          → IsLater pivots (forms_at p t) old kept w → IsElement p pivots kept (record { rule = t; at = z })
+          → IsUnderIfDue pivots (forms_at p t) due kept w → IsElement p pivots kept (record { rule = t; at = z })
       go None never l = absurd never
       go (Some u) h l = record {
         fit = subst (λ (fs : List Form). All (λ r. length r.coefs ≤ (forms_at p t).unknowns) fs) l.rows

@@ -36,8 +36,8 @@ pub mod UnderRules
 pub mod NextFacts
 pub mod ProofSteps
 pub mod FirstFaults
--- rules under a later list
-pub mod LaterRules
+-- rules that are due
+pub mod DueRules
 -- points and rays that stand against facts, and points that are kept
 pub mod ElementRules
 pub mod PointRules

@@ -25,7 +25,7 @@ use Rattle.location_facts.specs.Pointed.{HasPoint, ArePointed}
 use Rattle.location_facts.specs.Replies.{IsAgainst}
 use Rattle.location_facts.specs.Rows.{row_before, facts_at, combined}
 use Rattle.location_facts.proofs.GoalAnswers.{against-excludes}
-use Rattle.location_facts.proofs.LaterRules.{those-at}
+use Rattle.location_facts.proofs.DueRules.{those-at}
 
 -- -1 is below 0 at a point
 below-there : (d : ℤ) → pos 0 <ℤ d → (pos 0 +ℤ negsuc 0 *ℤ d) <ℤ pos 0

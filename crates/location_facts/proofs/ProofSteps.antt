@@ -22,14 +22,6 @@ use Rattle.location_facts.proofs.RoundSteps.{implied-more, implied-all, missed}
 use Rattle.location_facts.proofs.ShownRules.{read}
 use Rattle.location_facts.proofs.UnderRules.{forms-read}
 
--- the rows of a rule under a list can be written
-pub writable-read : (p : plain.Program) (preps : List RuleRows) (pivots : ℕ) (kept : List LocFact) (t : ℕ) (m : RuleRows)
-    (u : Under) → AreRowsOf preps p → (1 ≤ t) × (t ≤ length p.rules) → m ≡ get_or preps (t - 1) m
-    → IsUnder pivots (forms_at p t) kept u → All (λ r. IsWritable m.unknowns (form_of r)) u.rows.items
-writable-read p preps pivots kept t m u are within at-m is =
-    subst (λ (n : ℕ). All (λ (r : Row). IsWritable n (form_of r)) u.rows.items)
-    (sym (forms-read p preps t m are within at-m).0) is.writable
-
 -- one proof more
 pub proofs-longer : (old new : List FactProof) (proof : FactProof) (n : ℕ) → length old ≡ n → new ≡ old ++ proof ∷ []
     → length new ≡ n + 1

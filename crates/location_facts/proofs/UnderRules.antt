@@ -27,7 +27,7 @@ use Rattle.rule_questions.specs.ProgramQuestions.{forms_in, forms_at}
 use Rattle.location_facts.specs.declared.fact.LocFact.{LocFact}
 use Rattle.location_facts.specs.declared.fact.FactProof.{FactProof}
 use Rattle.location_facts.specs.declared.implied.Under.{Under}
-use Rattle.location_facts.specs.Implied.{TellsEmpty, TellsGoal, IsUnder, AreUnder, AreInOrder}
+use Rattle.location_facts.specs.Implied.{TellsEmpty, IsUnder, AreInOrder}
 use Rattle.location_facts.specs.Rows.{row_before, row_after, facts_at, combined}
 use Rattle.location_facts.proofs.CombinedLists.{prepared-at, prepared-many, is-prepared}
 use Rattle.location_facts.proofs.Counting.{few-from}
@@ -81,52 +81,6 @@ is-under pivots kept m r u same made writable few empty = record {
         made
         ∙ ap (λ (fs : List Form). fs ++ map row_before (facts_at r.source kept)) (ap (λ (q : Prepared). q.rows) same)
 
--- the rules so far, one by one
-abbrev pub EachUnder : plain.Program → ℕ → List LocFact → List Under → Type 0
-EachUnder p pivots kept us =
-    (k : ℕ) (u : Under) (r : plain.Rule) → slice_get us k ≡ Some u → slice_get p.rules k ≡ Some r
-    → IsUnder pivots (forms_in (Some r)) kept u
-
--- one rule more
-pub under-pushed : (p : plain.Program) (pivots : ℕ) (kept : List LocFact) (old new : List Under) (i : ℕ) (u : Under)
-    (r : plain.Rule) → length old ≡ i → EachUnder p pivots kept old → slice_get p.rules i ≡ Some r
-    → IsUnder pivots (forms_in (Some r)) kept u → new ≡ old ++ u ∷ [] → EachUnder p pivots kept new
-under-pushed p pivots kept old new i u r many each there is made k v q e f = go (cases_lt k (length old))
-  where
-    e-there : slice_get (old ++ u ∷ []) k ≡ Some v
-    e-there = subst (λ (us : List Under). slice_get us k ≡ Some v) made e
-
-    within : k < length (old ++ u ∷ [])
-    within = slice_get_within (old ++ u ∷ []) k v e-there
-
-    here : k ≡ length old → IsUnder pivots (forms_in (Some q)) kept v
-    here same =
-        subst (λ (w : Under). IsUnder pivots (forms_in (Some q)) kept w)
-        (some_same u v (sym (slice-last old u) ∙ (ap (slice_get (old ++ u ∷ [])) (sym same) ∙ e-there)))
-        (subst (λ (w : plain.Rule). IsUnder pivots (forms_in (Some w)) kept u)
-        (some_same r q (sym there ∙ (ap (slice_get p.rules) (sym (same ∙ many)) ∙ f))) is)
-
-    go : (k < length old) ⊎ (length old ≤ k) → IsUnder pivots (forms_in (Some q)) kept v
-    go (inl l) = each k v q (sym (slice-before old (u ∷ []) k l) ∙ e-there) f
-    go (inr l) = here (let a = length-append old (u ∷ []) in omega (arith, a, within, l))
-
-pub under-more : (old new : List Under) (i : ℕ) (u : Under) → length old ≡ i → new ≡ old ++ u ∷ [] → length new ≡ i + 1
-under-more old new i u many made =
-    let a = ap (λ (us : List Under). length us) made in let b = length-append old (u ∷ []) in
-    omega (arith, many, a, b)
-
--- a rule that is read is under the list
-pub under-read : (p : plain.Program) (pivots : ℕ) (kept : List LocFact) (us : List Under) (t : ℕ) (u : Under)
-    → (1 ≤ t) × (t ≤ length p.rules) → AreUnder p pivots kept us → u ≡ get_or us (t - 1) u
-    → IsUnder pivots (forms_at p t) kept u
-under-read p pivots kept us zero u (l, h) are e = absurd (omega (arith, l))
-under-read p pivots kept us (suc i) u (l, h) are e =
-    let (r, there) = slice_get-there p.rules i (omega (arith, h)) in
-    let less : suc i - 1 ≡ i = omega arith in
-    let at-u : slice_get us i ≡ Some u =
-    read us i u (let n = are.many in omega (arith, h, n)) (e ∙ ap (λ (k : ℕ). get_or us k u) less) in
-    subst (λ (o : Option plain.Rule). IsUnder pivots (forms_in o) kept u) (sym there) (are.each i u r at-u there)
-
 -- what is prepared of a rule that is read
 module _ (p : plain.Program) (preps : List RuleRows) (t : ℕ) (m : RuleRows) (valid : IsValid p) (are : AreRowsOf preps p)
     (within : (1 ≤ t) × (t ≤ length p.rules)) (at-m : m ≡ get_or preps (t - 1) m) where
@@ -150,22 +104,6 @@ forms-read p preps (suc i) m are (l, h) e =
       ap (λ (q : Prepared). q.unknowns) same ∙ ap (λ (o : Option plain.Rule). (forms_in o).unknowns) (sym there),
       ap (λ (q : Prepared). q.news) same ∙ ap (λ (o : Option plain.Rule). (forms_in o).news) (sym there),
     )
-
--- what is told of a fact over the rows of the code is told of the rule
-pub told-of-rule : (p : plain.Program) (preps : List RuleRows) (pivots : ℕ) (kept : List LocFact) (t : ℕ) (m : RuleRows)
-    (u : Under) (f : LocFact) (o : Option FactProof) → AreRowsOf preps p → (1 ≤ t) × (t ≤ length p.rules)
-    → m ≡ get_or preps (t - 1) m → IsUnder pivots (forms_at p t) kept u
-    → (TellsEmpty pivots m.unknowns (map form_of u.rows.items) u.empty
-    → TellsGoal pivots m.unknowns (map form_of u.rows.items) (row_after (map form_of m.news.items) f) o)
-    → TellsGoal pivots (forms_at p t).unknowns (combined (forms_at p t) kept) (row_after (forms_at p t).news f) o
-told-of-rule p preps pivots kept t m u f o are within at-m is told =
-    let same = forms-read p preps t m are within at-m in
-    subst (λ (n : ℕ). TellsGoal pivots n (combined (forms_at p t) kept) (row_after (forms_at p t).news f) o) same.0
-    (subst (λ (fs : List Form). TellsGoal pivots m.unknowns (combined (forms_at p t) kept) (row_after fs f) o) same.1
-    (subst (λ (fs : List Form). TellsGoal pivots m.unknowns fs (row_after (map form_of m.news.items) f) o) is.rows
-    (told
-    (subst (λ (fs : List Form). TellsEmpty pivots m.unknowns fs u.empty) (sym is.rows)
-    (subst (λ (n : ℕ). TellsEmpty pivots n (combined (forms_at p t) kept) u.empty) (sym same.0) is.empty)))))
 
 -- the rule of the code at a position is the program's
 pub rule-here : (p : Program) (i : ℕ) (r : Rule) → slice_get p.rules.items i ≡ Some r

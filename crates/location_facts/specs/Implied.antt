@@ -63,12 +63,6 @@ pub record IsUnder (pivots : ℕ) (r : RuleForms) (kept : List LocFact) (u : Und
   pub few : length u.rows.items ≤ 371
   pub empty : TellsEmpty pivots r.unknowns (combined r kept) u.empty
 
--- the rules of a program, in order, under a list of facts
-pub record AreUnder (p : Program) (pivots : ℕ) (kept : List LocFact) (us : List Under) : Type 0 where
-  pub many : length us ≡ length p.rules
-  pub each : (i : ℕ) (u : Under) (r : Rule) → slice_get us i ≡ Some u → slice_get p.rules i ≡ Some r
-      → IsUnder pivots (forms_in (Some r)) kept u
-
 -- every rule into its symbol implies a fact under a list, and there is a proof for each that shows it, within the
 -- limit; or one of them doesn't imply it
 abbrev pub TellsProofs : Program → ℕ → List LocFact → LocFact → Option (Vec FactProof Global) → Type 0
@@ -96,11 +90,6 @@ pub record HasProofs (p : Program) (kept : List LocFact) (f : LocFact) (ps : Lis
 pub record AreProofsUnder (p : Program) (kept found : List LocFact) (proofs : List (List FactProof)) : Type 0 where
   pub one_each : length proofs ≡ length found
   pub each : (i : ℕ) (f : LocFact) (ps : List FactProof) → StandsAt found proofs i f ps → HasProofs p kept f ps
-
--- the rules of a program, in order, under some list
-pub record AreUnderSome (p : Program) (pivots : ℕ) (us : List Under) : Type 0 where
-  pub kept : List LocFact
-  pub are : AreUnder p pivots kept us
 
 -- the first n rules into a symbol imply a fact under a list, and proofs show it
 pub record AreImplied (p : Program) (pivots : ℕ) (kept : List LocFact) (f : LocFact) (proofs : List FactProof) (n : ℕ)

@@ -16,5 +16,5 @@ pub mod CombinedRows
 pub mod Replies
 pub mod Implied
 pub mod Elements
-pub mod Later
+pub mod Due
 pub mod Pointed

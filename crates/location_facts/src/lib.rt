@@ -13,10 +13,11 @@ mod elements;
 mod fact;
 mod faults;
 mod implied;
-mod later;
 mod laws;
 mod rounds;
 mod rows;
+mod rules;
+mod shown;
 mod strengthening;
 
 pub use fact::{FactFault, FactProof, LocFact, LocFacts};

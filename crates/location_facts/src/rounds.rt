@@ -1,19 +1,20 @@
 //! The facts that are kept: lists of facts, round by round.
 
-ghost use Rattle.std.specs.Prelude.{List, IfOk};
+ghost use Rattle.std.specs.Prelude.{◌≡◌, ◌++◌, IfOk};
 ghost use Rattle.its_model.specs.Valid.{IsValid};
 ghost use Rattle.its_model.specs.Views.{program_of};
 ghost use Rattle.proof_tree.specs.Composing.{AreRowsOf};
-ghost use Rattle.location_facts.specs.declared.fact.LocFact.{LocFact as Fact};
 ghost use Rattle.location_facts.specs.Faults.{proofs_of, AreProved};
-ghost use Rattle.location_facts.specs.Implied.{AreUnder, AreUnderSome, TellsProofs, AreInOrder, AreProofsUnder, IsPushed};
+ghost use Rattle.location_facts.specs.Due.{AllStand, listed_at, proofs_in, elements_in};
+ghost use Rattle.location_facts.specs.Implied.{AreInOrder, AreProofsUnder, IsPushed};
 ghost use Rattle.location_facts.specs.Kept.{IsNext, AreKept};
+ghost use Rattle.location_facts.specs.Pointed.{ArePointed};
 
 use crate::candidates::all_candidates;
-use crate::checks::rules_into;
+use crate::elements::Element;
 use crate::fact::{FactProof, LocFact, LocFacts};
-use crate::implied::{Answered, Under, answer_under, rule_under};
-use crate::later::later_facts;
+use crate::rules::{Search, due_rules, rules_under};
+use crate::shown::{Earlier, Told, proofs_under};
 use guard_prep::RuleRows;
 use its_model::Program;
 use poly_terms::Memory;
@@ -25,8 +26,8 @@ use std::alloc::Global;
 ///
 /// The first round asks of each rule whether its combined rows have no point, and where they may have one, which facts at
 /// its target follow from them: one linear program each. A later round asks this of the rules at whose source a fact
-/// went, but of no rule whether it has a point where it has shown one, and of no fact against which a point or a ray
-/// stands. On programs with many rules and places these are many linear programs still.
+/// went, but of no rule whether it has a point where it has shown one. Of a fact against which a point or a ray stands
+/// nothing is asked. On programs with many rules and places these are many linear programs still.
 ///
 /// # Errors
 ///
@@ -42,114 +43,101 @@ pub fn facts(
     ensures kept { IfOk result (λ f. AreKept (program_of p.now) pivots f.kept.items) }
     ensures proved { IfOk result (λ f. AreProved (program_of p.now) f.kept.items (proofs_of f)) }
 {
-    let mut kept = all_candidates(alloc, p)?;
-    let mut found = next_facts(alloc, p, preps, pivots, &kept)?;
+    let search = Search {
+        program: p,
+        preps,
+        pivots,
+    };
+    let candidates = all_candidates(alloc, p)?;
+    let tried = LocFacts {
+        kept: candidates,
+        proofs: Vec::new(alloc),
+    };
+    let all = vec![in alloc; true; p.rules.len()]?;
     let mut points = vec![in alloc; false; p.rules.len()]?;
+    let mut found = next_facts(alloc, search, &tried, &all, &mut points)?;
+    let mut kept = tried.kept;
     while found.kept.len() < kept.len() {
-        let next = later_facts(alloc, p, preps, &kept, &found, &mut points, pivots)?;
+        let due = due_rules(alloc, p, &kept, &found.kept)?;
+        let next = next_facts(alloc, search, &found, &due, &mut points)?;
         kept = found.kept;
         found = next;
     }
     Ok(found)
 }
 
-// The facts of a list that every rule into their symbol implies under it, with proofs over the rows under that list.
+// The facts of a list that every rule into their symbol implies under it, with proofs over the rows under that list. The
+// rules that are due are asked, but of no fact against which a point or a ray stands, and those that are marked not
+// whether they have a point, since they have one. One that shows one is marked. What the other rules told before stands.
 fn next_facts(
     alloc: Global,
-    p: &Program,
-    preps: &[RuleRows],
-    pivots: u32,
-    kept: &[LocFact],
+    search: Search,
+    found: &LocFacts,
+    due: &[bool],
+    points: &mut Vec<bool>,
 ) -> Result<LocFacts, Memory>
-    requires valid { IsValid (program_of p.now) }
-    requires rows { AreRowsOf preps.now (program_of p.now) }
-    requires ordered { AreInOrder (program_of p.now) kept.now }
-    ensures next { IfOk result (λ f. IsNext (program_of p.now) pivots kept.now f.kept.items) }
-    ensures proofs { IfOk result (λ f. AreProofsUnder (program_of p.now) kept.now f.kept.items (proofs_of f)) }
+    requires valid { IsValid (program_of search.program.now) }
+    requires rows { AreRowsOf search.preps.now (program_of search.program.now) }
+    requires ordered { AreInOrder (program_of search.program.now) found.now.kept.items }
+    requires stand { AllStand (program_of search.program.now) search.pivots due.now found.now.kept.items
+        (proofs_of found.now) }
+    requires points { ArePointed (program_of search.program.now) found.now.kept.items points.old.items }
+    ensures next { IfOk result (λ f.
+        IsNext (program_of search.entry.program.now) search.entry.pivots found.now.kept.items f.kept.items) }
+    ensures proofs { IfOk result (λ f.
+        AreProofsUnder (program_of search.entry.program.now) found.now.kept.items f.kept.items (proofs_of f)) }
+    ensures points { IfOk result (λ _.
+        ArePointed (program_of search.entry.program.now) found.now.kept.items points.new.items) }
 {
-    let rules = rules_under(alloc, p, preps, kept, pivots)?;
-    let mut found = Vec::new(alloc);
+    let unders = rules_under(alloc, search, &found.kept, due, points)?;
+    let mut kept = Vec::new(alloc);
     let mut proofs = Vec::new(alloc);
-    for fact in kept {
-        let shown = proofs_under(alloc, p, preps, &rules, *fact, pivots)?;
-        push_shown(&mut found, &mut proofs, *fact, shown)?;
+    let mut elements = Vec::new(alloc);
+    for i in 0..found.kept.len() {
+        let fact = found.kept[i];
+        let before = proofs_at(found, i);
+        let earlier = Earlier {
+            fact,
+            proofs: before,
+        };
+        let told = proofs_under(alloc, search, &unders, &elements, earlier)?;
+        push_told(&mut kept, &mut proofs, &mut elements, fact, told)?;
     }
-    Ok(LocFacts {
-        kept: found,
-        proofs,
-    })
+    Ok(LocFacts { kept, proofs })
 }
 
-/// Appends a fact with its proofs, where it has them.
-pub(crate) fn push_shown(
-    found: &mut Vec<LocFact>,
-    proofs: &mut Vec<Vec<FactProof>>,
-    fact: LocFact,
-    shown: Option<Vec<FactProof>>,
-) -> Result<(), Memory>
-    ensures { IfOk result (λ _. IsPushed fact shown found.old.items found.new.items proofs.old.items proofs.new.items) }
+// The proofs of the fact at a position, none where there are none of it.
+fn proofs_at(found: &LocFacts, i: usize) -> &[FactProof]
+    ensures { result.now ≡ listed_at (proofs_of found.now) i }
 {
-    match shown {
-        Some(list) => {
-            found.push(fact)?;
+    match found.proofs.get(i) {
+        Some(proofs) => proofs,
+        None => &[],
+    }
+}
+
+// Appends a fact with its proofs, where it has them, and else the element that stands against it, where there is one.
+fn push_told(
+    kept: &mut Vec<LocFact>,
+    proofs: &mut Vec<Vec<FactProof>>,
+    elements: &mut Vec<Element>,
+    fact: LocFact,
+    told: Told,
+) -> Result<(), Memory>
+    ensures facts { IfOk result (λ _.
+        IsPushed fact (proofs_in told) kept.old.items kept.new.items proofs.old.items proofs.new.items) }
+    ensures elements { IfOk result (λ _. elements.new.items ≡ elements.old.items ++ elements_in told) }
+{
+    match told {
+        Told::Shown(list) => {
+            kept.push(fact)?;
             proofs.push(list)?;
             Ok(())
         }
-        None => Ok(()),
-    }
-}
-
-// The rules of a program under a list of facts.
-fn rules_under(
-    alloc: Global,
-    p: &Program,
-    preps: &[RuleRows],
-    kept: &[LocFact],
-    pivots: u32,
-) -> Result<Vec<Under>, Memory>
-    requires valid { IsValid (program_of p.now) }
-    requires rows { AreRowsOf preps.now (program_of p.now) }
-    requires ordered { AreInOrder (program_of p.now) kept.now }
-    ensures { IfOk result (λ us. AreUnder (program_of p.now) pivots kept.now us.items) }
-{
-    let mut rules = Vec::new(alloc);
-    for i in 0..p.rules.len() {
-        let prep = &preps[i];
-        let rule = &p.rules[i];
-        let under = rule_under(alloc, prep, rule.source, kept, pivots)?;
-        rules.push(under)?;
-    }
-    Ok(rules)
-}
-
-// For each rule into its symbol a proof that the rule implies a fact, where all of them do.
-fn proofs_under(
-    alloc: Global,
-    p: &Program,
-    preps: &[RuleRows],
-    rules: &[Under],
-    fact: LocFact,
-    pivots: u32,
-) -> Result<Option<Vec<FactProof>>, Memory>
-    requires valid { IsValid (program_of p.now) }
-    requires rows { AreRowsOf preps.now (program_of p.now) }
-    requires under { AreUnderSome (program_of p.now) pivots rules.now }
-    ensures { IfOk result (λ proofs. (kept : List Fact) → AreUnder (program_of p.now) pivots kept rules.now
-        → TellsProofs (program_of p.now) pivots kept fact proofs) }
-{
-    let into = rules_into(alloc, p, fact.symbol)?;
-    let mut proofs = Vec::new(alloc);
-    for k in 0..into.len() {
-        let rule = into[k];
-        let prep = &preps[rule as usize - 1];
-        let under = &rules[rule as usize - 1];
-        match answer_under(alloc, prep, under, fact, pivots)? {
-            Answered::Shown(proof) => {
-                proofs.push(proof)?;
-            }
-            Answered::Against(_) => return Ok(None),
-            Answered::Missed => return Ok(None),
+        Told::Against(element) => {
+            elements.push(element)?;
+            Ok(())
         }
+        Told::Missed => Ok(()),
     }
-    Ok(Some(proofs))
 }

@@ -9,8 +9,8 @@ use Rattle.location_facts.proofs.rounds.facts.Given as goal
 
 -- the list is in order, and the end of the sequence that goes on from it is what is kept; the next list behind it is
 -- found, and rules with a mark have a point
-abbrev pub invariant-loop-alloc : goal.invariant-loop-alloc
-invariant-loop-alloc l = record {
+abbrev pub invariant-loop-search : goal.invariant-loop-search
+invariant-loop-search l = record {
   ordered : AreInOrder (program_of l.p) l.kept.items;
   ends : (end : List LocFact) → EndsWith (program_of l.p) l.pivots end l.kept.items
       → AreKept (program_of l.p) l.pivots end;
@@ -19,5 +19,5 @@ invariant-loop-alloc l = record {
   points : ArePointed (program_of l.p) l.kept.items l.points.items;
 }
 
-abbrev pub decreases-loop-alloc : goal.decreases-loop-alloc
-decreases-loop-alloc l = length l.kept.items
+abbrev pub decreases-loop-search : goal.decreases-loop-search
+decreases-loop-search l = length l.kept.items

@@ -1,0 +1,11 @@
+use Rattle.std.proofs.Common.{◌≡◌, length}
+use Rattle.its_model.specs.Views.{program_of}
+use Rattle.location_facts.specs.Due.{AreDue}
+use Rattle.location_facts.proofs.rules.due_rules.Given as goal
+
+-- the rules passed
+abbrev pub invariant-loop-i : goal.invariant-loop-i
+invariant-loop-i l = record {
+  many : length l.due.items ≡ l.i;
+  are : AreDue (program_of l.p) l.old l.new l.due.items;
+}

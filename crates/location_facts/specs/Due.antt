@@ -1,0 +1,151 @@
+-- Rules that are due under a list of facts, and of the others what was told before and stands.
+use Rattle.std.specs.Prelude.{◌≡◌, ⊤, ℕ, ◌-◌, ◌≤◌, List, length, map, Vec, Option, Some, None, slice_get, [], ◌∷◌}
+use Rattle.std.specs.Prelude.{Bool, true, false}
+use Rattle.std.specs.declared.alloc.Global.{Global}
+use Rattle.std.specs.List.{All}
+use Rattle.poly_terms.specs.linear_forms.Forms.{Form}
+use Rattle.poly_terms.specs.linear_forms.RuleQuestions.{RuleForms}
+use Rattle.poly_terms.specs.model.Programs.{Program, Rule}
+use Rattle.poly_terms.specs.Views.{form_of}
+use Rattle.lp_builder.specs.Descriptions.{IsWritable}
+use Rattle.rule_questions.specs.ProgramQuestions.{forms_in, forms_at}
+use Rattle.location_facts.specs.declared.fact.LocFact.{LocFact}
+use Rattle.location_facts.specs.declared.fact.FactProof.{FactProof}
+use Rattle.location_facts.specs.declared.fact.FactProof.TheVariants.{Empty, Implied}
+use Rattle.location_facts.specs.declared.elements.Element.{Element}
+use Rattle.location_facts.specs.declared.implied.Answered.{Answered}
+use Rattle.location_facts.specs.declared.implied.Answered.TheVariants as answers
+use Rattle.location_facts.specs.declared.implied.Under.{Under}
+use Rattle.location_facts.specs.declared.rules.Wanted.{Wanted}
+use Rattle.location_facts.specs.declared.rules.Wanted.TheVariants.{Nothing, Facts, Everything}
+use Rattle.location_facts.specs.declared.shown.Told.{Told}
+use Rattle.location_facts.specs.declared.shown.Told.TheVariants.{Shown, Against, Missed}
+use Rattle.location_facts.specs.Faults.{rules_into}
+use Rattle.location_facts.specs.Implied.{TellsEmpty, TellsGoal, IsUnder, StandsIn}
+use Rattle.location_facts.specs.Pointed.{HasPoint}
+use Rattle.location_facts.specs.Rows.{row_after, facts_at, combined}
+
+-- a proof has the numbers of another one
+abbrev pub IsSameProof : FactProof → FactProof → Type 0
+IsSameProof (Empty a) (Empty b) = b.items ≡ a.items
+IsSameProof (Empty a) (Implied b e) = ⊥
+IsSameProof (Implied a d) (Empty b) = ⊥
+IsSameProof (Implied a d) (Implied b e) = (b.items ≡ a.items) × (e ≡ d)
+
+-- an answer is a copy of the proof that is there; where there is none, it tells of none
+abbrev pub IsCopyOf : Option FactProof → Answered → Type 0
+IsCopyOf None (answers.Shown copy) = ⊥
+IsCopyOf None (answers.Against z) = ⊥
+IsCopyOf None answers.Missed = ⊤
+IsCopyOf (Some proof) (answers.Shown copy) = IsSameProof proof copy
+IsCopyOf (Some proof) (answers.Against z) = ⊥
+IsCopyOf (Some proof) answers.Missed = ⊥
+
+-- where a second list of facts follows a first one, no fact went at the source of a rule that isn't due
+pub record AreDue (p : Program) (old new : List LocFact) (due : List Bool) : Type 0 where
+  pub each : (i : ℕ) (r : Rule) → slice_get due i ≡ Some false → slice_get p.rules i ≡ Some r
+      → length (facts_at r.source old) ≡ length (facts_at r.source new)
+
+-- what may be asked of the rule at a position: nothing where it isn't due, facts alone where it has a mark
+abbrev pub IsWanted : List Bool → List Bool → ℕ → Wanted → Type 0
+IsWanted due points i Nothing = slice_get due i ≡ Some false
+IsWanted due points i Facts = slice_get points i ≡ Some true
+IsWanted due points i Everything = ⊤
+
+-- where facts alone are asked the rows have a point
+abbrev pub HasKnownPoint : Wanted → List Form → Type 0
+HasKnownPoint Nothing rows = ⊤
+HasKnownPoint Facts rows = HasPoint rows
+HasKnownPoint Everything rows = ⊤
+
+-- nothing is asked
+abbrev pub IsNothing : Wanted → Type 0
+IsNothing Nothing = ⊤
+IsNothing Facts = ⊥
+IsNothing Everything = ⊥
+
+-- what is told of a rule with these combined rows: nothing, where nothing is asked; or it is under the list, and whether
+-- it has a point was asked or is known
+abbrev pub TellsRule : ℕ → ℕ → List Form → Wanted → Option Under → Type 0
+TellsRule pivots unknowns rows asked None = IsNothing asked
+TellsRule pivots unknowns rows asked (Some u) =
+    (map form_of u.rows.items ≡ rows) × All (λ w. IsWritable unknowns (form_of w)) u.rows.items
+    × TellsEmpty pivots unknowns (map form_of u.rows.items) u.empty
+
+-- a rule is under a list, or it isn't due
+abbrev pub IsUnderIfDue : ℕ → RuleForms → Option Bool → List LocFact → Option Under → Type 0
+IsUnderIfDue pivots r due kept None = due ≡ Some false
+IsUnderIfDue pivots r due kept (Some u) = IsUnder pivots r kept u
+
+-- so it is with the rules of a program, in order
+pub record AreUnder (p : Program) (pivots : ℕ) (due : List Bool) (kept : List LocFact) (us : List (Option Under))
+    : Type 0 where
+  pub many : length us ≡ length p.rules
+  pub each : (i : ℕ) (o : Option Under) (r : Rule) → slice_get us i ≡ Some o → slice_get p.rules i ≡ Some r
+      → IsUnderIfDue pivots (forms_in (Some r)) (slice_get due i) kept o
+
+-- and with some list
+pub record AnyUnder (p : Program) (pivots : ℕ) (us : List (Option Under)) : Type 0 where
+  pub due : List Bool
+  pub kept : List LocFact
+  pub are : AreUnder p pivots due kept us
+
+-- the rows of a rule that is under a list are few and can be written
+abbrev pub HasRows : ℕ → Option Under → Type 0
+HasRows unknowns None = ⊤
+HasRows unknowns (Some u) = (length u.rows.items ≤ 371) × All (λ w. IsWritable unknowns (form_of w)) u.rows.items
+
+-- there is an earlier proof, and it shows the goal, which is implied
+abbrev pub TellsEarlier : ℕ → ℕ → List Form → Form → Option FactProof → Type 0
+TellsEarlier pivots unknowns rows goal None = ⊥
+TellsEarlier pivots unknowns rows goal (Some earlier) = TellsGoal pivots unknowns rows goal (Some earlier)
+
+-- what is told of a goal over rows by a rule: that they are those of the list under which it is, or that an earlier
+-- proof shows it
+abbrev pub TellsAgain : ℕ → ℕ → List Form → Form → Option Under → Option FactProof → Type 0
+TellsAgain pivots unknowns rows goal None earlier = TellsEarlier pivots unknowns rows goal earlier
+TellsAgain pivots unknowns rows goal (Some u) earlier =
+    (map form_of u.rows.items ≡ rows) × TellsEmpty pivots unknowns (map form_of u.rows.items) u.empty
+
+-- each rule into a fact's symbol that isn't due implies the fact under a list, as an earlier proof shows
+pub record Stands (p : Program) (pivots : ℕ) (due : List Bool) (kept : List LocFact) (f : LocFact) (ps : List FactProof)
+    : Type 0 where
+  pub each : (k t : ℕ) → slice_get (rules_into p f.symbol) k ≡ Some t → slice_get due (t - 1) ≡ Some false
+      → TellsEarlier pivots (forms_at p t).unknowns (combined (forms_at p t) kept) (row_after (forms_at p t).news f)
+      (slice_get ps k)
+
+-- the proofs at a position, none where the list is shorter
+abbrev pub listed_in : Option (List FactProof) → List FactProof
+listed_in None = []
+listed_in (Some ps) = ps
+
+abbrev pub listed_at : List (List FactProof) → ℕ → List FactProof
+listed_at proofs i = listed_in (slice_get proofs i)
+
+-- so it is with each fact of a list and the proofs at its position
+pub record AllStand (p : Program) (pivots : ℕ) (due : List Bool) (kept : List LocFact) (proofs : List (List FactProof))
+    : Type 0 where
+  pub each : (i : ℕ) (f : LocFact) → slice_get kept i ≡ Some f → Stands p pivots due kept f (listed_at proofs i)
+
+-- an answer has no element
+abbrev pub HasNoElement : Answered → Type 0
+HasNoElement (answers.Shown proof) = ⊤
+HasNoElement (answers.Against z) = ⊥
+HasNoElement answers.Missed = ⊤
+
+-- the element of an answer, where it has one, stands against the goal over the rows of the rule, which was asked
+abbrev pub StandsOf : ℕ → Form → Option Under → Answered → Type 0
+StandsOf unknowns goal None a = HasNoElement a
+StandsOf unknowns goal (Some u) a = StandsIn unknowns (map form_of u.rows.items) goal a
+
+-- the proofs that are told, where there are some
+abbrev pub proofs_in : Told → Option (Vec FactProof Global)
+proofs_in (Shown proofs) = Some proofs
+proofs_in (Against e) = None
+proofs_in Missed = None
+
+-- the element that is told, where there is one
+abbrev pub elements_in : Told → List Element
+elements_in (Shown proofs) = []
+elements_in (Against e) = e ∷ []
+elements_in Missed = []

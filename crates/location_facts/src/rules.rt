@@ -1,0 +1,188 @@
+//! The rules of a program under a list of facts: what is asked of each before the facts at its target.
+
+ghost use Rattle.std.specs.Prelude.{◌≡◌, ◌⊎◌, ◌++◌, ◌≤◌, ℕ, List, length, map, true, false, Some, slice_get, IfOk};
+ghost use Rattle.std.specs.List.{All};
+ghost use Rattle.lp_builder.specs.Descriptions.{IsWritable};
+ghost use Rattle.poly_terms.specs.linear_forms.Forms.{Form};
+ghost use Rattle.poly_terms.specs.Views.{form_of};
+ghost use Rattle.its_model.specs.Valid.{IsValid};
+ghost use Rattle.its_model.specs.Views.{program_of};
+ghost use Rattle.proof_tree.specs.Composing.{AreRowsOf};
+ghost use Rattle.rule_questions.specs.EmptyAnswers.{IsPrepared};
+ghost use Rattle.location_facts.specs.Due.{AreDue, AreUnder, IsWanted, HasKnownPoint, TellsRule};
+ghost use Rattle.location_facts.specs.Implied.{AreInOrder};
+ghost use Rattle.location_facts.specs.Pointed.{HasPoint, TellsPoint, ArePointed};
+ghost use Rattle.location_facts.specs.Rows.{row_before as row_of, facts_at as facts_of_symbol};
+
+use crate::fact::LocFact;
+use crate::implied::{Under, pointed_under, rule_under};
+use guard_prep::RuleRows;
+use its_model::Program;
+use poly_terms::Memory;
+use std::alloc::Global;
+
+/// What facts are asked of: a program, what is prepared of its rules, and how many pivots a linear program may take.
+#[derive(Clone, Copy)]
+pub(crate) struct Search<'a> {
+    pub program: &'a Program,
+    pub preps: &'a [RuleRows],
+    pub pivots: u32,
+}
+
+/// A rule: what is prepared of it, and its source.
+#[derive(Clone, Copy)]
+pub(crate) struct Leaving<'a> {
+    pub prep: &'a RuleRows,
+    pub source: u32,
+}
+
+/// What is asked of a rule under a list of facts.
+#[derive(Clone, Copy, Debug)]
+pub(crate) enum Wanted {
+    /// Nothing: what was told of it before stands.
+    Nothing,
+    /// Which facts it implies: its combined rows have a point.
+    Facts,
+    /// Whether its combined rows have a point, and which facts it implies.
+    Everything,
+}
+
+/// Which rules are due where the second list follows the first: those at whose source a fact went.
+///
+/// # Errors
+///
+/// `Memory` where an allocation fails.
+pub(crate) fn due_rules(
+    alloc: Global,
+    p: &Program,
+    old: &[LocFact],
+    new: &[LocFact],
+) -> Result<Vec<bool>, Memory>
+    ensures { IfOk result (λ due. AreDue (program_of p.now) old.now new.now due.items) }
+{
+    let mut due = Vec::new(alloc);
+    for i in 0..p.rules.len() {
+        let source = p.rules[i].source;
+        let is_due = differ(old, new, source);
+        due.push(is_due)?;
+    }
+    Ok(due)
+}
+
+// Whether one of two lists has more facts of a symbol.
+fn differ(old: &[LocFact], new: &[LocFact], symbol: u32) -> bool
+    ensures { result ≡ false → length (facts_of_symbol symbol old.now) ≡ length (facts_of_symbol symbol new.now) }
+{
+    count_at(old, symbol) != count_at(new, symbol)
+}
+
+// How many facts of a symbol there are.
+fn count_at(facts: &[LocFact], symbol: u32) -> usize
+    ensures { result ≡ length (facts_of_symbol symbol facts.now) }
+{
+    facts.iter().filter(|fact| fact.symbol == symbol).count()
+}
+
+/// The rules of a program, each under a list where it is due. Those that are marked have a point under the list, and
+/// those that show one are marked.
+///
+/// # Errors
+///
+/// `Memory` where an allocation fails.
+pub(crate) fn rules_under(
+    alloc: Global,
+    search: Search,
+    kept: &[LocFact],
+    due: &[bool],
+    points: &mut Vec<bool>,
+) -> Result<Vec<Option<Under>>, Memory>
+    requires valid { IsValid (program_of search.program.now) }
+    requires rows { AreRowsOf search.preps.now (program_of search.program.now) }
+    requires ordered { AreInOrder (program_of search.program.now) kept.now }
+    requires points { ArePointed (program_of search.program.now) kept.now points.old.items }
+    ensures rules { IfOk result (λ us.
+        AreUnder (program_of search.entry.program.now) search.entry.pivots due.now kept.now us.items) }
+    ensures points { IfOk result (λ _. ArePointed (program_of search.entry.program.now) kept.now points.new.items) }
+{
+    let mut unders = Vec::new(alloc);
+    for i in 0..search.program.rules.len() {
+        let prep = &search.preps[i];
+        let rule = &search.program.rules[i];
+        let leaving = Leaving {
+            prep,
+            source: rule.source,
+        };
+        let asked = asked_of(due, points, i);
+        let under = rule_if_due(alloc, leaving, kept, asked, search.pivots)?;
+        let has_point = has_point(&under);
+        mark(points, i, has_point);
+        unders.push(under)?;
+    }
+    Ok(unders)
+}
+
+// What is asked of a rule, by whether it is due and whether it is marked.
+fn asked_of(due: &[bool], points: &[bool], i: usize) -> Wanted
+    ensures { IsWanted due.now points.now i result }
+{
+    if i < due.len() && !due[i] {
+        return Wanted::Nothing;
+    }
+    if i < points.len() && points[i] {
+        return Wanted::Facts;
+    }
+    Wanted::Everything
+}
+
+// Marks a rule, if it has a point.
+fn mark(points: &mut Vec<bool>, i: usize, has_point: bool)
+    ensures { (j : ℕ) → slice_get points.new.items j ≡ Some true
+        → (slice_get points.old.items j ≡ Some true) ⊎ ((j ≡ i) × (has_point ≡ true)) }
+{
+    if has_point && i < points.len() {
+        points[i] = true;
+    }
+}
+
+// Whether a rule that is under a list says that it has a point.
+fn has_point(under: &Option<Under>) -> bool
+    ensures { result ≡ true → (rows : List Form) → TellsPoint rows under.now → HasPoint rows }
+{
+    match under {
+        Some(asked) => asked.has_point,
+        None => false,
+    }
+}
+
+// A rule under a list, where anything is asked of it.
+fn rule_if_due(
+    alloc: Global,
+    rule: Leaving,
+    kept: &[LocFact],
+    asked: Wanted,
+    pivots: u32,
+) -> Result<Option<Under>, Memory>
+    requires prepared { IsPrepared rule.prep.now }
+    requires few { length (map form_of rule.prep.now.rows.items ++ map row_of (facts_of_symbol rule.source kept.now))
+        ≤ 371 }
+    requires writable { All (IsWritable rule.prep.now.unknowns)
+        (map form_of rule.prep.now.rows.items ++ map row_of (facts_of_symbol rule.source kept.now)) }
+    requires point { HasKnownPoint asked
+        (map form_of rule.prep.now.rows.items ++ map row_of (facts_of_symbol rule.source kept.now)) }
+    ensures told { IfOk result (TellsRule pivots rule.entry.prep.now.unknowns
+        (map form_of rule.entry.prep.now.rows.items ++ map row_of (facts_of_symbol rule.entry.source kept.now)) asked) }
+    ensures point { IfOk result (TellsPoint
+        (map form_of rule.entry.prep.now.rows.items ++ map row_of (facts_of_symbol rule.entry.source kept.now))) }
+{
+    match asked {
+        Wanted::Nothing => Ok(None),
+        Wanted::Facts => {
+            let under = pointed_under(alloc, rule.prep, rule.source, kept)?;
+            Ok(Some(under))
+        }
+        Wanted::Everything => {
+            let under = rule_under(alloc, rule.prep, rule.source, kept, pivots)?;
+            Ok(Some(under))
+        }
+    }
+}
