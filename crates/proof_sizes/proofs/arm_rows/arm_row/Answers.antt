@@ -10,18 +10,16 @@ use Rattle.proof_sizes.specs.Arms.{form_in, side_of}
 use Rattle.proof_sizes.proofs.ArmGoals.{arm-row}
 use Rattle.proof_sizes.proofs.arm_rows.arm_row.Goals as goal
 
--- the constant is as it was read
-constant : (c : goal.After-goal_coefs) → to_z w64 (of_z w64 c.args.arm.now.constant) ≡ c.args.arm.now.constant
-constant c =
-    to_z-of_z w64 c.args.arm.now.constant
-    (fits_signed_from_abs w64 c.args.arm.now.constant (omega (arith, ints, c.requires.own_small.constant)))
+-- a constant in the limit is as it was read
+constant-read : (k : ℤ) → IsInLimit (nat_abs k) → to_z w64 (of_z w64 k) ≡ k
+constant-read k l = to_z-of_z w64 k (fits_signed_from_abs w64 k (omega (arith, ints, l)))
 
 pub goal_coefs-requires-clause-coefs_small : goal.goal_coefs-requires-clause-coefs_small
 goal_coefs-requires-clause-coefs_small c = c.requires.own_small.coefs
 
 pub goal_constant-last-requires-clause-constant_small : goal.goal_constant-last-requires-clause-constant_small
 goal_constant-last-requires-clause-constant_small c =
-    subst (λ (k : ℤ). IsInLimit (nat_abs k)) (sym (constant c)) c.requires.own_small.constant
+    subst (λ (k : ℤ). IsInLimit (nat_abs k)) (sym (constant-read c.args.arm.now.constant c.requires.own_small.constant)) c.requires.own_small.constant
 
 pub returns : goal.returns
 returns c =
@@ -33,4 +31,4 @@ returns c =
     (subst (λ (k : ℤ). HasColumns (λ u. at arm.coefs.now u +ℤ (at v.coefs u *ℤ k)) c.args.width c.in_ok-goal.goal.items)
     times c.in_ok-goal.ensures)
     (to_z-of_z w128 c.goal_constant-last.result (record { sfits = c.goal_constant-last.type_inv })
-    ∙ (c.goal_constant-last.ensures ∙ (λ i. constant c i +ℤ (v.constant *ℤ times i))))
+    ∙ (c.goal_constant-last.ensures ∙ (λ i. constant-read arm.constant c.requires.own_small.constant i +ℤ (v.constant *ℤ times i))))
