@@ -3,7 +3,8 @@
 //! `start`, `cite:LEMMA`, `empty:RULE:MULTIPLIERS`, `unreached:RULE:USES`, `never`, `weaken:BOUND`,
 //! `rank:RULE:SET:DEN:FORMS:MOVES:FLOOR:USES`, `spread:RULE:PLACE:UP:LOW:USES`, `cycle:MEMBERS:USES`,
 //! `cost:RULE:BY:USES`, where USES says how many of the nodes before are its uses. A bound is a term, or several that `+`
-//! divides: a number, `v` with the number of an input from 0, or `b` with a base, which is raised to 1.
+//! divides: a number, `v` with the number of an input from 0, or `b` with a base, which is raised to 1; a number and `x`
+//! before a term tell how often it stands there.
 
 use crate::nodes::{cost_node, cycle_node, empty_node, rank_node, spread_node};
 use crate::words::{number, part, parts_of, wide};
@@ -101,12 +102,21 @@ fn last(alloc: Global, stack: &mut Vec<Proof>, count: u32) -> Result<Vec<Proof>,
 fn bound(alloc: Global, text: &str) -> Result<Bound, Memory> {
     let mut terms = Vec::new(alloc);
     for word in text.split('+') {
-        terms.push(term(alloc, word)?)?;
+        push_terms(alloc, &mut terms, word)?;
     }
     if terms.len() > 1 {
         return Ok(Bound::Sum(terms));
     }
     Ok(terms.pop().unwrap_or(Bound::Const(0)))
+}
+
+// Appends a term of a bound, as often as its word tells.
+fn push_terms(alloc: Global, terms: &mut Vec<Bound>, word: &str) -> Result<(), Memory> {
+    let (count, one) = word.split_once('x').unwrap_or(("1", word));
+    for _ in 0..number(count) {
+        terms.push(term(alloc, one)?)?;
+    }
+    Ok(())
 }
 
 // A term of a bound.

@@ -12,6 +12,8 @@ mod OffGaps
 mod UsedFacts
 -- rules of which a time is 0
 mod ZeroRules
+-- what is kept, once it was looked at
+mod SeenZeros
 -- files
 mod FileAnswers
 -- plain nodes

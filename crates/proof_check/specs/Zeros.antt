@@ -1,7 +1,11 @@
 -- Rules of which a time is 0.
-use Rattle.std.specs.Prelude.{◌≡◌, ℕ, ◌||◌, eqb, List}
+use Rattle.std.specs.Prelude.{◌≡◌, ℕ, ◌||◌, eqb, true, List}
+use Rattle.std.specs.BTreeSet.{BTreeSet, contains}
 use Rattle.std.specs.List.{list_any}
+use Rattle.std.specs.Ordering.{nat_cmp}
 use Rattle.model.specs.Facts.{Fact}
+use Rattle.proof_facts.specs.Statements.{stated_at}
+use Rattle.proof_facts.specs.declared.kept.Kept.{Kept}
 use Rattle.proof_tree.specs.proof_nodes.Known.{has_zero_time}
 
 -- the rules of which a time is 0 by these facts were added to a list
@@ -11,3 +15,8 @@ pub record AddsZeros (old : List ℕ) (facts : List Fact) (new : List ℕ) : Typ
 -- a list has the rules of which a time is 0 by these facts
 pub record AreZeros (facts : List Fact) (cut : List ℕ) : Type 0 where
   pub each : (t : ℕ) → list_any (eqb t) cut ≡ has_zero_time facts t
+
+-- a list has each rule of which a time is 0 by what is kept at the positions of a set
+pub record HasZerosAt (kept : Kept) (seen : BTreeSet ℕ) (cut : List ℕ) : Type 0 where
+  pub each : (n t : ℕ) → contains nat_cmp seen n ≡ true → has_zero_time (stated_at kept n) t ≡ true
+      → list_any (eqb t) cut ≡ true

@@ -6,18 +6,19 @@ ghost use Rattle.model.specs.Facts.{Time};
 ghost use Rattle.proof_facts.specs.Grounds.{IsGround, setting};
 ghost use Rattle.proof_facts.specs.NodeAnswers.{States};
 ghost use Rattle.proof_facts.specs.NodeAnswers.{Refuses};
-ghost use Rattle.proof_facts.specs.Statements.{joined_by};
-ghost use Rattle.proof_check.specs.Zeros.{AddsZeros, AreZeros};
+ghost use Rattle.proof_facts.specs.Statements.{facts_by, joined_by, stated_at};
+ghost use Rattle.proof_check.specs.Zeros.{AddsZeros, AreZeros, HasZerosAt};
 ghost use Rattle.proof_tree.specs.Views.{fact_of, facts_of};
 ghost use Rattle.proof_tree.specs.proof_nodes.AcceptsPlain.{may_run};
 ghost use Rattle.proof_tree.specs.proof_nodes.Checks.{unreached_checks};
 
 use gap_checks::is_rule;
 use model::Memory;
-use proof_facts::{Ground, Kept, NodeFault, Use, facts_in, zero_time};
+use proof_facts::{Ground, Kept, NodeFault, Use, facts_at, zero_time};
 use proof_tree::{Fact, Reason};
 use size_nodes::is_zero;
 use std::alloc::Global;
+use std::collections::BTreeSet;
 
 // Adds the rule of a fact to a list, where the fact is that its time is 0.
 fn push_zero(cut: &mut Vec<u32>, fact: &Fact) -> Result<(), Memory>
@@ -46,13 +47,50 @@ fn push_zeros(cut: &mut Vec<u32>, facts: &[Fact]) -> Result<(), Memory>
     Ok(())
 }
 
-// The rules of which a time is 0 by what the uses state.
+// Adds the rules of which a time is 0 by what is kept at a position, unless it was looked at before.
+fn push_kept(
+    cut: &mut Vec<u32>,
+    seen: &mut BTreeSet<u32>,
+    kept: &Kept,
+    position: u32,
+) -> Result<(), Memory>
+    requires { HasZerosAt kept.now seen.old cut.old.items }
+    ensures added { OnOk result (AddsZeros cut.old.items (stated_at kept.now position) cut.new.items) }
+    ensures looked { OnOk result (HasZerosAt kept.now seen.new cut.new.items) }
+{
+    if seen.contains(&position) {
+        return Ok(());
+    }
+    push_zeros(cut, facts_at(kept, position))?;
+    seen.insert(position)?;
+    Ok(())
+}
+
+// Adds the rules of which a time is 0 by what a use states.
+fn push_used(
+    cut: &mut Vec<u32>,
+    seen: &mut BTreeSet<u32>,
+    kept: &Kept,
+    used: &Use,
+) -> Result<(), Memory>
+    requires { HasZerosAt kept.now seen.old cut.old.items }
+    ensures added { OnOk result (AddsZeros cut.old.items (facts_by kept.now used.now) cut.new.items) }
+    ensures looked { OnOk result (HasZerosAt kept.now seen.new cut.new.items) }
+{
+    match used {
+        Use::Kept(position) => push_kept(cut, seen, kept, *position),
+        Use::Own(facts) => push_zeros(cut, facts),
+    }
+}
+
+// The rules of which a time is 0 by what the uses state. What is kept is looked at once, however often it is used.
 fn zero_rules(alloc: Global, kept: &Kept, uses: &[Use]) -> Result<Vec<u32>, Memory>
     ensures { IfOk result (λ cut. AreZeros (joined_by kept.now uses.now) cut.items) }
 {
     let mut cut = Vec::new(alloc);
+    let mut seen = BTreeSet::new(alloc);
     for used in uses {
-        push_zeros(&mut cut, facts_in(kept, used))?;
+        push_used(&mut cut, &mut seen, kept, used)?;
     }
     Ok(cut)
 }

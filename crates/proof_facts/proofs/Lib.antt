@@ -11,6 +11,7 @@ pub mod PlaceFacts
 pub mod KeptFacts
 -- facts joined
 pub mod JoinedFacts
+pub mod JoinedTables
 -- bounds by key
 pub mod Keys
 -- bounds that are needed

@@ -9,5 +9,7 @@ pub mod NodeAnswers
 -- bounds by key, and bounds that are needed
 pub mod Lookups
 pub mod Needed
+-- facts that are joined
+pub mod Joining
 -- forms, column by column
 pub mod Columns

@@ -2,15 +2,17 @@
 
 ghost use Rattle.std.specs.Prelude.{◌≡◌, ◌++◌, IfOk, OnOk};
 ghost use Rattle.proof_facts.specs.Lookups.{EntersSize, EntersTime, HasSizes, HasTimes, facts_at};
-ghost use Rattle.proof_facts.specs.Statements.{joined_by};
+ghost use Rattle.proof_facts.specs.Joining.{TellsAllAt, TellsAlso};
+ghost use Rattle.proof_facts.specs.Statements.{facts_by, joined_by, stated_at};
 ghost use Rattle.proof_tree.specs.Views.{fact_of, facts_of};
+ghost use Rattle.proof_tree.specs.proof_nodes.Known.{table_of};
 
-use crate::kept::{Kept, Use, facts_in};
+use crate::kept::{Kept, Use, facts_at as facts_kept};
 use crate::lookup::Lookup;
 use model::Memory;
 use proof_tree::Fact;
 use std::alloc::Global;
-use std::collections::BTreeMap;
+use std::collections::{BTreeMap, BTreeSet};
 
 // Enters the position of a fact that is a time, unless its rule has one.
 fn enter_time(times: &mut BTreeMap<u32, usize>, fact: &Fact, position: usize) -> Result<(), Memory>
@@ -81,24 +83,65 @@ fn push_facts<'a>(all: &mut Vec<&'a Fact>, facts: &'a [Fact]) -> Result<(), Memo
     Ok(())
 }
 
-// What the uses of a node state, in order.
+// Joins what is kept at a position, unless it was joined before.
+fn push_kept<'a>(
+    all: &mut Vec<&'a Fact>,
+    seen: &mut BTreeSet<u32>,
+    kept: &'a Kept,
+    position: u32,
+) -> Result<(), Memory>
+    requires { TellsAllAt kept.now seen.old (facts_at all.old.items) }
+    ensures joined { OnOk result
+        (TellsAlso (facts_at all.old.items) (stated_at kept.now position) (facts_at all.new.items)) }
+    ensures told { OnOk result (TellsAllAt kept.now seen.new (facts_at all.new.items)) }
+{
+    if seen.contains(&position) {
+        return Ok(());
+    }
+    push_facts(all, facts_kept(kept, position))?;
+    seen.insert(position)?;
+    Ok(())
+}
+
+// Joins what a use states.
+fn push_used<'a>(
+    all: &mut Vec<&'a Fact>,
+    seen: &mut BTreeSet<u32>,
+    kept: &'a Kept,
+    used: &'a Use,
+) -> Result<(), Memory>
+    requires { TellsAllAt kept.now seen.old (facts_at all.old.items) }
+    ensures joined { OnOk result
+        (TellsAlso (facts_at all.old.items) (facts_by kept.now used.now) (facts_at all.new.items)) }
+    ensures told { OnOk result (TellsAllAt kept.now seen.new (facts_at all.new.items)) }
+{
+    match used {
+        Use::Kept(position) => push_kept(all, seen, kept, *position),
+        Use::Own(facts) => push_facts(all, facts),
+    }
+}
+
+// What the uses of a node state, in order. What is kept is joined once, however often it is used: of each key the first
+// fact counts.
 fn joined<'a>(alloc: Global, kept: &'a Kept, uses: &'a [Use]) -> Result<Vec<&'a Fact>, Memory>
-    ensures { IfOk result (λ facts. facts_at facts.items ≡ joined_by kept.now uses.now) }
+    ensures { IfOk result (λ facts. table_of (facts_at facts.items) ≡ table_of (joined_by kept.now uses.now)) }
 {
     let mut all = Vec::new(alloc);
+    let mut seen = BTreeSet::new(alloc);
     for used in uses {
-        push_facts(&mut all, facts_in(kept, used))?;
+        push_used(&mut all, &mut seen, kept, used)?;
     }
     Ok(all)
 }
 
-/// What the uses of a node state, by key. No fact is copied, and the time is near-linear in their number.
+/// What the uses of a node state, by key. No fact is copied, and what is kept is walked once, however often it is used:
+/// the time is near-linear in the uses and in the facts that are kept or their own.
 ///
 /// # Errors
 ///
 /// `Memory` where an allocation fails.
 pub fn lookup_of<'a>(alloc: Global, kept: &'a Kept, uses: &'a [Use]) -> Result<Lookup<'a>, Memory>
-    ensures { IfOk result (λ l. facts_at l.facts.items ≡ joined_by kept.now uses.now) }
+    ensures { IfOk result (λ l. table_of (facts_at l.facts.items) ≡ table_of (joined_by kept.now uses.now)) }
 {
     let facts = joined(alloc, kept, uses)?;
     let times = times_of(alloc, &facts)?;

@@ -15,6 +15,7 @@ ghost use Rattle.proof_tree.specs.Sizes.{form_found};
 ghost use Rattle.proof_tree.specs.Views.{form_of as form_at_symbol};
 ghost use Rattle.proof_tree.specs.proof_nodes.Limits.{IsFormInLimit, IsInLimit};
 
+use guard_prep::RuleRows;
 use model::Memory;
 use poly_terms::Row;
 use proof_facts::{Column, coefficient, number, product};
@@ -98,30 +99,30 @@ fn lost(before: Option<&Form>, after: Option<&Form>, news: &[Row], column: Colum
     )
 }
 
-/// What is lost by a rule, less the least, as a row: the form before the rule, less that after it at the new values.
+/// What is lost by a rule, less the least, as a row: the form before the rule, less that after it at the new values of
+/// what was prepared of the rule.
 ///
 /// # Errors
 ///
 /// `Memory` where an allocation fails.
 pub(crate) fn loss_row(
     alloc: Global,
-    width: usize,
+    rows: &RuleRows,
     before: Option<&Form>,
     after: Option<&Form>,
-    news: &[Row],
     least: u64,
 ) -> Result<Row, Memory>
     requires before { IsFormInLimit (form_found before) }
     requires after { IsFormInLimit (form_found after) }
-    requires few { length news.now ≤ 32 }
-    requires news { All HasRowNumbers (map form_of news.now) }
+    requires few { length rows.now.news.items ≤ 32 }
+    requires news { All HasRowNumbers (map form_of rows.now.news.items) }
     requires least { IsInLimit least }
-    requires within { AreWithin width (form_found before) (map form_of news.now) }
+    requires within { AreWithin rows.now.unknowns (form_found before) (map form_of rows.now.news.items) }
     ensures { IfOk result (λ row. IsAlike (form_of row)
-        (loss (form_found before.entry) (form_found after.entry) (map form_of news.now) (pos least))) }
+        (loss (form_found before.entry) (form_found after.entry) (map form_of rows.now.news.items) (pos least))) }
 {
-    let coefs = lost_coefs(alloc, width, before, after, news)?;
-    let constant = lost_constant(before, after, news, least);
+    let coefs = lost_coefs(alloc, rows.unknowns as usize, before, after, &rows.news)?;
+    let constant = lost_constant(before, after, &rows.news, least);
     Ok(Row { coefs, constant })
 }
 

@@ -50,14 +50,7 @@ fn is_losing(
     let before = form_at(&node.forms, source_of(ground.program, rule));
     let after = form_at(&node.forms, target_of(ground.program, rule));
     let least = least_of(node, rule);
-    let goal = loss_row(
-        alloc,
-        rows.unknowns as usize,
-        before,
-        after,
-        &rows.news,
-        least,
-    )?;
+    let goal = loss_row(alloc, rows, before, after, least)?;
     Ok(implies(&rows.rows, moves, &goal))
 }
 

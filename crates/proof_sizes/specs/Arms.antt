@@ -11,6 +11,7 @@ use Rattle.proof_tree.specs.proof_nodes.Combined.{form_at}
 use Rattle.proof_tree.specs.proof_nodes.Limits.{IsInLimit, AreInLimit, IsFormInLimit}
 use Rattle.proof_tree.specs.proof_nodes.Nodes.{Arm, Linear, Poly}
 use Rattle.proof_tree.specs.proof_setting.Setting.{bent_at}
+use Rattle.proof_sizes.specs.declared.arm_numbers.LinearArm.{LinearArm}
 use Rattle.proof_sizes.specs.declared.arms.Side.{Side}
 use Rattle.proof_sizes.specs.declared.arms.Side.TheVariants as side
 
@@ -22,6 +23,10 @@ pub record HasLinearNumbers (rows left den : ℕ) (form : Form) (multipliers : L
   pub limit : IsFormInLimit form
   pub one_each : length multipliers ≡ rows
   pub within : AreInLimit multipliers
+
+-- the form of a linear arm
+abbrev pub form_in : LinearArm → Form
+form_in arm = record { coefs = arm.coefs.now; constant = arm.constant }
 
 -- and those of an arm; a polynomial arm has none
 abbrev pub HasArmNumbers : ℕ → ℕ → Arm → Type 0

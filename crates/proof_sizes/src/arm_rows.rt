@@ -7,10 +7,11 @@ ghost use Rattle.poly_terms.specs.Views.{form_of};
 ghost use Rattle.poly_terms.specs.linear_forms.Forms.{at};
 ghost use Rattle.poly_terms.specs.linear_forms.Limits.{certificate_limit};
 ghost use Rattle.proof_facts.specs.Columns.{HasColumns, IsAlike};
-ghost use Rattle.proof_sizes.specs.Arms.{factor_of, side_of};
+ghost use Rattle.proof_sizes.specs.Arms.{factor_of, form_in, side_of};
 ghost use Rattle.proof_tree.specs.proof_nodes.AcceptsSizes.{arm_goal};
-ghost use Rattle.proof_tree.specs.proof_nodes.Limits.{IsInLimit};
+ghost use Rattle.proof_tree.specs.proof_nodes.Limits.{IsFormInLimit, IsInLimit};
 
+use crate::arm_numbers::LinearArm;
 use crate::arms::Side;
 use model::Memory;
 use poly_terms::Row;
@@ -82,7 +83,7 @@ fn goal_coefs(
     Ok(goal)
 }
 
-/// What has to be at least 0 for an arm with this denominator and these numbers, as a row over so many unknowns.
+/// What has to be at least 0 for a linear arm over a new value, as a row over so many unknowns.
 ///
 /// # Errors
 ///
@@ -91,23 +92,20 @@ pub(crate) fn arm_row(
     alloc: Global,
     width: usize,
     side: Side,
-    den: u64,
-    coefs: &[i64],
-    constant: i64,
+    arm: &LinearArm,
     value: &Row,
 ) -> Result<Row, Memory>
-    requires den_small { IsInLimit den }
-    requires coefs_small { All (λ c. IsInLimit (nat_abs c)) coefs.now }
-    requires constant_small { IsInLimit (nat_abs constant) }
+    requires den_small { IsInLimit arm.now.den }
+    requires own_small { IsFormInLimit (form_in arm.now) }
     requires value_small { HasRowNumbers (form_of value.now) }
-    requires own_width { length coefs.now ≤ width }
+    requires own_width { length arm.now.coefs.now ≤ width }
     requires value_width { length (form_of value.now).coefs ≤ width }
     ensures { IfOk result (λ row. IsAlike (form_of row)
-        (arm_goal (side_of side) den (record { coefs = coefs.now; constant = constant }) (form_of value.now))) }
+        (arm_goal (side_of side) arm.now.den (form_in arm.now) (form_of value.now))) }
 {
-    let times = factor(side, den);
-    let goal = goal_coefs(alloc, width, coefs, value, times)?;
-    let last = goal_constant(constant, value, times);
+    let times = factor(side, arm.den);
+    let goal = goal_coefs(alloc, width, arm.coefs, value, times)?;
+    let last = goal_constant(arm.constant, value, times);
     Ok(Row {
         coefs: goal,
         constant: last,

@@ -6,11 +6,12 @@ ghost use Rattle.farkas_cert.specs.Sizes.{HasRowNumbers};
 ghost use Rattle.poly_terms.specs.Views.{form_of, monomial_of};
 ghost use Rattle.poly_terms.specs.linear_forms.Certificates.{Implies};
 ghost use Rattle.proof_facts.specs.SuitedRows.{SuitsArms};
-ghost use Rattle.proof_sizes.specs.Arms.{HasArmNumbers, HasLinearNumbers, IsArmOver, IsLeftAlone, side_of};
+ghost use Rattle.proof_sizes.specs.Arms.{HasArmNumbers, HasLinearNumbers, IsArmOver, IsLeftAlone, form_in, side_of};
 ghost use Rattle.proof_tree.specs.Composing.{optional_poly};
 ghost use Rattle.proof_tree.specs.Views.{arm_of};
 ghost use Rattle.proof_tree.specs.proof_nodes.AcceptsSizes.{ReadsLeft, arm_goal};
 
+use crate::arm_numbers::LinearArm;
 use crate::arm_rows::arm_row;
 use farkas_cert::implies;
 use guard_prep::RuleRows;
@@ -69,29 +70,19 @@ fn implies_arm(
     rows: &RuleRows,
     value: &Row,
     side: Side,
-    den: u64,
-    coefs: &[i64],
-    constant: i64,
-    multipliers: &[u64],
+    arm: &LinearArm,
 ) -> Result<bool, Memory>
     requires suits { SuitsArms rows.now }
-    requires numbers { HasLinearNumbers (length rows.now.rows.items) rows.now.left den
-        (record { coefs = coefs.now; constant = constant }) multipliers.now }
+    requires numbers { HasLinearNumbers (length rows.now.rows.items) rows.now.left arm.now.den (form_in arm.now)
+        arm.now.multipliers.now }
     requires value_small { HasRowNumbers (form_of value.now) }
     requires value_width { length (form_of value.now).coefs ≤ rows.now.unknowns }
-    ensures { IfOk result (λ implied. IsTrue implied ↔ Implies (map form_of rows.now.rows.items) multipliers.now
-        (arm_goal (side_of side) den (record { coefs = coefs.now; constant = constant }) (form_of value.now))) }
+    ensures { IfOk result (λ implied. IsTrue implied
+        ↔ Implies (map form_of rows.now.rows.items) arm.now.multipliers.now
+        (arm_goal (side_of side) arm.now.den (form_in arm.now) (form_of value.now))) }
 {
-    let goal = arm_row(
-        alloc,
-        rows.unknowns as usize,
-        side,
-        den,
-        coefs,
-        constant,
-        value,
-    )?;
-    Ok(implies(&rows.rows, multipliers, &goal))
+    let goal = arm_row(alloc, rows.unknowns as usize, side, arm, value)?;
+    Ok(implies(&rows.rows, arm.multipliers, &goal))
 }
 
 /// Whether an arm over the new value at a place, counted from 1, is accepted.
@@ -121,16 +112,13 @@ pub(crate) fn accepts_arm(
             multipliers,
         } => {
             let value = &rows.news[place as usize - 1];
-            implies_arm(
-                alloc,
-                rows,
-                value,
-                side,
-                *den,
+            let numbers = LinearArm {
+                den: *den,
                 coefs,
-                *constant,
+                constant: *constant,
                 multipliers,
-            )
+            };
+            implies_arm(alloc, rows, value, side, &numbers)
         }
         Arm::Poly => Ok(is_left_alone(bent_update(rows, place as usize - 1), rows.left)),
     }

@@ -9,15 +9,15 @@ use Rattle.proof_check.proofs.ZeroRules.{adds-both, zeros-from}
 use Rattle.proof_check.proofs.unreached.zero_rules.Goals as goal
 
 pub loop-used-preserved : goal.loop-used-preserved
-loop-used-preserved c =
-    subst (λ (fs : List plain.Fact). AddsZeros [] fs c.push_zeros.new.cut.items)
-    (sym (joined-more c.args.kept.now c.args.uses.now c.loop-used.used-index c.used-item.result c.loop-used-test.true c.used-item.is))
-    (adds-both _ _ _ _ _ c.loop-used.invariant
-    (subst (λ (fs : List plain.Fact). AddsZeros c.loop-used.cut.items fs c.push_zeros.new.cut.items) c.facts_in.ensures
-    (c.in_ok-push_zeros.ensures {u = tt})))
+loop-used-preserved c = record {
+  added = subst (λ (fs : List plain.Fact). AddsZeros [] fs c.push_used.new.cut.items)
+      (sym (joined-more c.args.kept.now c.args.uses.now c.loop-used.used-index c.used-item.result c.loop-used-test.true c.used-item.is))
+      (adds-both _ _ _ _ _ c.loop-used.invariant.added c.in_ok-push_used.ensures.added);
+  looked = c.in_ok-push_used.ensures.looked;
+}
 
 pub returns : goal.returns
 returns c =
     zeros-from c.loop-used.cut.items _
     (subst (λ (us : List Use). AddsZeros [] (joined_by c.args.kept.now us) c.loop-used.cut.items)
-    (take_all c.loop-used.used-index c.args.uses.now (omega (arith, c.loop-used-test.false))) c.loop-used.invariant)
+    (take_all c.loop-used.used-index c.args.uses.now (omega (arith, c.loop-used-test.false))) c.loop-used.invariant.added)

@@ -1,8 +1,11 @@
 use Rattle.std.proofs.Common.{[], take}
 use Rattle.proof_facts.specs.Statements.{joined_by}
-use Rattle.proof_check.specs.Zeros.{AddsZeros}
+use Rattle.proof_check.specs.Zeros.{AddsZeros, HasZerosAt}
 use Rattle.proof_check.proofs.unreached.zero_rules.Given as goal
 
 -- the rules of the uses so far
 abbrev pub invariant-loop-used : goal.invariant-loop-used
-invariant-loop-used l = AddsZeros [] (joined_by l.kept (take l.used-index l.uses)) l.cut.items
+invariant-loop-used l = record {
+  added : AddsZeros [] (joined_by l.kept (take l.used-index l.uses)) l.cut.items;
+  looked : HasZerosAt l.kept l.seen l.cut.items;
+}

@@ -36,33 +36,29 @@ loss_row-requires-clause-after c =
     (c.form_at-after.ensures ∙ ap (λ fs. rank_form (map form_at_symbol fs) c.target_of.result) c.deref-2.ensures.value)
 
 pub loss_row-requires-clause-few : goal.loss_row-requires-clause-few
-loss_row-requires-clause-few c =
-    subst (λ (rs : List Row). length rs ≤ 32) (sym c.deref-3.ensures.value) c.prep-rows.ensures.suits.few
+loss_row-requires-clause-few c = c.prep-rows.ensures.suits.few
 
 pub loss_row-requires-clause-news : goal.loss_row-requires-clause-news
-loss_row-requires-clause-news c =
-    subst (λ (rs : List Row). All HasRowNumbers (map form_of rs)) (sym c.deref-3.ensures.value) c.prep-rows.ensures.suits.news
+loss_row-requires-clause-news c = c.prep-rows.ensures.suits.news
 
 pub loss_row-requires-clause-within : goal.loss_row-requires-clause-within
 loss_row-requires-clause-within c =
-    subst (λ (rs : List Row). AreWithin c.prep-rows.result.now.unknowns (form_found c.form_at-before.result) (map form_of rs))
-    (sym c.deref-3.ensures.value)
-    (found-within (program c.args.ground.now) c.args.node.now c.requires.shape c.args.rule c.prep-rows.result.now
+    found-within (program c.args.ground.now) c.args.node.now c.requires.shape c.args.rule c.prep-rows.result.now
     c.prep-rows.ensures.suits c.form_at-before.result
     (c.form_at-before.ensures
-    ∙ (λ i. rank_form (map form_at_symbol (c.deref.ensures.value i)) (c.source_of.ensures i))))
+    ∙ (λ i. rank_form (map form_at_symbol (c.deref.ensures.value i)) (c.source_of.ensures i)))
 
 pub implies-requires-clause-rows_small : goal.implies-requires-clause-rows_small
 implies-requires-clause-rows_small c =
-    subst (λ (rs : List Row). AreSmall (map form_of rs)) (sym c.deref-4.ensures.value) c.prep-rows.ensures.small
+    subst (λ (rs : List Row). AreSmall (map form_of rs)) (sym c.deref-3.ensures.value) c.prep-rows.ensures.small
 
 pub returns : goal.returns
 returns c =
     losing-by (program c.args.ground.now) c.args.node.now c.requires.shape c.args.rule c.least_of-least.result
-    c.implies.result c.in_ok-goal.goal (map form_of c.deref-4.result.now) (map form_of c.deref-3.result.now) c.args.moves.now
+    c.implies.result c.in_ok-goal.goal (map form_of c.deref-3.result.now) (map form_of c.prep-rows.result.now.news.items) c.args.moves.now
     c.form_at-before.result c.form_at-after.result c.implies.ensures c.in_ok-goal.ensures
-    (ap (map form_of) c.deref-4.ensures.value ∙ c.prep-rows.ensures.rows)
-    (ap (map form_of) c.deref-3.ensures.value ∙ c.prep-rows.ensures.news)
+    (ap (map form_of) c.deref-3.ensures.value ∙ c.prep-rows.ensures.rows)
+    c.prep-rows.ensures.news
     (c.form_at-before.ensures
     ∙ (λ i. rank_form (map form_at_symbol (c.deref.ensures.value i)) (c.source_of.ensures i)))
     (c.form_at-after.ensures
