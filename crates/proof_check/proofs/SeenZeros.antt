@@ -20,7 +20,7 @@ or-true false = refl
 pub added-again : (kept : Kept) (seen : BTreeSet ℕ) (cut : List ℕ) (n : ℕ) → HasZerosAt kept seen cut
     → contains nat_cmp seen n ≡ true → AddsZeros cut (stated_at kept n) cut
 added-again kept seen cut n h e =
-    record { each = λ t. go (list_any (eqb t) cut) (has_zero_time (stated_at kept n) t) (h.each n t e); }
+    record { each = λ t. go (list_any (eqb t) cut) (has_zero_time (stated_at kept n) t) (h.each n t e) }
   where
     go : (v w : Bool) → (w ≡ true → v ≡ true) → v ≡ (v || w)
     go true w k = refl
