@@ -17,7 +17,7 @@ returns-in-Program-clause-says g c =
 pub returns-in-Answer-clause-says : goal.returns-in-Answer-clause-says
 returns-in-Answer-clause-says g c = NoProgram (rw c.in-Answer.is at c.in_ok-said.ensures.file)
 
-pub check_on-requires-few : goal.check_on-requires-few
-check_on-requires-few g c =
+pub check_on-requires-clause-few : goal.check_on-requires-clause-few
+check_on-requires-clause-few g c =
     let given = (rw c.in-Program.is at c.in_ok-said.ensures.file).0 in
     few_symbols given.bytes (program_of c.in-Program.program) given.spelled
