@@ -32,7 +32,7 @@ use Rattle.expr_reader.proofs.FrontNames.{front_extends}
 use Rattle.expr_reader.proofs.AtomNames.{before_kept, sum_kept}
 use Rattle.expr_reader.proofs.Standing.{fresh_stands, token_added}
 use Rattle.expr_reader.proofs.Endings.{goes_on_is}
-use Rattle.expr_reader.proofs.GuardSettling.{word_front, truth_word}
+use Rattle.expr_reader.proofs.AtomEnds.{word_front, truth_word}
 use Rattle.std.proofs.lemmas.Bool.{not-true as not_true}
 
 -- the word of the atom that always holds is that atom

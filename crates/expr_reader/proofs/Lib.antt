@@ -7,7 +7,7 @@ pub mod Endings
 pub mod Room
 pub mod AtomNames
 pub mod LimitedFaults
-pub mod GuardSettling
+pub mod AtomEnds
 pub mod GuardTaking
 pub mod GuardStops
 pub mod WorkedValues

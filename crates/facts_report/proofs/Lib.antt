@@ -1,5 +1,5 @@
 -- what is found with facts, and that it is one
-pub mod Finding
+pub mod StrengthenedReports
 pub mod OneFind
 -- texts of facts, as they are written
 pub mod Places

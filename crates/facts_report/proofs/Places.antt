@@ -1,26 +1,26 @@
 -- The text of a difference of two places, by which of them is 0.
 use Rattle.std.proofs.Common.{◌≡◌, ℕ, zero, suc, refl, sym, ap, ◌∙◌, List, ◌++◌, codes, append_assoc}
-use Rattle.facts_report.specs.FactTexts.{place_text, difference_text}
+use Rattle.facts_report.specs.FactTexts.{value_text, difference_text}
 
 -- both are
 pub no_places : (j : ℕ) → j ≡ 0 → codes "0" ≡ difference_text 0 j
 no_places j e = ap (difference_text 0) (sym e)
 
 -- the first one is
-pub minus_alone : (j : ℕ) (old : List ℕ) → (j ≡ 0 → ⊥) → (old ++ codes "-") ++ place_text j ≡ old ++ difference_text 0 j
+pub minus_alone : (j : ℕ) (old : List ℕ) → (j ≡ 0 → ⊥) → (old ++ codes "-") ++ value_text j ≡ old ++ difference_text 0 j
 minus_alone zero old n = absurd (n refl)
-minus_alone (suc j) old n = append_assoc old (codes "-") (place_text (suc j))
+minus_alone (suc j) old n = append_assoc old (codes "-") (value_text (suc j))
 
 -- the second one is
-pub plus_alone : (i j : ℕ) → (i ≡ 0 → ⊥) → j ≡ 0 → place_text i ≡ difference_text i j
+pub plus_alone : (i j : ℕ) → (i ≡ 0 → ⊥) → j ≡ 0 → value_text i ≡ difference_text i j
 plus_alone zero j n e = absurd (n refl)
 plus_alone (suc i) j n e = ap (difference_text (suc i)) (sym e)
 
 -- neither is
 pub both_places : (i j : ℕ) (old : List ℕ) → (i ≡ 0 → ⊥) → (j ≡ 0 → ⊥)
-    → ((old ++ place_text i) ++ codes " - ") ++ place_text j ≡ old ++ difference_text i j
+    → ((old ++ value_text i) ++ codes " - ") ++ value_text j ≡ old ++ difference_text i j
 both_places zero j old n m = absurd (n refl)
 both_places (suc i) zero old n m = absurd (m refl)
 both_places (suc i) (suc j) old n m =
-    append_assoc (old ++ place_text (suc i)) (codes " - ") (place_text (suc j))
-    ∙ append_assoc old (place_text (suc i)) (codes " - " ++ place_text (suc j))
+    append_assoc (old ++ value_text (suc i)) (codes " - ") (value_text (suc j))
+    ∙ append_assoc old (value_text (suc i)) (codes " - " ++ value_text (suc j))

@@ -12,15 +12,15 @@ use Rattle.location_facts.specs.Rows.{facts_at}
 use Rattle.location_facts.specs.Strengthening.{greatest_least}
 
 -- the value at a place
-abbrev pub place_text : ℕ → List ℕ
-place_text place = codes "x" ++ decimal place
+abbrev pub value_text : ℕ → List ℕ
+value_text place = codes "x" ++ decimal place
 
 -- the value at a place, less that at another: place 0 stands for the number 0
 abbrev pub difference_text : ℕ → ℕ → List ℕ
 difference_text zero zero = codes "0"
-difference_text zero (suc j) = codes "-" ++ place_text (suc j)
-difference_text (suc i) zero = place_text (suc i)
-difference_text (suc i) (suc j) = place_text (suc i) ++ (codes " - " ++ place_text (suc j))
+difference_text zero (suc j) = codes "-" ++ value_text (suc j)
+difference_text (suc i) zero = value_text (suc i)
+difference_text (suc i) (suc j) = value_text (suc i) ++ (codes " - " ++ value_text (suc j))
 
 -- the line of a fact of a symbol with this name: before the difference, and behind it
 abbrev pub fact_head : Name → List ℕ
@@ -29,13 +29,13 @@ fact_head name = codes "fact " ++ (name ++ codes ": ")
 abbrev pub fact_end : ℤ → List ℕ
 fact_end least = codes " >= " ++ (signed_decimal least ++ codes "\n")
 
-abbrev pub fact_line : Name → ℕ → ℕ → ℤ → List ℕ
-fact_line name i j least = fact_head name ++ (difference_text i j ++ fact_end least)
+abbrev pub location_line : Name → ℕ → ℕ → ℤ → List ℕ
+location_line name i j least = fact_head name ++ (difference_text i j ++ fact_end least)
 
 -- the line of two places by their greatest least, where there is one
 abbrev pub line_by : Name → ℕ → ℕ → Option ℤ → List ℕ
 line_by name i j None = []
-line_by name i j (Some least) = fact_line name i j least
+line_by name i j (Some least) = location_line name i j least
 
 -- the lines of each of these numbers, in order
 abbrev pub lines_of_each : (ℕ → List ℕ) → List ℕ → List ℕ
@@ -56,9 +56,9 @@ abbrev pub symbol_lines : List LocFact → ℕ → Symbol → List ℕ
 symbol_lines kept s symbol = lines_of_facts symbol.name (facts_at s kept)
 
 -- the lines of facts at all symbols of a program, in order
-abbrev pub fact_lines : Program → List LocFact → List ℕ
-fact_lines p kept = numbered_lines (symbol_lines kept) 0 p.symbols
+abbrev pub location_lines : Program → List LocFact → List ℕ
+location_lines p kept = numbered_lines (symbol_lines kept) 0 p.symbols
 
 -- the text of what is found of a program with facts: the lines of the facts, and then the report
 unfoldable pub text_with_facts : Program → List LocFact → Report → List ℕ
-text_with_facts p kept r = fact_lines p kept ++ text_of_report p r
+text_with_facts p kept r = location_lines p kept ++ text_of_report p r

@@ -4,7 +4,7 @@ use Rattle.model.specs.Programs.{Program}
 use Rattle.model.specs.Bounds.{Constant}
 use Rattle.outcome.specs.Reports.{Timed}
 use Rattle.location_facts.specs.declared.fact.LocFact.{LocFact}
-use Rattle.facts_report.specs.FactTexts.{difference_text, fact_line, fact_lines, text_with_facts}
+use Rattle.facts_report.specs.FactTexts.{difference_text, location_line, location_lines, text_with_facts}
 
 -- a fact
 abbrev pub fact : ℕ → ℕ → ℕ → ℤ → LocFact
@@ -26,18 +26,18 @@ pub record DifferencesAreTold : Type 0 where
   pub opposite : difference_text 0 2 ≡ codes "-x2"
   pub difference : difference_text 1 2 ≡ codes "x1 - x2"
   pub turned : difference_text 2 1 ≡ codes "x2 - x1"
-  pub line : fact_line (codes "l1") 1 2 (pos 0) ≡ codes "fact l1: x1 - x2 >= 0\n"
-  pub negative : fact_line (codes "l1") 0 2 (negsuc 0) ≡ codes "fact l1: -x2 >= -1\n"
+  pub line : location_line (codes "l1") 1 2 (pos 0) ≡ codes "fact l1: x1 - x2 >= 0\n"
+  pub negative : location_line (codes "l1") 0 2 (negsuc 0) ≡ codes "fact l1: -x2 >= -1\n"
 
 -- of the facts that a value is at least -1, 0 and 1 the last one alone is told, also where it stands first; lines go by
 -- symbol, by plus and then by minus, whatever the order of the facts; and behind them stands the report
 pub record FactLinesAreTold : Type 0 where
-  pub none : fact_lines three_symbols [] ≡ []
-  pub greatest : fact_lines three_symbols (fact 1 2 0 (negsuc 0) ∷ fact 1 2 0 (pos 0) ∷ fact 1 2 0 (pos 1) ∷ [])
+  pub none : location_lines three_symbols [] ≡ []
+  pub greatest : location_lines three_symbols (fact 1 2 0 (negsuc 0) ∷ fact 1 2 0 (pos 0) ∷ fact 1 2 0 (pos 1) ∷ [])
       ≡ codes "fact l1: x2 >= 1\n"
-  pub greatest_first : fact_lines three_symbols (fact 1 2 0 (pos 1) ∷ fact 1 2 0 (pos 0) ∷ [])
+  pub greatest_first : location_lines three_symbols (fact 1 2 0 (pos 1) ∷ fact 1 2 0 (pos 0) ∷ [])
       ≡ codes "fact l1: x2 >= 1\n"
-  pub ordered : fact_lines three_symbols
+  pub ordered : location_lines three_symbols
       (fact 2 1 0 (pos 0) ∷ fact 1 2 0 (pos 1) ∷ fact 1 0 2 (negsuc 0) ∷ fact 1 1 2 (pos 0) ∷ fact 1 1 0 (pos 1) ∷ [])
       ≡ codes "fact l1: -x2 >= -1\nfact l1: x1 >= 1\nfact l1: x1 - x2 >= 0\nfact l1: x2 >= 1\nfact l2: x1 >= 0\n"
   pub whole : text_with_facts three_symbols (fact 1 2 0 (pos 1) ∷ [])

@@ -5,9 +5,9 @@ ghost use Rattle.its_model.specs.Views.{name_of, symbol_of, program_of};
 ghost use Rattle.outcome.specs.Printing.{IsPrintableOutcome};
 ghost use Rattle.outcome.specs.Views.{report_of};
 ghost use Rattle.report_text.specs.Pieces.{numbered_lines};
-ghost use Rattle.facts_report.specs.FactTexts.{place_text, difference_text, fact_head, fact_end, fact_line, line_by};
+ghost use Rattle.facts_report.specs.FactTexts.{value_text, difference_text, fact_head, fact_end, location_line, line_by};
 ghost use Rattle.facts_report.specs.FactTexts.{lines_with_plus};
-ghost use Rattle.facts_report.specs.FactTexts.{lines_of_facts, symbol_lines, fact_lines, text_with_facts};
+ghost use Rattle.facts_report.specs.FactTexts.{lines_of_facts, symbol_lines, location_lines, text_with_facts};
 
 use crate::analysis::WithFacts;
 use itoa::Buffer;
@@ -35,7 +35,7 @@ pub fn print(alloc: Global, p: &Program, w: &WithFacts) -> Result<Vec<u8>, Memor
 
 // The lines of the facts at all symbols of a program.
 fn all_lines(alloc: Global, p: &Program, kept: &[LocFact]) -> Result<Vec<u8>, Memory>
-    ensures { IfOk result (λ text. text.items ≡ fact_lines (program_of p.now) kept.now) }
+    ensures { IfOk result (λ text. text.items ≡ location_lines (program_of p.now) kept.now) }
 {
     let mut text = Vec::new(alloc);
     push_lines(alloc, &mut text, &p.symbols, kept)?;
@@ -130,7 +130,7 @@ fn push_fact(
     minus: u32,
     least: i64,
 ) -> Result<(), Memory>
-    ensures { OnOk result (text.new.items ≡ text.old.items ++ fact_line (name_of name.now) plus minus least) }
+    ensures { OnOk result (text.new.items ≡ text.old.items ++ location_line (name_of name.now) plus minus least) }
 {
     push_head(text, name)?;
     push_difference(text, plus, minus)?;
@@ -185,7 +185,7 @@ fn push_opposite(text: &mut Vec<u8>, minus: u32) -> Result<(), Memory>
 
 // Appends a place.
 fn push_place(text: &mut Vec<u8>, place: u32) -> Result<(), Memory>
-    ensures { OnOk result (text.new.items ≡ text.old.items ++ place_text place) }
+    ensures { OnOk result (text.new.items ≡ text.old.items ++ value_text place) }
 {
     text.extend_from_slice(b"x")?;
     text.extend_from_slice(Buffer::new().format(place).as_bytes())

@@ -10,7 +10,7 @@ use Rattle.std.proofs.lemmas.Option.{slice_get_read}
 use Rattle.its_graph.specs.Groups.{values_in, items_in, Joins}
 use Rattle.its_graph.specs.Floods.{Painting, painted, EdgeTo, Fills}
 use Rattle.its_graph.proofs.Elements.{Contains-first, only_element, none_in_empty}
-use Rattle.its_graph.proofs.Painting.{Paints, color_of, paints_one}
+use Rattle.its_graph.proofs.PaintedNodes.{Paints, color_of, paints_one}
 
 -- the state of a flood that has looked at the first i nodes that it found
 pub record IsFilling (Edge : ℕ → ℕ → Type 0) (before : List ℕ) (start old new : ℕ) (m : Painting) (i : ℕ) : Type 0 where

@@ -1,5 +1,5 @@
 pub mod Elements
-pub mod Painting
+pub mod PaintedNodes
 pub mod Filling
 pub mod Routes
 pub mod SharedLeaders
@@ -12,7 +12,7 @@ pub mod KeySets
 pub mod AllLeadersListed
 pub mod OwnLeaders
 pub mod PairLists
-pub mod Needing
+pub mod LeaderNeeds
 pub mod Membership
 pub mod EdgeTables
 pub mod Occurrences

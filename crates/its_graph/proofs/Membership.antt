@@ -12,7 +12,7 @@ use Rattle.std.proofs.lemmas.List.Elements.{All-nil, All-cons, All-head, All-tai
 use Rattle.std.proofs.lemmas.List.Elements.{All-from_get_or}
 use Rattle.model.specs.Paths.{Path, Here, Onward}
 use Rattle.its_graph.specs.Groups.{values_of, values_in, IsPair, items_of}
-use Rattle.its_graph.specs.Components.{IsMutual, IsListed, IsReady, IsNext, IsListing}
+use Rattle.its_graph.specs.Components.{IsMutual, IsListed, MayComeNext, IsNext, IsListing}
 use Rattle.its_graph.specs.Classes.{AreLeaders}
 use Rattle.its_graph.specs.Orders.{Needs, IsNextLeader, EachIsNext, AreLeadersInOrder}
 use Rattle.its_graph.specs.Members.{numbered, AreMembers}
@@ -20,7 +20,7 @@ use Rattle.its_graph.proofs.Elements.{Told, told}
 use Rattle.its_graph.proofs.AllLeadersListed.{distinct-few}
 use Rattle.its_graph.proofs.PairLists.{AreWithin, pair-within, Pair, pair-cases, pair-later, same_pair, value-listed}
 use Rattle.its_graph.proofs.PairLists.{value-from}
-use Rattle.its_graph.proofs.Needing.{leads-itself}
+use Rattle.its_graph.proofs.LeaderNeeds.{leads-itself}
 use Rattle.its_graph.proofs.Routes.{edge_then, path-within, mutual-turned, mutual-join}
 pub use Rattle.model.proofs.Cases.{IfOk-both as ok-both}
 
@@ -223,14 +223,14 @@ module _ (edges : List Pair) (n : ℕ) (leaders order : List ℕ) (l : AreLeader
           go (inl e) = inr (one-leader c b at.leads.0 in_b (at.leads.1 ∙ sym e))
           go (inr among) = inl (leader-listed k b (omega arith) in_b among)
 
-      first : (a : ℕ) → IsReady Edge n (take k cs) a → get_or order k 0 ≤ a
+      first : (a : ℕ) → MayComeNext Edge n (take k cs) a → get_or order k 0 ≤ a
       first a ready =
           let in_a : a < length leaders = omega (arith, ready.node, size) in
           let la = leads-itself Edge leaders l a in_a in
           let low_leader : get_or order k 0 ≤ get_or leaders a 0 = at.least (get_or leaders a 0) la (λ h. ready.unlisted (leader-listed k a (omega arith) in_a h)) (λ d need. needed a ready in_a d need) in
           omega (arith, low_leader, l.least a a in_a in_a (record { onward = Here refl; back = Here refl }))
         where
-          needed : (a : ℕ) → IsReady Edge n (take k cs) a → a < length leaders → (d : ℕ) → Needs Edge leaders (get_or leaders a 0) d → Contains (take k order) d
+          needed : (a : ℕ) → MayComeNext Edge n (take k cs) a → a < length leaders → (d : ℕ) → Needs Edge leaders (get_or leaders a 0) d → Contains (take k order) d
           needed a ready in_a d need = go (ready.sources need.from path)
             where
               path : Path Edge need.from a

@@ -9,7 +9,7 @@ use Rattle.its_graph.specs.Floods.{EdgeTo, Fills}
 use Rattle.its_graph.specs.Components.{IsMutual}
 use Rattle.its_graph.specs.Classes.{AreTables, AreClasses, Takes}
 use Rattle.its_graph.proofs.Elements.{none_in_empty}
-use Rattle.its_graph.proofs.Painting.{Paints}
+use Rattle.its_graph.proofs.PaintedNodes.{Paints}
 use Rattle.its_graph.proofs.Routes.{edge_then, path-map, turned, mutual-turned, mutual-join}
 
 -- the floods of one component: before and after both, and after the candidates that aren't in it are unknown again

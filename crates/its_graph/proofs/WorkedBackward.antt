@@ -3,7 +3,7 @@ use Rattle.std.proofs.Common.{◌≡◌, ◌⊎◌, inl, inr, ℕ, zero, suc, �
 use Rattle.std.proofs.Common.{ap, subst, arith}
 use Rattle.std.specs.Prelude.{◌↔◌}
 use Rattle.model.specs.Paths.{Path, Here, Onward}
-use Rattle.its_graph.specs.Components.{IsMutual, IsListed, IsReady, IsNext, IsListing}
+use Rattle.its_graph.specs.Components.{IsMutual, IsListed, MayComeNext, IsNext, IsListing}
 use Rattle.its_graph.specs.WorkedComponents.{Backward}
 use Rattle.its_graph.proofs.Routes.{mutual-self, one_edge}
 use Rattle.its_graph.proofs.Elements.{none_in_empty}
@@ -54,7 +54,7 @@ single xs a l = go xs l.component l.listed l.member
     go (y ∷ ys) c (suc i, low, e) k = let rest = go ys c (i, omega (arith, low), e) k in (suc rest.0, omega (arith, rest.1), rest.2)
 
 -- a node other than 0 may come, where it isn't listed
-ready : (xs : List ℕ) (a : ℕ) → a < 3 → 1 ≤ a → (Contains xs a → ⊥) → IsReady Backward 3 (singles xs) a
+ready : (xs : List ℕ) (a : ℕ) → a < 3 → 1 ≤ a → (Contains xs a → ⊥) → MayComeNext Backward 3 (singles xs) a
 ready xs a low not_zero missing = record { node = low; unlisted = λ l. missing (single xs a l); sources = λ b p. inr (from b (ends b a p)) }
   where
     from : (b : ℕ) → (b ≡ a) ⊎ ((b ≡ 2) × (a ≡ 0)) → IsMutual Backward a b
@@ -62,7 +62,7 @@ ready xs a low not_zero missing = record { node = low; unlisted = λ l. missing 
     from b (inr (s, t)) = absurd (omega (arith, t, not_zero))
 
 -- 0 may not come before 2
-pub zero_waits : (xs : List ℕ) → (Contains xs 2 → ⊥) → IsReady Backward 3 (singles xs) 0 → ⊥
+pub zero_waits : (xs : List ℕ) → (Contains xs 2 → ⊥) → MayComeNext Backward 3 (singles xs) 0 → ⊥
 zero_waits xs missing h = go (h.sources 2 (one_edge Backward 2 0 (0, omega arith, refl)))
   where
     go : IsListed (singles xs) 2 ⊎ IsMutual Backward 0 2 → ⊥
@@ -73,17 +73,17 @@ zero_waits xs missing h = go (h.sources 2 (one_edge Backward 2 0 (0, omega arith
 not_one : Contains {X = ℕ} (1 ∷ []) 2 → ⊥
 not_one h = omega (arith, in-one 1 2 h)
 
-pub without_edge : IsReady Backward 3 [] 1
+pub without_edge : MayComeNext Backward 3 [] 1
 without_edge = ready [] 1 (omega arith) (omega arith) (λ h. none_in_empty 1 h)
 
-pub source : IsReady Backward 3 [] 2
+pub source : MayComeNext Backward 3 [] 2
 source = ready [] 2 (omega arith) (omega arith) (λ h. none_in_empty 2 h)
 
 -- 1 comes first
 pub first_next : IsNext Backward 3 [] (1 ∷ [])
 first_next = record { least = 1; ready = without_edge; first = least; members = one-member 1; ascending = increasing-one 1 }
   where
-    least : (a : ℕ) → IsReady Backward 3 [] a → 1 ≤ a
+    least : (a : ℕ) → MayComeNext Backward 3 [] a → 1 ≤ a
     least zero r = absurd (zero_waits [] (λ h. none_in_empty 2 h) r)
     least (suc a) r = omega arith
 
@@ -97,7 +97,7 @@ second_next = record {
   ascending = increasing-one 2;
 }
   where
-    least : (a : ℕ) → IsReady Backward 3 ((1 ∷ []) ∷ []) a → 2 ≤ a
+    least : (a : ℕ) → MayComeNext Backward 3 ((1 ∷ []) ∷ []) a → 2 ≤ a
     least zero r = absurd (zero_waits (1 ∷ []) not_one r)
     least (suc zero) r = absurd (r.unlisted (record { component = 1 ∷ []; listed = (0, omega arith, refl); member = (0, omega arith, refl) }))
     least (suc (suc a)) r = omega arith

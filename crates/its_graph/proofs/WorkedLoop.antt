@@ -3,7 +3,7 @@ use Rattle.std.proofs.Common.{◌≡◌, ◌⊎◌, inl, inr, ℕ, zero, suc, �
 use Rattle.std.proofs.Common.{subst, arith}
 use Rattle.std.proofs.lemmas.Bool.{cases_lt}
 use Rattle.model.specs.Paths.{Path, Here, Onward}
-use Rattle.its_graph.specs.Components.{IsMutual, IsListed, IsReady, IsNext, IsListing}
+use Rattle.its_graph.specs.Components.{IsMutual, IsListed, MayComeNext, IsNext, IsListing}
 use Rattle.its_graph.specs.WorkedComponents.{Loop, zero_alone}
 use Rattle.its_graph.proofs.Routes.{mutual-self, mutual-turned, one_edge}
 use Rattle.its_graph.proofs.ListedNodes.{in-first, in-one, in-cons, in-two, alone, increasing-one, increasing-two}
@@ -71,7 +71,7 @@ one_or_two b m = go (ends 1 b m.onward)
     go (inr (l, h)) = low_or_high l h (cases_lt b 2)
 
 -- 0 may come first
-pub first_ready : IsReady Loop 3 [] 0
+pub first_ready : MayComeNext Loop 3 [] 0
 first_ready = record { node = omega arith; unlisted = λ l. absurd (omega (arith, l.listed.1)); sources = sources }
   where
     sources : (b : ℕ) → Path Loop b 0 → IsListed [] b ⊎ IsMutual Loop 0 b
@@ -82,7 +82,7 @@ first_ready = record { node = omega arith; unlisted = λ l. absurd (omega (arith
         go (inr (low, high)) = absurd (omega (arith, low))
 
 -- 1 may not, since 0 comes before it
-pub not_first : IsReady Loop 3 [] 1 → ⊥
+pub not_first : MayComeNext Loop 3 [] 1 → ⊥
 not_first h = go (h.sources 0 (one_edge Loop 0 1 (0, omega arith, refl)))
   where
     go : IsListed [] 0 ⊎ IsMutual Loop 1 0 → ⊥
@@ -102,14 +102,14 @@ sources-behind a one two b p low = go (begins b a p)
     go (inl e) = place (below-three b (omega (arith, e, low)))
     go (inr l) = place (below-three b (omega (arith, l)))
 
-pub next_ready : IsReady Loop 3 zero_alone 1
+pub next_ready : MayComeNext Loop 3 zero_alone 1
 next_ready = record {
   node = omega arith;
   unlisted = λ l. absurd (omega (arith, alone 0 1 l));
   sources = λ b p. sources-behind 1 (mutual-self Loop 1) both b p (omega arith);
 }
 
-pub greater_ready : IsReady Loop 3 zero_alone 2
+pub greater_ready : MayComeNext Loop 3 zero_alone 2
 greater_ready = record {
   node = omega arith;
   unlisted = λ l. absurd (omega (arith, alone 0 2 l));
@@ -130,7 +130,7 @@ first_next = record { least = 0; ready = first_ready; first = λ a r. omega arit
 pub then_next : IsNext Loop 3 zero_alone (1 ∷ 2 ∷ [])
 then_next = record { least = 1; ready = next_ready; first = least; members = λ b. (to b, from b); ascending = increasing-two 1 2 (omega arith) }
   where
-    least : (a : ℕ) → IsReady Loop 3 zero_alone a → 1 ≤ a
+    least : (a : ℕ) → MayComeNext Loop 3 zero_alone a → 1 ≤ a
     least zero r = absurd (r.unlisted in-first)
     least (suc a) r = omega arith
 

@@ -18,7 +18,7 @@ pub record IsListed (components : List (List ℕ)) (a : ℕ) : Type 0 where
 
 -- a node may come next, behind components that were listed: it is in none of them, and each node from which a path
 -- leads to it is in one of them, or in its own component
-pub record IsReady (Edge : ℕ → ℕ → Type 0) (nodes : ℕ) (before : List (List ℕ)) (a : ℕ) : Type 0 where
+pub record MayComeNext (Edge : ℕ → ℕ → Type 0) (nodes : ℕ) (before : List (List ℕ)) (a : ℕ) : Type 0 where
   pub node : a < nodes
   pub unlisted : ¬ (IsListed before a)
   pub sources : (b : ℕ) → Path Edge b a → IsListed before b ⊎ IsMutual Edge a b
@@ -26,8 +26,8 @@ pub record IsReady (Edge : ℕ → ℕ → Type 0) (nodes : ℕ) (before : List 
 -- what comes next behind components that were listed: the component of the least node that may, ascending
 pub record IsNext (Edge : ℕ → ℕ → Type 0) (nodes : ℕ) (before : List (List ℕ)) (component : List ℕ) : Type 0 where
   pub least : ℕ
-  pub ready : IsReady Edge nodes before least
-  pub first : (a : ℕ) → IsReady Edge nodes before a → least ≤ a
+  pub ready : MayComeNext Edge nodes before least
+  pub first : (a : ℕ) → MayComeNext Edge nodes before a → least ≤ a
   pub members : (b : ℕ) → Contains component b ↔ IsMutual Edge least b
   pub ascending : IsStrictlyIncreasing component
 

@@ -2,7 +2,7 @@
 -- worked out by hand on two graphs.
 use Rattle.std.specs.Prelude.{ℕ, List, [], ◌∷◌}
 use Rattle.its_graph.specs.Groups.{IsPair}
-use Rattle.its_graph.specs.Components.{IsMutual, IsListed, IsReady, IsNext, IsListing}
+use Rattle.its_graph.specs.Components.{IsMutual, IsListed, MayComeNext, IsNext, IsListing}
 use Rattle.its_graph.specs.Cycles.{HasInnerLink}
 
 -- the graph with an edge from 0 to 1, and edges from 1 to 2 and back
@@ -32,15 +32,15 @@ pub record ListedNodesAreWorkedOut : Type 0 where
 -- in the first graph of three nodes 0 may come first, and 1 may not, nor may a node past the end; behind [0] 1 and 2
 -- may come, and 0 may not; in the second graph 1 and 2 may come first, and 0 may not
 pub record ReadyNodesAreWorkedOut : Type 0 where
-  pub first : IsReady Loop 3 [] 0
-  pub behind_another : ¬ (IsReady Loop 3 [] 1)
-  pub past_the_end : ¬ (IsReady Loop 3 [] 3)
-  pub next : IsReady Loop 3 zero_alone 1
-  pub next_greater : IsReady Loop 3 zero_alone 2
-  pub listed : ¬ (IsReady Loop 3 zero_alone 0)
-  pub without_edge : IsReady Backward 3 [] 1
-  pub source : IsReady Backward 3 [] 2
-  pub target : ¬ (IsReady Backward 3 [] 0)
+  pub first : MayComeNext Loop 3 [] 0
+  pub behind_another : ¬ (MayComeNext Loop 3 [] 1)
+  pub past_the_end : ¬ (MayComeNext Loop 3 [] 3)
+  pub next : MayComeNext Loop 3 zero_alone 1
+  pub next_greater : MayComeNext Loop 3 zero_alone 2
+  pub listed : ¬ (MayComeNext Loop 3 zero_alone 0)
+  pub without_edge : MayComeNext Backward 3 [] 1
+  pub source : MayComeNext Backward 3 [] 2
+  pub target : ¬ (MayComeNext Backward 3 [] 0)
 
 -- in the first graph [0] comes first, and then [1, 2], but neither [2, 1] nor [1]; in the second one [1] comes first,
 -- and [2] doesn't, since 1 is less

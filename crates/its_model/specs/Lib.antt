@@ -12,7 +12,7 @@ pub mod WorkedPrograms
 pub mod WorkedSteps
 pub mod WorkedCosts
 -- the machinery of the functions inside and of the proofs
-pub mod Ready
+pub mod Steppable
 -- the crates below, which callers name through this one
 pub use Rattle.poly_terms.specs.model
 pub use Rattle.poly_terms.specs.int_laws

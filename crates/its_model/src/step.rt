@@ -12,7 +12,7 @@ ghost use Rattle.its_model.specs.Steps.{PastRange, is_related, atom_fault, guard
 ghost use Rattle.its_model.specs.Steps.{rule_fault, step_fault, maximum_arity, StepsHaveNoFault};
 ghost use Rattle.its_model.specs.StepAnswers.{ComparisonError, fault_of};
 ghost use Rattle.its_model.specs.Valid.{IsValid, IsValidAtom, IsValidTerm};
-ghost use Rattle.its_model.specs.Ready.{IsReady};
+ghost use Rattle.its_model.specs.Steppable.{IsSteppable};
 ghost use Rattle.its_model.specs.declared.program.Rule.{Rule};
 ghost use Rattle.its_model.specs.Views.{relation_of, atom_of, rule_of, program_of, config_of, step_of};
 
@@ -66,7 +66,7 @@ pub(crate) fn rule_position(p: &Program, number: u32) -> Option<usize>
 
 // Takes a step by a rule.
 fn step_by(rule: &Rule, now: &Config, free: &[i128], next: &mut Config) -> Result<(), StepError>
-    requires valid { IsReady rule.now }
+    requires valid { IsSteppable rule.now }
     requires left { now.now.at ≡ rule.now.source → length now.now.values.items ≡ rule.now.left }
     requires room { length rule.now.updates.items ≤ vec_capacity next.old.values }
     ensures fault { MatchResult result
@@ -85,7 +85,7 @@ fn step_by(rule: &Rule, now: &Config, free: &[i128], next: &mut Config) -> Resul
 
 // Looks at the guard and takes the updates.
 fn take(rule: &Rule, left: &[i128], free: &[i128], next: &mut Config) -> Result<(), StepError>
-    requires valid { IsReady rule.now }
+    requires valid { IsSteppable rule.now }
     requires left { length left.now ≡ rule.now.left }
     requires free { length free.now ≡ rule.now.free }
     requires room { length rule.now.updates.items ≤ vec_capacity next.old.values }

@@ -8,7 +8,7 @@ use Rattle.simplex_core.proofs.linear_forms.SolutionLaws.{length-map}
 use Rattle.simplex_core.specs.declared.problem.Problem.{Problem}
 use Rattle.lp_builder.specs.declared.builder.Builder.{Builder}
 use Rattle.lp_builder.specs.declared.description.Cost.{Cost}
-use Rattle.lp_builder.specs.Builders.{IsReady, Holds, IsBuilt}
+use Rattle.lp_builder.specs.Builders.{AtRowStart, Holds, IsBuilt}
 use Rattle.lp_builder.specs.Descriptions.{question_of}
 use Rattle.lp_builder.specs.Problems.{HoldsQuestion}
 use Rattle.lp_builder.proofs.Problems.{held-proper, held-agrees}
@@ -18,7 +18,7 @@ pub double-is : (n : ℕ) → double n ≡ 2 * n
 double-is zero = refl
 double-is (suc n) = let ih = double-is n in omega (arith, ih)
 
-module _ (b : Builder) (costs : List Cost) (p : Problem) (ready : IsReady b) (long : length costs ≡ b.parameters) (rows : p.rows ≡ b.sheet.row)
+module _ (b : Builder) (costs : List Cost) (p : Problem) (ready : AtRowStart b) (long : length costs ≡ b.parameters) (rows : p.rows ≡ b.sheet.row)
     (columns : p.cols ≡ 2 * b.parameters + b.columns) (entries : p.entries.items ≡ b.sheet.entries.items) (right : p.right.items ≡ b.right.items)
     (first : p.first.items ≡ on_both (map (λ (c : Cost). c.size) costs) ++ replicate b.columns (pos 0))
     (second : p.second.items ≡ on_plus (map (λ (c : Cost). c.height) costs) ++ replicate b.columns (pos 0)) where

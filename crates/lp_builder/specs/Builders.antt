@@ -24,7 +24,7 @@ abbrev pub column_count : Builder → ℕ
 column_count b = 2 * b.parameters + b.columns
 
 -- the builder is at the start of a row, and its rows and columns are below 2^31
-pub record IsReady (b : Builder) : Type 0 where
+pub record AtRowStart (b : Builder) : Type 0 where
   pub at_start : b.sheet.col ≡ 0
   pub few_rows : row_count b < 2 ^ 31
   pub few_columns : column_count b < 2 ^ 31
@@ -39,7 +39,7 @@ pub record Holds (b : Builder) (gs : List Group) : Type 0 where
 
 -- the new builder holds a group more
 pub record Adds (old new : Builder) (g : Group) : Type 0 where
-  pub ready : IsReady new
+  pub ready : AtRowStart new
   pub holds : (gs : List Group) → Holds old gs → Holds new (gs ++ (g ∷ []))
   pub parameters : parameter_count new ≡ parameter_count old
   pub rows : row_count new ≡ row_count old + g.unknowns + 1

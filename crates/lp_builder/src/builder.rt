@@ -22,14 +22,14 @@ pub struct Builder {
 }
 
 impl Builder {
-    ghost use Rattle.lp_builder.specs.Builders.{parameter_count, row_count, column_count, IsReady, Holds, Adds};
+    ghost use Rattle.lp_builder.specs.Builders.{parameter_count, row_count, column_count, AtRowStart, Holds, Adds};
     ghost use Rattle.lp_builder.specs.Builders.{IsBuilt};
     ghost use Rattle.lp_builder.specs.Descriptions.{group_of, AreWritable};
 
     /// No group is written yet.
     pub fn new(alloc: Global, parameters: u32) -> Builder
         requires { parameters < 2 ^ 30 }
-        ensures ready { IsReady result }
+        ensures ready { AtRowStart result }
         ensures holds { Holds result [] }
         ensures parameters { parameter_count result ≡ parameters }
         ensures rows { row_count result ≡ 0 }
@@ -56,7 +56,7 @@ impl Builder {
         goals: &[Goal],
         fixed: &Row,
     ) -> Result<(), Memory>
-        requires ready { IsReady self.old }
+        requires ready { AtRowStart self.old }
         requires writable { AreWritable (parameter_count self.old) unknowns rows.now goals.now fixed.now }
         requires few_rows { row_count self.old + unknowns + 1 < 2 ^ 31 }
         requires few_columns { column_count self.old + length rows.now + 1 < 2 ^ 31 }
@@ -86,7 +86,7 @@ impl Builder {
     ///
     /// `Memory` where an allocation fails.
     pub fn finish(self, alloc: Global, costs: &[Cost]) -> Result<Problem, Memory>
-        requires ready { IsReady self }
+        requires ready { AtRowStart self }
         requires costs { length costs.now ≡ parameter_count self }
         ensures { IfOk result (λ p. IsBuilt self costs.now p) }
     {

@@ -1,1 +1,1 @@
-mod Tried
+mod TriedPrograms

@@ -181,7 +181,7 @@ fn check_sums(alloc: Global, wrong: &mut String) -> Result<(), Fail> {
 }
 
 // The row of the polynomial of an expression over so many variables, or none where its degree is at least 2.
-#[tactic(auto, using(crate::proofs::Tried::below_of))]
+#[tactic(auto, using(crate::proofs::TriedPrograms::below_of))]
 fn row_of(alloc: Global, e: &Expr, width: u32) -> Result<Option<Row>, Fail> {
     if !reads_below(width as usize, e) {
         return Err("a variable has no coefficient")?;

@@ -148,7 +148,7 @@ fn most_atoms(cost: &Option<Expr>) -> usize
 
 // Whether the letter is a name other than m, there are at most 32 updates and 64 atoms, the cost being one, and all can
 // be expanded and read A, B and C alone.
-#[tactic(auto, using(crate::proofs::Tried::tried_valid))]
+#[tactic(auto, using(crate::proofs::TriedPrograms::tried_valid))]
 fn may_be_tried(alloc: Global, body: &Body) -> bool
     ensures few { result ≡ true → length body.now.updates.items ≤ place_limit }
     ensures valid { result ≡ true → IsValid

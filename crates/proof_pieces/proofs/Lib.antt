@@ -21,7 +21,7 @@ pub mod PlaceBack
 mod WorkedBounds
 -- their pieces, and how these are found again
 pub mod BoundCuts
-pub mod BoundFound
+pub mod BoundBack
 -- outlines and levels follow what has been read
 pub mod MarkMoves
 pub mod OutlineLaws

@@ -18,8 +18,8 @@ use Rattle.proof_pieces.specs.declared.piece.Piece.TheVariants.{InBound}
 use Rattle.proof_pieces.specs.Bounds.{bound_answer}
 use Rattle.proof_pieces.specs.Lexing.{bound_piece, depth_behind, ends_before, ends_bound, pieces_behind, symbol_names}
 use Rattle.proof_pieces.proofs.BoundCuts.{Goes, behind_bracket, pieces_go}
-use Rattle.proof_pieces.proofs.BoundFound.{depth_same, ends_so, first_no_end, inner_cut, inner_of, inners, inners_are, is_last}
-use Rattle.proof_pieces.proofs.BoundFound.{marked_close, piece_found}
+use Rattle.proof_pieces.proofs.BoundBack.{depth_same, ends_so, first_no_end, inner_cut, inner_of, inners, inners_are, is_last}
+use Rattle.proof_pieces.proofs.BoundBack.{marked_close, piece_found}
 use Rattle.proof_pieces.proofs.BoundTexts.{bound_stands}
 use Rattle.proof_text.specs.Against.{against_answer, bound_in}
 use Rattle.proof_text.specs.Remembered.{Draft, State}

@@ -1,7 +1,7 @@
-pub mod EmptyFound
+pub mod EmptinessAnswers
 pub mod RankSets
 pub mod RankExact
-pub mod GapsFound
+pub mod DualGaps
 pub mod Numbers
 pub mod ShownParts
 pub mod Accepted
@@ -13,7 +13,7 @@ pub mod RankProblems
 pub mod Writing
 pub mod FunctionReading
 pub mod Groups
-pub mod RankFound
+pub mod RankAnswers
 pub mod Uniqueness
 pub mod ShutSets
 pub mod BlockGoals

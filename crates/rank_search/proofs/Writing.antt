@@ -8,7 +8,7 @@ use Rattle.its_model.specs.Valid.{IsValid}
 use Rattle.guard_prep.proofs.SizeLaws.{rows-are-small}
 use Rattle.guard_prep.proofs.StepLaws.{preparable}
 use Rattle.lp_builder.specs.declared.builder.Builder.{Builder}
-use Rattle.lp_builder.specs.Builders.{parameter_count, row_count, column_count, IsReady, Holds, Adds}
+use Rattle.lp_builder.specs.Builders.{parameter_count, row_count, column_count, AtRowStart, Holds, Adds}
 use Rattle.proof_tree.specs.proof_nodes.AcceptsPlain.{IsRule}
 use Rattle.rule_questions.specs.ProgramQuestions.{forms_in}
 use Rattle.rank_search.proofs.RankProblems.{set_group}
@@ -27,7 +27,7 @@ few p t v i =
 -- the groups of the first i rules are written
 pub record Written (p : Program) (strict : ℕ) (cs : List Coefficient) (n : ℕ) (set : List ℕ) (i : ℕ)
     (b : Builder) : Type 0 where
-  pub ready : IsReady b
+  pub ready : AtRowStart b
   pub holds : Holds b (map (set_group p strict cs) (take i set))
   pub parameters : parameter_count b ≡ n
   pub rows : row_count b ≤ 97 * i
@@ -35,7 +35,7 @@ pub record Written (p : Program) (strict : ℕ) (cs : List Coefficient) (n : ℕ
 
 module _ (p : Program) (strict : ℕ) (cs : List Coefficient) (n : ℕ) (set : List ℕ) where
   -- in a builder that holds the parameters alone the groups of no rule are written
-  pub written-none : (b : Builder) → IsReady b → Holds b [] → parameter_count b ≡ n → row_count b ≡ 0 → column_count b
+  pub written-none : (b : Builder) → AtRowStart b → Holds b [] → parameter_count b ≡ n → row_count b ≡ 0 → column_count b
       ≡ 2 * n
       → Written p strict cs n set 0 b
   written-none b ready holds parameters rows columns = record {

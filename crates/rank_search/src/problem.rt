@@ -6,7 +6,7 @@ ghost use Rattle.simplex_core.specs.linear_forms.RuleQuestions.{rank_question};
 ghost use Rattle.its_model.specs.Valid.{IsValid};
 ghost use Rattle.its_model.specs.Views.{program_of};
 ghost use Rattle.poly_terms.specs.model.Programs.{rule_at};
-ghost use Rattle.lp_builder.specs.Builders.{parameter_count, row_count, column_count, IsReady, Adds};
+ghost use Rattle.lp_builder.specs.Builders.{parameter_count, row_count, column_count, AtRowStart, Adds};
 ghost use Rattle.proof_tree.specs.proof_nodes.AcceptsPlain.{IsRule};
 ghost use Rattle.proof_tree.specs.Composing.{AreRowsOf};
 ghost use Rattle.rank_search.specs.Blocks.{AreBlocks};
@@ -100,7 +100,7 @@ fn add_part(
     requires valid { IsValid (program_of p.now) }
     requires rows { AreRowsOf preps.now (program_of p.now) }
     requires rule { IsRule (program_of p.now) rule }
-    requires ready { IsReady builder.old }
+    requires ready { AtRowStart builder.old }
     requires few { length coefficients.now < 2 ^ 30 }
     requires parameters { parameter_count builder.old ≡ length coefficients.now }
     requires few_rows { row_count builder.old + 97 < 2 ^ 31 }

@@ -3,7 +3,7 @@ use Rattle.std.proofs.Common.{◌≡◌, ◌⊎◌, inl, inr, ℕ, ◌+◌, ◌<
 use Rattle.std.proofs.Common.{Contains, sym, ◌∙◌, ap, arith}
 use Rattle.std.proofs.lemmas.List.{take-append-drop, drop_more}
 use Rattle.model.specs.Paths.{Path, Here, Onward}
-use Rattle.its_graph.specs.Components.{IsMutual, IsListed, IsReady, IsNext, IsListing}
+use Rattle.its_graph.specs.Components.{IsMutual, IsListed, MayComeNext, IsNext, IsListing}
 use Rattle.its_graph.proofs.Elements.{Contains-first, Contains-later, none_in_empty}
 use Rattle.its_graph.proofs.Routes.{path-map, join, edge_then, mutual-self, path-within}
 
@@ -19,7 +19,7 @@ mutual-same Edge Other on a b m = record {
 }
 
 -- what may come next in one may come next in the other
-ready-same : (Edge Other : ℕ → ℕ → Type 0) → Within Edge Other → Within Other Edge → (n : ℕ) (before : List (List ℕ)) (a : ℕ) → IsReady Edge n before a → IsReady Other n before a
+ready-same : (Edge Other : ℕ → ℕ → Type 0) → Within Edge Other → Within Other Edge → (n : ℕ) (before : List (List ℕ)) (a : ℕ) → MayComeNext Edge n before a → MayComeNext Other n before a
 ready-same Edge Other on back n before a h = record {
   node = h.node;
   unlisted = h.unlisted;

@@ -5,16 +5,16 @@ use Rattle.std.specs.Prelude.{IfSome}
 use Rattle.model.specs.Programs.{Program}
 use Rattle.proof_tree.specs.declared.answer.EmptyAnswer.{EmptyAnswer}
 use Rattle.time_bounds.specs.declared.asking.Asked.{Asked}
-use Rattle.time_bounds.specs.Questions.{AnswersQuestion, AreKept}
+use Rattle.time_bounds.specs.Questions.{AnswersQuestion, AreAnsweredFrom}
 
 -- where nothing was asked nothing is kept
-pub none_kept : (p : Program) (pivots : ℕ) (empties : List EmptyAnswer) (k n : ℕ) → AreKept p pivots empties k (replicate n None)
+pub none_kept : (p : Program) (pivots : ℕ) (empties : List EmptyAnswer) (k n : ℕ) → AreAnsweredFrom p pivots empties k (replicate n None)
 none_kept p pivots empties k zero = tt
 none_kept p pivots empties k (suc n) = none_kept p pivots empties (suc k) n
 
 -- a question that is kept of a rule, by what was kept of all
 pub kept_at : (p : Program) (pivots : ℕ) (empties : List EmptyAnswer) (k : ℕ) (kept : List (Option Asked)) (i : ℕ) (a : Asked)
-    → AreKept p pivots empties k kept → i < length kept → Some a ≡ get_or kept i (Some a) → AnswersQuestion p pivots empties (k + i) a
+    → AreAnsweredFrom p pivots empties k kept → i < length kept → Some a ≡ get_or kept i (Some a) → AnswersQuestion p pivots empties (k + i) a
 kept_at p pivots empties k [] i a h l e = absurd (omega (arith, l))
 kept_at p pivots empties k (None ∷ kept) zero a h l e = absurd (let f : ⊥ = cc in f)
 kept_at p pivots empties k (Some b ∷ kept) zero a h l e =
@@ -30,7 +30,7 @@ kept_at p pivots empties k (Some b ∷ kept) (suc i) a h l e =
 
 -- so of whatever was kept of a rule
 pub kept_read : (p : Program) (pivots : ℕ) (empties : List EmptyAnswer) (kept : List (Option Asked)) (i t : ℕ) (o : Option Asked)
-    → AreKept p pivots empties 1 kept → i < length kept → o ≡ get_or kept i o → t ≡ i + 1
+    → AreAnsweredFrom p pivots empties 1 kept → i < length kept → o ≡ get_or kept i o → t ≡ i + 1
     → IfSome o (λ a. AnswersQuestion p pivots empties t a)
 kept_read p pivots empties kept i t None h l e same = tt
 kept_read p pivots empties kept i t (Some a) h l e same =

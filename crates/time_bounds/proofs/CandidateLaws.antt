@@ -33,7 +33,7 @@ use Rattle.bound_rounds.specs.Keys.{key as spot}
 use Rattle.time_bounds.specs.ProgramSizes.{AreLive, IsLocalOf, AreLocals, AreLocalsOf, AreMembers}
 use Rattle.time_bounds.specs.Locals.{AreAnswered}
 use Rattle.time_bounds.specs.Candidates.{spots_in, IsAnswered, AreArms, IsArmed, AreArmed, IsAccepted, AreAccepted}
-use Rattle.time_bounds.specs.Candidates.{HasAccepted, IsCandidate, AreCandidatesOf}
+use Rattle.time_bounds.specs.Candidates.{HasAccepted, IsRightCandidate, AreCandidatesOf}
 use Rattle.time_bounds.proofs.LoneComponents.{lone}
 use Rattle.time_bounds.proofs.PlaceAnswers.{any_answer}
 use Rattle.time_bounds.proofs.RightComponents.{components_of}
@@ -141,7 +141,7 @@ module _ (p : Program) (pivots : ℕ) (valid : IsValid p) (is_live : ℕ → Boo
 
   -- a component with its arms is a candidate
   candidate_of : (x : Component) (c : Candidate) → AreLocalsOf p pivots local (members_of x) → AreSpotsAscending (members_of x)
-      → SaysWhetherItLoops (setting_of p) local x → IsArmed local x c → IsCandidate p pivots local c
+      → SaysWhetherItLoops (setting_of p) local x → IsArmed local x c → IsRightCandidate p pivots local c
   candidate_of x c answered up says armed = record {
     answered = subst (λ (ms : List Spot). AreLocalsOf p pivots local ms) (sym armed.spots_are) answered;
     arms_are =
@@ -182,12 +182,12 @@ module _ (p : Program) (pivots : ℕ) (valid : IsValid p) (is_live : ℕ → Boo
 
       each : (xs : List Component) (ds : List Candidate) → All (λ (c : Component). AreLocalsOf p pivots local (members_of c)) xs
           → All (λ x. AreSpotsAscending (members_of x)) xs → All (SaysWhetherItLoops (setting_of p) local) xs → AreArmed local xs ds
-          → All (IsCandidate p pivots local) ds
-      each [] [] a u s h = All-nil (IsCandidate p pivots local)
+          → All (IsRightCandidate p pivots local) ds
+      each [] [] a u s h = All-nil (IsRightCandidate p pivots local)
       each [] (d ∷ ds) a u s h = absurd h
       each (x ∷ xs) [] a u s h = absurd h
       each (x ∷ xs) (d ∷ ds) a u s h =
-          All-cons (IsCandidate p pivots local) d ds
+          All-cons (IsRightCandidate p pivots local) d ds
           (candidate_of x d (All-head (λ (c : Component). AreLocalsOf p pivots local (members_of c)) x xs a)
           (All-head (λ (x : Component). AreSpotsAscending (members_of x)) x xs u) (All-head (SaysWhetherItLoops (setting_of p) local) x xs s) h.0)
           (each xs ds (All-tail (λ (c : Component). AreLocalsOf p pivots local (members_of c)) x xs a)

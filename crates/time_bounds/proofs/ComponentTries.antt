@@ -43,7 +43,7 @@ use Rattle.time_bounds.specs.declared.candidates.Arms.{Arms}
 use Rattle.time_bounds.specs.declared.candidates.Arms.TheVariants as arms
 use Rattle.time_bounds.specs.declared.sizing.Attempt.{Attempt}
 use Rattle.time_bounds.specs.declared.sizing.Attempt.TheVariants as attempts
-use Rattle.time_bounds.specs.Candidates.{spots_in, AreArms, HasAccepted, IsCandidate}
+use Rattle.time_bounds.specs.Candidates.{spots_in, AreArms, HasAccepted, IsRightCandidate}
 use Rattle.time_bounds.specs.ProgramSizes.{AreMembers, AnswersMembers, AnswersPlaces, lacks_arms}
 use Rattle.time_bounds.specs.ProgramSearches.{searches_of_program}
 use Rattle.time_bounds.specs.Attempts.{why_in, why_armless, attempt_by, finds_by, LacksSize}
@@ -63,16 +63,16 @@ Gives p pivots b c node (answers.Untimed t) = IsSized p pivots b c (Unsized (Siz
 Gives p pivots b c node (answers.Large n) = IsSized p pivots b c (Unsized (SizeLarge n))
 
 -- the arms of a candidate that is looked at
-pub arms_seen : (p : Program) (pivots : ℕ) (local : Locals) (c : Candidate) (x : Arms) → IsCandidate p pivots local c → c.arms ≡ x
+pub arms_seen : (p : Program) (pivots : ℕ) (local : Locals) (c : Candidate) (x : Arms) → IsRightCandidate p pivots local c → c.arms ≡ x
     → AreArms local (spots_in c) (loops (setting_of p) local (spots_in c)) x
 arms_seen p pivots local c x h e = subst (λ (y : Arms). AreArms local (spots_in c) (loops (setting_of p) local (spots_in c)) y) e h.arms_are
 
-accepted_seen : (p : Program) (pivots : ℕ) (local : Locals) (c : Candidate) (x : Arms) → IsCandidate p pivots local c → c.arms ≡ x → HasAccepted p x
+accepted_seen : (p : Program) (pivots : ℕ) (local : Locals) (c : Candidate) (x : Arms) → IsRightCandidate p pivots local c → c.arms ≡ x → HasAccepted p x
 accepted_seen p pivots local c x h e = subst (λ (y : Arms). HasAccepted p y) e h.accepted
 
 -- with the members' arms a component is sized as they are judged
 pub judged : (p : Program) (pivots : ℕ) (local : Locals) (c : Candidate) (b : Bounds) (looping : Bool) (members : List Member)
-    (answer : searches.SizeOutcome) → IsCandidate p pivots local c → lacks_arms local (spots_in c) ≡ None
+    (answer : searches.SizeOutcome) → IsRightCandidate p pivots local c → lacks_arms local (spots_in c) ≡ None
     → loops (setting_of p) local (spots_in c) ≡ looping → AreMembers local (spots_in c) members
     → AnswersMembers looping (setting_of p) (over b) members answer → IsSized p pivots b c answer
 judged p pivots local c b looping members answer h armed turns are by = (
@@ -87,7 +87,7 @@ judged p pivots local c b looping members answer h armed turns are by = (
 
 -- the answer for the only member
 pub spread_gives : (p : Program) (pivots : ℕ) (local : Locals) (c : Candidate) (m : code.Member) (b : Bounds) (a : Sizing)
-    → IsCandidate p pivots local c → c.arms ≡ arms.Alone m → coded.IsSpreadSizing (setting_of p) (over b) (member_of m) a
+    → IsRightCandidate p pivots local c → c.arms ≡ arms.Alone m → coded.IsSpreadSizing (setting_of p) (over b) (member_of m) a
     → Gives p pivots b c (SpreadBy (member_of m)) a
 spread_gives p pivots local c m b a h e says = go a says
   where
@@ -107,7 +107,7 @@ spread_gives p pivots local c m b a h e says = go a says
 
 -- the answer for the members of a loop
 pub cycle_gives : (p : Program) (pivots : ℕ) (local : Locals) (c : Candidate) (ms : Vec code.Member Global) (b : Bounds) (a : Sizing)
-    → IsCandidate p pivots local c → c.arms ≡ arms.Loop ms
+    → IsRightCandidate p pivots local c → c.arms ≡ arms.Loop ms
     → coded.IsCycleSizing (setting_of p) (over b) (map member_of ms.items) a
     → Gives p pivots b c (CycleBy (map member_of ms.items)) a
 cycle_gives p pivots local c ms b a h e says = go a says
@@ -165,7 +165,7 @@ failed_step p pivots old c a h = record {
 
 -- and one with a member without arms
 pub armless : (p : Program) (pivots : ℕ) (local : Locals) (old : List Find) (c : Candidate) (entry : SizeEntry)
-    → IsCandidate p pivots local c → c.arms ≡ arms.Lacking entry → are_open (bounds_of p (finds_of old)) (spots_in c) ≡ true
+    → IsRightCandidate p pivots local c → c.arms ≡ arms.Lacking entry → are_open (bounds_of p (finds_of old)) (spots_in c) ≡ true
     → IsSizeStep p pivots old c attempts.Armless old
 armless p pivots local old c entry h e unsized = record {
   more = [];
@@ -261,14 +261,14 @@ taken p pivots old new c node a x unsized gives is grown =
 
 -- what the search for the size of the only member is given
 pub given_alone : (p : Program) (pivots : ℕ) (local : Locals) (c : Candidate) (m : code.Member) (g : Graph) (preps : List RuleRows)
-    → IsValid p → IsGraphOf g p → AreRowsOf preps p → IsCandidate p pivots local c → c.arms ≡ arms.Alone m → IsMemberOfProgram p g preps (member_of m)
+    → IsValid p → IsGraphOf g p → AreRowsOf preps p → IsRightCandidate p pivots local c → c.arms ≡ arms.Alone m → IsMemberOfProgram p g preps (member_of m)
 given_alone p pivots local c m g preps valid graph rows h e =
     let k = accepted_seen p pivots local c (arms.Alone m) h e in
     record { valid = valid; graph = graph; rows = rows; shape = k.shape; up = k.up; low = k.low }
 
 -- and that for the size of the members of a loop
 pub given_loop : (p : Program) (pivots : ℕ) (local : Locals) (c : Candidate) (ms : Vec code.Member Global) (g : Graph) (preps : List RuleRows)
-    → IsValid p → IsGraphOf g p → AreRowsOf preps p → IsCandidate p pivots local c → c.arms ≡ arms.Loop ms
+    → IsValid p → IsGraphOf g p → AreRowsOf preps p → IsRightCandidate p pivots local c → c.arms ≡ arms.Loop ms
     → AreMembersOfProgram p g preps (map member_of ms.items)
 given_loop p pivots local c ms g preps valid graph rows h e =
     let k = accepted_seen p pivots local c (arms.Loop ms) h e in

@@ -37,7 +37,7 @@ use Rattle.rank_search.specs.RankLaws.{function_of_node, RankedNodesRank, Ranked
 use Rattle.rank_search.proofs.NodeLaws.{nodes-rank}
 use Rattle.rank_search.proofs.Accepted.{nodes-accepted}
 use Rattle.rank_search.proofs.RankExact.{answers-exact}
-use Rattle.rank_search.proofs.GapsFound.{found-holds}
+use Rattle.rank_search.proofs.DualGaps.{found-holds}
 use Rattle.bound_rounds.specs.Searches.{Emptiness, NoPoint, HasPoint, EmptyTripped, Ranking}
 use Rattle.bound_rounds.specs.Right.{EmptyTrips, NoneTrips, IsFirstTrip, IsRightEmptiness, IsRightRanking}
 use Rattle.bound_rounds.specs.Right.{IsQuestion}

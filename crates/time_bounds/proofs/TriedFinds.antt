@@ -24,7 +24,7 @@ use Rattle.time_bounds.specs.declared.asking.Asked.{Asked}
 use Rattle.time_bounds.specs.declared.tried_rules.Tried.{Tried}
 use Rattle.time_bounds.specs.declared.tried_rules.Tried.TheVariants.{Known, Found, Missing}
 use Rattle.time_bounds.specs.ProgramSearches.{searches_of_program}
-use Rattle.time_bounds.specs.Questions.{AreKept}
+use Rattle.time_bounds.specs.Questions.{AreAnsweredFrom}
 use Rattle.time_bounds.specs.TriedRules.{IsTried, AreTried, find_in, finds_in, kept_in, IsAskedOver, AreAskedOver}
 use Rattle.time_bounds.proofs.AnswerLaws.{missing_tells}
 
@@ -91,7 +91,7 @@ module _ (p : Program) (pivots : ℕ) (empties : List EmptyAnswer) (answers : Ar
 
 -- the questions that are kept were answered
 pub kept_asked : (p : Program) (b later : Bounds) (pivots : ℕ) (empties : List EmptyAnswer) (k : ℕ) (asked : List (Option Asked))
-    → AreAskedOver p b later pivots empties k asked → AreKept p pivots empties k asked
+    → AreAskedOver p b later pivots empties k asked → AreAnsweredFrom p pivots empties k asked
 kept_asked p b later pivots empties k [] h = tt
 kept_asked p b later pivots empties k (None ∷ asked) h = kept_asked p b later pivots empties (suc k) asked h.1
 kept_asked p b later pivots empties k (Some a ∷ asked) h =

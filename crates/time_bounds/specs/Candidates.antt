@@ -90,7 +90,7 @@ HasAccepted p (arms.Alone m) = IsAccepted p (member_of m)
 HasAccepted p (arms.Loop members) = AreAccepted p (map member_of members.items)
 
 -- the places are answered so, and have these arms, which are accepted
-pub record IsCandidate (p : Program) (pivots : ℕ) (local : Locals) (c : Candidate) : Type 0 where
+pub record IsRightCandidate (p : Program) (pivots : ℕ) (local : Locals) (c : Candidate) : Type 0 where
   pub answered : AreLocalsOf p pivots local (spots_in c)
   pub arms_are : AreArms local (spots_in c) (loops (setting_of p) local (spots_in c)) c.arms
   pub accepted : HasAccepted p c.arms
@@ -102,4 +102,4 @@ pub record AreCandidatesOf (p : Program) (pivots : ℕ) (cs : List Candidate) : 
   pub local : Locals
   pub locals : AreLocals p pivots is_live local
   pub components : AreComponents (setting_of p) is_live local (map spots_in cs)
-  pub each : All (IsCandidate p pivots local) cs
+  pub each : All (IsRightCandidate p pivots local) cs

@@ -37,7 +37,7 @@ abbrev pub program_in : Context → Program
 program_in cx = program_of cx.program.now
 
 -- the program is valid, and the graph, the rows and the answers are its own
-pub record IsReady (cx : Context) : Type 0 where
+pub record BelongsTogether (cx : Context) : Type 0 where
   pub valid : IsValid (program_in cx)
   pub graph : IsGraphOf cx.graph (program_in cx)
   pub rows : AreRowsOf cx.preps.items (program_in cx)
@@ -78,11 +78,11 @@ pub record IsAsked (p : Program) (b : Bounds) (t : ℕ) (a : Asked) : Type 0 whe
   pub shut : AreShutOf p b a.set.items (places_of a.shut.items)
 
 -- of each rule from k on a question that was answered, or none
-abbrev pub AreKept : Program → ℕ → List EmptyAnswer → ℕ → List (Option Asked) → Type 0
-AreKept p pivots empties k [] = ⊤
-AreKept p pivots empties k (None ∷ kept) = AreKept p pivots empties (suc k) kept
-AreKept p pivots empties k (Some a ∷ kept) =
-    AnswersQuestion p pivots empties k a × AreKept p pivots empties (suc k) kept
+abbrev pub AreAnsweredFrom : Program → ℕ → List EmptyAnswer → ℕ → List (Option Asked) → Type 0
+AreAnsweredFrom p pivots empties k [] = ⊤
+AreAnsweredFrom p pivots empties k (None ∷ kept) = AreAnsweredFrom p pivots empties (suc k) kept
+AreAnsweredFrom p pivots empties k (Some a ∷ kept) =
+    AnswersQuestion p pivots empties k a × AreAnsweredFrom p pivots empties (suc k) kept
 
 -- a table of a program as rounds meet it: it has a time or none of the virtual entry and of each rule; that of the
 -- virtual entry is known, and so is that of each rule whose rows are known to have no point

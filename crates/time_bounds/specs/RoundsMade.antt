@@ -14,7 +14,7 @@ use Rattle.time_bounds.specs.declared.rounds.Kept.{Kept}
 use Rattle.time_bounds.specs.declared.sizing.Attempt.{Attempt}
 use Rattle.time_bounds.specs.Candidates.{spots_in}
 use Rattle.time_bounds.specs.ProgramSearches.{searches_of_program}
-use Rattle.time_bounds.specs.Questions.{AreKept, program_in}
+use Rattle.time_bounds.specs.Questions.{AreAnsweredFrom, program_in}
 use Rattle.time_bounds.specs.EarlierAnswers.{WereAttempts}
 use Rattle.time_bounds.specs.TriedRules.{AreAskedOver}
 
@@ -38,7 +38,7 @@ pub record AreMadeWithTimes (cx : Context) (fs : List Find) : Type 0 where
 -- of each rule a question is kept that was answered, or none; and this was made of components earlier
 pub record AreKeptFor (cx : Context) (cs : List Candidate) (fs : List Find) (kept : Kept) : Type 0 where
   pub one_each : length kept.asked.items ≡ length (program_in cx).rules
-  pub answered : AreKept (program_in cx) cx.pivots cx.empties.items 1 kept.asked.items
+  pub answered : AreAnsweredFrom (program_in cx) cx.pivots cx.empties.items 1 kept.asked.items
   pub first : Bounds
   pub attempts : WereAttempts (program_in cx) cx.pivots first (known_with cx fs) cs kept.attempts.items
 

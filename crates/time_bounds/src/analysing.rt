@@ -13,7 +13,7 @@ ghost use Rattle.time_bounds.specs.AnalysisLemmas.{HasLemmas};
 ghost use Rattle.time_bounds.specs.Candidates.{AreCandidatesOf};
 ghost use Rattle.time_bounds.specs.Fates.{AreFates};
 ghost use Rattle.time_bounds.specs.ProgramSearches.{searches_of_program};
-ghost use Rattle.time_bounds.specs.Questions.{IsReady, program_in};
+ghost use Rattle.time_bounds.specs.Questions.{BelongsTogether, program_in};
 ghost use Rattle.time_bounds.specs.RoundsMade.{AreMade, IsRoundMade};
 ghost use Rattle.time_bounds.specs.Whys.{ReasonsAreTrue};
 
@@ -54,7 +54,7 @@ pub fn analyse(alloc: Global, p: &Program, pivots: u32) -> Result<Outcome, Memor
 
 // What rounds find of the program, and what is said with it.
 fn analysed(cx: &Context) -> Result<Outcome, Memory>
-    requires { IsReady cx.now }
+    requires { BelongsTogether cx.now }
     ensures found { IfOk result (λ o. IsAnalysis (program_in cx.now) cx.now.pivots (report_of o)) }
     ensures gaps { IfOk result (λ o. All (HasItsGap (length o.gaps.items)) o.times.items) }
     ensures lemmas { IfOk result (λ o. HasLemmas (program_in cx.now) cx.now.pivots o) }
@@ -68,7 +68,7 @@ fn analysed(cx: &Context) -> Result<Outcome, Memory>
 
 // The book of what is found before the first round.
 fn first_book(cx: &Context, fates: &[Fate]) -> Result<Book, Memory>
-    requires ready { IsReady cx.now }
+    requires ready { BelongsTogether cx.now }
     requires fates { AreFates (searches_of_program (program_in cx.now) cx.now.pivots) (program_in cx.now) fates.now }
     ensures made { IfOk result (λ book. AreMade cx.now book.finds.items) }
     ensures book { IfOk result (λ book. IsBook (program_in cx.now) book.table book.finds.items) }
@@ -86,7 +86,7 @@ fn said_with(
     book: Book,
     kept: Kept,
 ) -> Result<Outcome, Memory>
-    requires ready { IsReady cx.now }
+    requires ready { BelongsTogether cx.now }
     requires candidates { AreCandidatesOf (program_in cx.now) cx.now.pivots candidates.now }
     requires made { AreMade cx.now book.finds.items }
     requires last { IsRoundMade cx.now candidates.now book.finds.items book.finds.items kept }

@@ -4,7 +4,7 @@ ghost use Rattle.std.specs.Prelude.{◌≡◌, ◌<◌, ◌≤◌, true, IfOk, I
 ghost use Rattle.rank_search.specs.RankAnswers.{IsRuleSet, MayAllRun};
 ghost use Rattle.bound_book.specs.ByKey.{bounds_in};
 ghost use Rattle.time_bounds.specs.Parts.{AreParts};
-ghost use Rattle.time_bounds.specs.Questions.{AnswersQuestion, IsAsked, IsReady, IsSameQuestion, IsTable, program_in};
+ghost use Rattle.time_bounds.specs.Questions.{AnswersQuestion, IsAsked, BelongsTogether, IsSameQuestion, IsTable, program_in};
 
 use crate::context::Context;
 use crate::parts::{OpenSet, Parts, open_set};
@@ -29,7 +29,7 @@ pub(crate) fn ask(
     rule: u32,
     before: Option<Asked>,
 ) -> Result<Asked, Memory>
-    requires ready { IsReady cx.now }
+    requires ready { BelongsTogether cx.now }
     requires table { IsTable (program_in cx.now) table.now cx.now.empties.items }
     requires parts { AreParts (program_in cx.now) table.now parts.old }
     requires untimed { slice_index_or parts.old.untimed.items rule false ≡ true }
@@ -51,7 +51,7 @@ fn answered(
     shut: Vec<(u32, u32)>,
     before: Option<Asked>,
 ) -> Result<Asked, Memory>
-    requires ready { IsReady cx.now }
+    requires ready { BelongsTogether cx.now }
     requires rules { IsRuleSet (program_in cx.now) set.items rule }
     requires may_run { MayAllRun set.items cx.now.empties.items }
     requires kept { IfSome before (λ a. AnswersQuestion (program_in cx.now) cx.now.pivots cx.now.empties.items rule a) }
@@ -108,7 +108,7 @@ fn new_answer(
     set: Vec<u32>,
     shut: Vec<(u32, u32)>,
 ) -> Result<Asked, Memory>
-    requires ready { IsReady cx.now }
+    requires ready { BelongsTogether cx.now }
     requires rules { IsRuleSet (program_in cx.now) set.items rule }
     requires may_run { MayAllRun set.items cx.now.empties.items }
     ensures set { IfOk result (λ a. a.set.items ≡ set.items) }

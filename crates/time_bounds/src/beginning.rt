@@ -6,7 +6,7 @@ ghost use Rattle.proof_tree.specs.Views.{spot_of};
 ghost use Rattle.bound_rounds.specs.Keys.{key};
 ghost use Rattle.bound_rounds.specs.Beginning.{empty_find as empty_find_of, unreached_find as unreached_find_of};
 ghost use Rattle.bound_book.specs.Views.{find_of, finds_of};
-ghost use Rattle.time_bounds.specs.Questions.{IsReady, program_in};
+ghost use Rattle.time_bounds.specs.Questions.{BelongsTogether, program_in};
 ghost use Rattle.time_bounds.specs.Beginning.{empty_here, empty_finds as empty_finds_of, empty_key, empty_keys};
 ghost use Rattle.time_bounds.specs.Beginning.{unreached_here, unreached_finds, sized_find as sized_find_of};
 ghost use Rattle.time_bounds.specs.Beginning.{never_here, never_finds};
@@ -23,7 +23,7 @@ use std::alloc::Global;
 /// What is found before the first round, by the fate of each rule: the time 0 of each rule that is empty, that of each
 /// other one that is unreached, which rests on all empty ones, and the size 0 at each place after both.
 pub(crate) fn first_finds(cx: &Context, fates: &[Fate]) -> Result<Vec<Find>, Memory>
-    requires ready { IsReady cx.now }
+    requires ready { BelongsTogether cx.now }
     requires fates { length fates.now ≡ length cx.now.program.now.rules.items }
     ensures { IfOk result (λ finds. finds_of finds.items ≡ empty_finds_of 1 cx.now.empties.items
         ++ (unreached_finds (empty_keys 1 fates.now) 1 fates.now
@@ -160,7 +160,7 @@ fn unreached_find(alloc: Global, rule: u32, dead: &[Spot]) -> Result<Find, Memor
 
 // A find for the sizes after each rule that never runs and leads to a symbol with a place.
 fn push_never(cx: &Context, finds: &mut Vec<Find>, fates: &[Fate]) -> Result<(), Memory>
-    requires ready { IsReady cx.now }
+    requires ready { BelongsTogether cx.now }
     requires fates { length fates.now ≡ length cx.now.program.now.rules.items }
     ensures { OnOk result (finds_of finds.new.items ≡ finds_of finds.old.items
         ++ never_finds (program_in cx.now) 1 fates.now (program_in cx.now).rules) }

@@ -10,7 +10,7 @@ ghost use Rattle.rvg_components.specs.Listing.{answer_lists, local_from};
 ghost use Rattle.time_bounds.specs.ProgramSearches.{searches_of_program};
 ghost use Rattle.time_bounds.specs.ProgramSizes.{AreMembers, first_reason, loose_reason, trip_reason};
 ghost use Rattle.time_bounds.specs.ProgramSizes.{lacks_arms};
-ghost use Rattle.time_bounds.specs.Questions.{IsReady, program_in};
+ghost use Rattle.time_bounds.specs.Questions.{BelongsTogether, program_in};
 ghost use Rattle.time_bounds.specs.Fates.{AreFates};
 ghost use Rattle.time_bounds.specs.Locals.{answer_in, AreAnswered};
 ghost use Rattle.time_bounds.specs.Candidates.{is_bound, IsMember, IsLone, IsAnswered, AreArms, IsArmsOf};
@@ -48,7 +48,7 @@ pub(crate) enum Arms {
 
 /// The components of the places of live rules, in the order in which they are tried, with the arms of their members.
 pub(crate) fn candidates(cx: &Context, fates: &[Fate]) -> Result<Vec<Candidate>, Memory>
-    requires ready { IsReady cx.now }
+    requires ready { BelongsTogether cx.now }
     requires fates { AreFates (searches_of_program (program_in cx.now) cx.now.pivots) (program_in cx.now) fates.now }
     ensures { IfOk result (λ cs. AreCandidatesOf (program_in cx.now) cx.now.pivots cs.items) }
 {

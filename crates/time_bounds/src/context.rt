@@ -6,7 +6,7 @@ ghost use Rattle.its_model.specs.Valid.{IsValid};
 ghost use Rattle.its_model.specs.Views.{program_of};
 ghost use Rattle.proof_tree.specs.Composing.{AreRowsOf};
 ghost use Rattle.rank_search.specs.rule_questions.EmptyAnswers.{IsPrepared};
-ghost use Rattle.time_bounds.specs.Questions.{AreAnswersFrom, IsReady};
+ghost use Rattle.time_bounds.specs.Questions.{AreAnswersFrom, BelongsTogether};
 
 use guard_prep::{RuleRows, rows};
 use its_graph::Graph;
@@ -35,7 +35,7 @@ pub(crate) fn context_of<'a>(
     pivots: u32,
 ) -> Result<Context<'a>, Memory>
     requires { IsValid (program_of program.now) }
-    ensures ready { IfOk result (λ cx. IsReady cx) }
+    ensures ready { IfOk result (λ cx. BelongsTogether cx) }
     ensures program { IfOk result (λ cx. cx.program.now ≡ program.now) }
     ensures pivots { IfOk result (λ cx. cx.pivots ≡ pivots) }
 {

@@ -3,7 +3,7 @@
 ghost use Rattle.std.specs.Prelude.{◌≡◌, ◌<◌, ◌-◌, ◌^◌, length, IfOk};
 ghost use Rattle.std.specs.List.{All};
 ghost use Rattle.time_bounds.specs.ProgramSearches.{searches_of_program};
-ghost use Rattle.time_bounds.specs.Questions.{IsReady, program_in};
+ghost use Rattle.time_bounds.specs.Questions.{BelongsTogether, program_in};
 ghost use Rattle.time_bounds.specs.Fates.{says_empty, said_empty, fate_of, fates_by, AreFates};
 
 use crate::context::Context;
@@ -25,7 +25,7 @@ pub(crate) enum Fate {
 
 /// The fate of each rule, in order.
 pub(crate) fn fates(cx: &Context) -> Result<Vec<Fate>, Memory>
-    requires ready { IsReady cx.now }
+    requires ready { BelongsTogether cx.now }
     ensures { IfOk result (λ fates. AreFates (searches_of_program (program_in cx.now) cx.now.pivots) (program_in cx.now)
         fates.items) }
 {

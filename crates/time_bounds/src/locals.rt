@@ -8,7 +8,7 @@ ghost use Rattle.rank_search.specs.rule_questions.EmptyAnswers.{IsPrepared, Says
 ghost use Rattle.rvg_components.specs.Listing.{answer_lists};
 ghost use Rattle.time_bounds.specs.declared.fates.Fate.TheVariants.{Live};
 ghost use Rattle.time_bounds.specs.ProgramSearches.{searches_of_program};
-ghost use Rattle.time_bounds.specs.Questions.{IsReady, program_in};
+ghost use Rattle.time_bounds.specs.Questions.{BelongsTogether, program_in};
 ghost use Rattle.time_bounds.specs.Fates.{AreFates};
 ghost use Rattle.time_bounds.specs.Locals.{is_live_fate, AreAnswersAt, AreAnswersAfter, AreAllAnswers};
 
@@ -45,7 +45,7 @@ fn is_live(fate: Fate) -> bool
 /// How large the new value at each place of each live rule can be in one step, rule by rule. Of a rule that never runs
 /// nothing is asked.
 pub(crate) fn all_locals(cx: &Context, fates: &[Fate]) -> Result<Vec<Vec<LocalAnswer>>, Memory>
-    requires ready { IsReady cx.now }
+    requires ready { BelongsTogether cx.now }
     requires fates { AreFates (searches_of_program (program_in cx.now) cx.now.pivots) (program_in cx.now) fates.now }
     ensures { IfOk result (λ locals. AreAllAnswers (program_in cx.now) cx.now.pivots 1 fates.now
         (answer_lists locals.items)) }
@@ -59,7 +59,7 @@ pub(crate) fn all_locals(cx: &Context, fates: &[Fate]) -> Result<Vec<Vec<LocalAn
 
 // The answers for the places of the rule at a position, which has this fate.
 fn locals_after(cx: &Context, position: usize, fate: Fate) -> Result<Vec<LocalAnswer>, Memory>
-    requires ready { IsReady cx.now }
+    requires ready { BelongsTogether cx.now }
     requires position { position < length cx.now.program.now.rules.items }
     requires may_run { (a : EmptyAnswer) → fate ≡ Live → slice_get cx.now.empties.items position ≡ Some a
         → ¬ SaysEmpty a }

@@ -2,7 +2,7 @@
 
 ghost use Rattle.std.specs.Prelude.{◌≡◌, IfOk, OnOk, Some, None, replicate, slice_index_or, true, false};
 ghost use Rattle.time_bounds.specs.Parts.{AreParts, IsOpenSet};
-ghost use Rattle.time_bounds.specs.Questions.{AreUntimed, IsReady, IsTable, program_in};
+ghost use Rattle.time_bounds.specs.Questions.{AreUntimed, BelongsTogether, IsTable, program_in};
 
 use crate::context::Context;
 use crate::sets::{shut_places, untimed_rules};
@@ -31,7 +31,7 @@ pub(crate) struct Parts {
 
 /// The rules that have no time in a table, and the components of their graph; nothing was found of any.
 pub(crate) fn parts_of(cx: &Context, table: &Table) -> Result<Parts, Memory>
-    requires ready { IsReady cx.now }
+    requires ready { BelongsTogether cx.now }
     requires table { IsTable (program_in cx.now) table.now cx.now.empties.items }
     ensures { IfOk result (λ parts. AreParts (program_in cx.now) table.now parts) }
 {
@@ -64,7 +64,7 @@ pub(crate) fn open_set(
     parts: &mut Parts,
     rule: u32,
 ) -> Result<OpenSet, Memory>
-    requires ready { IsReady cx.now }
+    requires ready { BelongsTogether cx.now }
     requires table { IsTable (program_in cx.now) table.now cx.now.empties.items }
     requires parts { AreParts (program_in cx.now) table.now parts.old }
     requires untimed { slice_index_or parts.old.untimed.items rule false ≡ true }
@@ -85,7 +85,7 @@ fn set_of_part(
     rule: u32,
     part: u32,
 ) -> Result<OpenSet, Memory>
-    requires ready { IsReady cx.now }
+    requires ready { BelongsTogether cx.now }
     requires table { IsTable (program_in cx.now) table.now cx.now.empties.items }
     requires parts { AreParts (program_in cx.now) table.now parts.old }
     requires untimed { slice_index_or parts.old.untimed.items rule false ≡ true }
@@ -115,7 +115,7 @@ fn copied_set(alloc: Global, first: &OpenSet) -> Result<OpenSet, Memory>
 
 // The set of a rule without a time, and its shut places, from the graph.
 fn made_set(cx: &Context, table: &Table, untimed: &[bool], rule: u32) -> Result<OpenSet, Memory>
-    requires ready { IsReady cx.now }
+    requires ready { BelongsTogether cx.now }
     requires table { IsTable (program_in cx.now) table.now cx.now.empties.items }
     requires flags { AreUntimed (program_in cx.now) table.now untimed.now }
     requires untimed_rule { slice_index_or untimed.now rule false ≡ true }

@@ -12,7 +12,7 @@ ghost use Rattle.bound_rounds.specs.Keys.{is_untimed};
 ghost use Rattle.size_bounds.specs.Tables.{number_at};
 ghost use Rattle.bound_book.specs.ByKey.{bounds_in};
 ghost use Rattle.time_bounds.specs.ProgramSearches.{searches_of_program};
-ghost use Rattle.time_bounds.specs.Questions.{IsReady, program_in};
+ghost use Rattle.time_bounds.specs.Questions.{BelongsTogether, program_in};
 ghost use Rattle.time_bounds.specs.TriedRules.{IsAskedOver, AreAskedOver, IsMissing, IsGrown};
 ghost use Rattle.time_bounds.specs.TimesSaid.{IsTimeOver, AreTimesOver, IsKnownTime};
 ghost use Rattle.time_bounds.specs.AnalysisLemmas.{CarriesTime, AreGapsInOrder};
@@ -42,7 +42,7 @@ pub(crate) fn said_of(
     table: &Table,
     asked: Vec<Option<Asked>>,
 ) -> Result<Said, Memory>
-    requires ready { IsReady cx.now }
+    requires ready { BelongsTogether cx.now }
     requires start { is_untimed (bounds_in table.now) 0 ≡ false }
     requires asked { AreAskedOver (program_in cx.now) (bounds_in table.now) (bounds_in table.now) cx.now.pivots
         cx.now.empties.items 1 asked.items }
@@ -74,7 +74,7 @@ fn said_by(
     question: Option<Asked>,
     gaps: &mut Vec<Gap>,
 ) -> Result<TimeEntry, Memory>
-    requires ready { IsReady cx.now }
+    requires ready { BelongsTogether cx.now }
     requires start { is_untimed (bounds_in table.now) 0 ≡ false }
     requires rule { (1 ≤ rule) × (rule ≤ length (program_in cx.now).rules) }
     requires asked { IsAskedOver (program_in cx.now) (bounds_in table.now) (bounds_in table.now) cx.now.pivots
@@ -120,7 +120,7 @@ fn no_time(
     asked: Asked,
     gaps: &mut Vec<Gap>,
 ) -> Result<TimeEntry, Memory>
-    requires ready { IsReady cx.now }
+    requires ready { BelongsTogether cx.now }
     requires start { is_untimed (bounds_in table.now) 0 ≡ false }
     requires rule { (1 ≤ rule) × (rule ≤ length (program_in cx.now).rules) }
     requires untimed { is_untimed (bounds_in table.now) rule ≡ true }

@@ -2,7 +2,7 @@
 
 ghost use Rattle.std.specs.Prelude.{◌≡◌, length, [], None, replicate, IfOk, OnOk};
 ghost use Rattle.bound_book.specs.Books.{IsBook};
-ghost use Rattle.time_bounds.specs.Questions.{AreKept, IsReady, program_in};
+ghost use Rattle.time_bounds.specs.Questions.{AreAnsweredFrom, BelongsTogether, program_in};
 ghost use Rattle.time_bounds.specs.Candidates.{AreCandidatesOf};
 ghost use Rattle.time_bounds.specs.RoundsMade.{AreMade, AreKeptFor, AreTimesMade, IsRoundMade};
 
@@ -30,7 +30,7 @@ pub(crate) fn rounds(
     candidates: &[Candidate],
     book: &mut Book,
 ) -> Result<Kept, Memory>
-    requires ready { IsReady cx.now }
+    requires ready { BelongsTogether cx.now }
     requires candidates { AreCandidatesOf (program_in cx.now) cx.now.pivots candidates.now }
     requires made { AreMade cx.now book.old.finds.items }
     requires book { IsBook (program_in cx.now) book.old.table book.old.finds.items }
@@ -56,7 +56,7 @@ fn next_round(
     book: &mut Book,
     kept: Kept,
 ) -> Result<Kept, Memory>
-    requires ready { IsReady cx.now }
+    requires ready { BelongsTogether cx.now }
     requires candidates { AreCandidatesOf (program_in cx.now) cx.now.pivots candidates.now }
     requires made { AreMade cx.now book.old.finds.items }
     requires kept { AreKeptFor cx.now candidates.now book.old.finds.items kept }
@@ -77,10 +77,10 @@ fn times_of_round(
     book: &mut Book,
     before: Vec<Option<Asked>>,
 ) -> Result<Vec<Option<Asked>>, Memory>
-    requires ready { IsReady cx.now }
+    requires ready { BelongsTogether cx.now }
     requires made { AreMade cx.now book.old.finds.items }
     requires one_each { length before.items ≡ length cx.now.program.now.rules.items }
-    requires kept { AreKept (program_in cx.now) cx.now.pivots cx.now.empties.items 1 before.items }
+    requires kept { AreAnsweredFrom (program_in cx.now) cx.now.pivots cx.now.empties.items 1 before.items }
     requires book { IsBook (program_in cx.now) book.old.table book.old.finds.items }
     ensures times { IfOk result (λ asked. AreTimesMade cx.now book.old.finds.items book.new.finds.items asked.items) }
     ensures book { OnOk result (IsBook (program_in cx.now) book.new.table book.new.finds.items) }

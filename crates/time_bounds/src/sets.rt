@@ -7,7 +7,7 @@ ghost use Rattle.its_model.specs.Valid.{IsValid};
 ghost use Rattle.its_model.specs.Views.{program_of};
 ghost use Rattle.rank_search.specs.rule_questions.ProgramQuestions.{places_of};
 ghost use Rattle.size_bounds.specs.Tables.{table_of, is_unstored};
-ghost use Rattle.time_bounds.specs.Questions.{IsReady, program_in};
+ghost use Rattle.time_bounds.specs.Questions.{BelongsTogether, program_in};
 ghost use Rattle.time_bounds.specs.Shutting.{lacks_any, place_if, shut_at, shut_by, shut_from, shut_marked};
 ghost use Rattle.time_bounds.specs.Shutting.{marks_of, put_mark};
 
@@ -36,7 +36,7 @@ pub(crate) fn shut_places(
     table: &Table,
     entering: &[u32],
 ) -> Result<Vec<(u32, u32)>, Memory>
-    requires { IsReady cx.now }
+    requires { BelongsTogether cx.now }
     ensures { IfOk result (λ shut. places_of shut.items
         ≡ shut_from (program_in cx.now) (table_of table.now) entering.now 0 (length cx.now.program.now.symbols.items)) }
 {
@@ -90,7 +90,7 @@ fn push_marked(
     shut: &mut Vec<(u32, u32)>,
     mark: Option<u32>,
 ) -> Result<(), Memory>
-    requires ready { IsReady cx.now }
+    requires ready { BelongsTogether cx.now }
     requires within { IfSome mark (λ a. a < length cx.now.program.now.symbols.items) }
     ensures { OnOk result (places_of shut.new.items ≡ places_of shut.old.items
         ++ shut_marked (program_in cx.now) (table_of table.now) entering.now mark) }
@@ -109,7 +109,7 @@ fn push_entered(
     shut: &mut Vec<(u32, u32)>,
     symbol: u32,
 ) -> Result<(), Memory>
-    requires ready { IsReady cx.now }
+    requires ready { BelongsTogether cx.now }
     requires within { symbol < length cx.now.program.now.symbols.items }
     ensures { OnOk result (places_of shut.new.items ≡ places_of shut.old.items
         ++ shut_by (program_in cx.now) (table_of table.now) entering.now symbol) }

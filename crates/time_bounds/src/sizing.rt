@@ -10,8 +10,8 @@ ghost use Rattle.bound_rounds.specs.Laws.{AreUniform};
 ghost use Rattle.bound_book.specs.ByKey.{bounds_in};
 ghost use Rattle.bound_book.specs.Books.{IsBook, AreOpen};
 ghost use Rattle.bound_book.specs.Views.{finds_of, node_of};
-ghost use Rattle.time_bounds.specs.Questions.{IsReady, program_in};
-ghost use Rattle.time_bounds.specs.Candidates.{IsCandidate, AreCandidatesOf, spots_in};
+ghost use Rattle.time_bounds.specs.Questions.{BelongsTogether, program_in};
+ghost use Rattle.time_bounds.specs.Candidates.{IsRightCandidate, AreCandidatesOf, spots_in};
 ghost use Rattle.time_bounds.specs.Attempts.{IsSizeStep, ArePlacesOf, attempt_by, finds_by as finds_by_of, node_in};
 ghost use Rattle.time_bounds.specs.Attempts.{has_arms};
 ghost use Rattle.time_bounds.specs.EarlierAnswers.{ReasonStands, StandsAt, IsStanding, WereAttempts};
@@ -48,7 +48,7 @@ pub(crate) fn try_components(
     before: &[Attempt],
     book: &mut Book,
 ) -> Result<Vec<Attempt>, Memory>
-    requires ready { IsReady cx.now }
+    requires ready { BelongsTogether cx.now }
     requires candidates { AreCandidatesOf (program_in cx.now) cx.now.pivots candidates.now }
     requires before { (first : Bounds) × WereAttempts (program_in cx.now) cx.now.pivots first
         (known_with cx.now book.old.finds.items) candidates.now before.now }
@@ -107,8 +107,8 @@ fn try_component(
     again: Option<Sizing>,
     book: &mut Book,
 ) -> Result<Attempt, Memory>
-    requires ready { IsReady cx.now }
-    requires candidate { (local : Locals) × IsCandidate (program_in cx.now) cx.now.pivots local candidate.now }
+    requires ready { BelongsTogether cx.now }
+    requires candidate { (local : Locals) × IsRightCandidate (program_in cx.now) cx.now.pivots local candidate.now }
     requires within { ArePlacesOf (program_in cx.now) candidate.now }
     requires uniform { AreUniform (known_with cx.now book.old.finds.items) (spots_in candidate.now) }
     requires again { IfSome again (λ a. IsStanding (program_in cx.now) cx.now.pivots
@@ -129,8 +129,8 @@ fn try_component(
 
 // Tries a component of which a place has no size, by the arms of its members.
 fn try_arms(cx: &Context, candidate: &Candidate, book: &mut Book) -> Result<Attempt, Memory>
-    requires ready { IsReady cx.now }
-    requires candidate { (local : Locals) × IsCandidate (program_in cx.now) cx.now.pivots local candidate.now }
+    requires ready { BelongsTogether cx.now }
+    requires candidate { (local : Locals) × IsRightCandidate (program_in cx.now) cx.now.pivots local candidate.now }
     requires within { ArePlacesOf (program_in cx.now) candidate.now }
     requires uniform { AreUniform (known_with cx.now book.old.finds.items) (spots_in candidate.now) }
     requires lacking { are_open_of (known_with cx.now book.old.finds.items) (spots_in candidate.now) ≡ true }

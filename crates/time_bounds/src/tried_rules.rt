@@ -4,7 +4,7 @@ ghost use Rattle.std.specs.Prelude.{◌≡◌, ◌≤◌, length, IfOk, OnOk, If
 ghost use Rattle.bound_rounds.specs.Keys.{is_untimed};
 ghost use Rattle.bound_book.specs.ByKey.{bounds_in};
 ghost use Rattle.time_bounds.specs.Parts.{AreParts};
-ghost use Rattle.time_bounds.specs.Questions.{AnswersQuestion, IsAsked, AreKept, IsTable, IsReady, program_in};
+ghost use Rattle.time_bounds.specs.Questions.{AnswersQuestion, IsAsked, AreAnsweredFrom, IsTable, BelongsTogether, program_in};
 ghost use Rattle.time_bounds.specs.TriedRules.{IsTried, AreTried};
 
 use crate::asking::{Asked, ask};
@@ -40,10 +40,10 @@ pub(crate) fn try_rules(
     table: &Table,
     before: Vec<Option<Asked>>,
 ) -> Result<Vec<Tried>, Memory>
-    requires ready { IsReady cx.now }
+    requires ready { BelongsTogether cx.now }
     requires table { IsTable (program_in cx.now) table.now cx.now.empties.items }
     requires one_each { length before.items ≡ length cx.now.program.now.rules.items }
-    requires kept { AreKept (program_in cx.now) cx.now.pivots cx.now.empties.items 1 before.items }
+    requires kept { AreAnsweredFrom (program_in cx.now) cx.now.pivots cx.now.empties.items 1 before.items }
     ensures one_each { IfOk result (λ tries. length tries.items ≡ length cx.now.program.now.rules.items) }
     ensures tried { IfOk result (λ tries. AreTried (program_in cx.now) (bounds_in table.now) cx.now.pivots
         cx.now.empties.items 1 tries.items) }
@@ -65,7 +65,7 @@ fn try_rule(
     rule: u32,
     before: Option<Asked>,
 ) -> Result<Tried, Memory>
-    requires ready { IsReady cx.now }
+    requires ready { BelongsTogether cx.now }
     requires table { IsTable (program_in cx.now) table.now cx.now.empties.items }
     requires parts { AreParts (program_in cx.now) table.now parts.old }
     requires rule { (1 ≤ rule) × (rule ≤ length cx.now.program.now.rules.items) }
@@ -83,7 +83,7 @@ fn try_rule(
 
 // What an answer gives: a time where it has a function and the composed time isn't large.
 fn try_answer(cx: &Context, table: &Table, rule: u32, asked: Asked) -> Result<Tried, Memory>
-    requires ready { IsReady cx.now }
+    requires ready { BelongsTogether cx.now }
     requires untimed { is_untimed (bounds_in table.now) rule ≡ true }
     requires asked { IsAsked (program_in cx.now) (bounds_in table.now) rule asked }
     requires answered { AnswersQuestion (program_in cx.now) cx.now.pivots cx.now.empties.items rule asked }

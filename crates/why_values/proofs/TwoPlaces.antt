@@ -2,7 +2,7 @@
 use Rattle.std.proofs.Common.{◌≡◌, ◌⊎◌, inl, inr, ℕ, zero, suc, ◌<◌, ◌≤◌, List, [], ◌∷◌, ◌++◌, refl, sym, ◌∙◌, subst}
 use Rattle.std.proofs.Common.{arith, Contains}
 use Rattle.model.specs.Paths.{Path, Here, Onward}
-use Rattle.its_graph.specs.Components.{IsMutual, IsListed, IsReady, IsNext, IsListing}
+use Rattle.its_graph.specs.Components.{IsMutual, IsListed, MayComeNext, IsNext, IsListing}
 use Rattle.bound_rounds.proofs.Cases.{either}
 use Rattle.bound_rounds.proofs.ListMembers.{contains-cases, contains-none}
 
@@ -87,7 +87,7 @@ module _ (E : ℕ → ℕ → Type 0) (lead : LeadOnward E) where
       low : suc (suc b) < 2 → ⊥
       low l = omega (arith, l)
 
-  later : (a : ℕ) → IsReady E 2 ((0 ∷ []) ∷ []) a → 1 ≤ a
+  later : (a : ℕ) → MayComeNext E 2 ((0 ∷ []) ∷ []) a → 1 ≤ a
   later zero ready = absurd (ready.unlisted first_is_listed)
   later (suc a) ready = omega arith
 

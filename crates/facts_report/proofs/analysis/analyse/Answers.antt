@@ -1,8 +1,8 @@
 use Rattle.its_model.specs.Views.{program_of}
 use Rattle.outcome.specs.Views.{report_of}
 use Rattle.location_facts.specs.Faults.{proofs_of}
-use Rattle.location_facts.proofs.Proved.{facts-hold}
-use Rattle.facts_report.proofs.Finding.{found_with}
+use Rattle.location_facts.proofs.ProvedFacts.{facts-hold}
+use Rattle.facts_report.proofs.StrengthenedReports.{found_with}
 use Rattle.facts_report.proofs.analysis.analyse.Goals as goal
 
 pub strengthen-requires-clause-held : goal.strengthen-requires-clause-held

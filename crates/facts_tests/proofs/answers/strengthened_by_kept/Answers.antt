@@ -1,6 +1,6 @@
 use Rattle.its_model.specs.Views.{program_of}
 use Rattle.location_facts.specs.Faults.{proofs_of}
-use Rattle.location_facts.proofs.Proved.{facts-hold}
+use Rattle.location_facts.proofs.ProvedFacts.{facts-hold}
 use Rattle.facts_tests.proofs.answers.strengthened_by_kept.Goals as goal
 
 -- facts that are kept are proved, and so they are tried and hold

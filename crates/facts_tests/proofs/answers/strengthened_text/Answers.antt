@@ -3,7 +3,7 @@ use Rattle.std.specs.Prelude.{MatchOption}
 use Rattle.its_model.specs.Views.{program_of}
 use Rattle.location_facts.specs.declared.fact.FactFault.{FactFault}
 use Rattle.location_facts.specs.Faults.{proofs_of, AreProved, IsFirstFault}
-use Rattle.location_facts.proofs.Proved.{facts-hold}
+use Rattle.location_facts.proofs.ProvedFacts.{facts-hold}
 use Rattle.facts_tests.proofs.answers.strengthened_text.Goals as goal
 
 -- facts with which nothing is wrong are tried and hold

@@ -7,7 +7,7 @@ use Rattle.its_graph.specs.Groups.{Joins}
 use Rattle.its_graph.specs.Floods.{Painting, Fills, all_painted}
 use Rattle.its_graph.specs.Classes.{Takes}
 use Rattle.its_graph.specs.Naming.{named}
-use Rattle.its_graph.proofs.Painting.{Paints, paints_all}
+use Rattle.its_graph.proofs.PaintedNodes.{Paints, paints_all}
 use Rattle.its_graph.proofs.Naming.{named-each, named-others}
 use Rattle.its_graph.proofs.TakingClasses.{takes}
 use Rattle.its_graph.proofs.Filling.{found-within}

@@ -2,7 +2,7 @@ use Rattle.std.proofs.Common.{◌≡◌, ℕ, ◌<◌, List, All, Contains, leng
 use Rattle.std.proofs.lemmas.List.{get_or_default}
 use Rattle.its_graph.specs.Groups.{values_in, Joins}
 use Rattle.its_graph.specs.Floods.{Painting, painted, all_painted}
-use Rattle.its_graph.proofs.Painting.{Paints, paints_all}
+use Rattle.its_graph.proofs.PaintedNodes.{Paints, paints_all}
 use Rattle.its_graph.proofs.Filling.{filling_begins, filling_goes_on, filling_ends, values-at}
 use Rattle.its_graph.proofs.flood.fill.Goals as goal
 

@@ -1,6 +1,6 @@
 use Rattle.std.proofs.Common.{◌+◌, ◌-◌, length}
 use Rattle.its_graph.specs.Groups.{Joins}
-use Rattle.its_graph.proofs.Painting.{left}
+use Rattle.its_graph.proofs.PaintedNodes.{left}
 use Rattle.its_graph.proofs.Filling.{IsFilling}
 use Rattle.its_graph.proofs.flood.fill.Given as goal
 

@@ -4,7 +4,7 @@ use Rattle.std.proofs.lemmas.Result.{IfOk-weaker}
 use Rattle.its_graph.specs.Groups.{values_in, values_of, Joins, IsPair}
 use Rattle.its_graph.specs.Orders.{IsLeader, Needs, AreLeadersInOrder, AreOrderable, needs_among}
 use Rattle.its_graph.proofs.PairLists.{Pair}
-use Rattle.its_graph.proofs.Needing.{needs-table, needs-keys, orderable, order-by-edges}
+use Rattle.its_graph.proofs.LeaderNeeds.{needs-table, needs-keys, orderable, order-by-edges}
 use Rattle.its_graph.proofs.order.order_of.Goals as goal
 
 -- who needs is within

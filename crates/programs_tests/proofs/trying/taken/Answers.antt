@@ -1,5 +1,5 @@
 use Rattle.its_model.specs.Views.{program_of}
-use Rattle.programs_tests.proofs.Tried.{room_for}
+use Rattle.programs_tests.proofs.TriedPrograms.{room_for}
 use Rattle.programs_tests.proofs.trying.taken.Goals as goal
 
 pub step_checked-answer-requires-clause-room : goal.step_checked-answer-requires-clause-room

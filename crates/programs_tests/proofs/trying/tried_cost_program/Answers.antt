@@ -1,6 +1,6 @@
 use Rattle.std.proofs.Common.{sym, ◌∙◌}
 use Rattle.its_model.specs.Views.{program_of}
-use Rattle.programs_tests.proofs.Tried.{has_cost}
+use Rattle.programs_tests.proofs.TriedPrograms.{has_cost}
 use Rattle.programs_tests.proofs.trying.tried_cost_program.Goals as goal
 
 pub cost_program-requires-clause-costs : goal.cost_program-requires-clause-costs

@@ -5,7 +5,7 @@ use Rattle.simplex_core.specs.linear_forms.Questions.{listed}
 use Rattle.simplex_core.specs.declared.answers.Answer.{Answer}
 use Rattle.simplex_core.specs.Problem.{program_of}
 use Rattle.simplex_core.specs.Trips.{IsWholeAnswer}
-use Rattle.rank_search.proofs.EmptyFound.{solution-room, solution-answer, dual-room, dual-answer, trip-answer}
+use Rattle.rank_search.proofs.EmptinessAnswers.{solution-room, solution-answer, dual-room, dual-answer, trip-answer}
 use Rattle.rank_search.proofs.emptiness.find_empty.Goals as goal
 
 pub multipliers_from-requires : goal.multipliers_from-requires

@@ -1,4 +1,4 @@
-use Rattle.rank_search.proofs.GapsFound.{gaps-found-hold}
+use Rattle.rank_search.proofs.DualGaps.{gaps-found-hold}
 use Rattle.rank_search.proofs.laws.found_gaps_hold.Goals as goal
 
 pub returns : goal.returns

@@ -1,12 +1,12 @@
 use Rattle.std.proofs.Common.{◌≡◌, ◌<◌, ◌^◌, List}
 use Rattle.simplex_core.specs.linear_forms.Questions.{Group}
-use Rattle.lp_builder.specs.Builders.{parameter_count, row_count, column_count, IsReady, Holds}
+use Rattle.lp_builder.specs.Builders.{parameter_count, row_count, column_count, AtRowStart, Holds}
 use Rattle.sample_questions.proofs.parts.problem_of.Given as goal
 
 -- the builder holds some groups, and its rows and columns are counted
 abbrev pub invariant-loop-part : goal.invariant-loop-part
 invariant-loop-part l = record {
-  ready : IsReady l.builder;
+  ready : AtRowStart l.builder;
   held : (gs : List Group) × Holds l.builder gs;
   parameters : parameter_count l.builder ≡ l.parameters;
   rows : row_count l.builder ≡ l.rows;

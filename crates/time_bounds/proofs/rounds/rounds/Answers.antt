@@ -3,7 +3,7 @@ use Rattle.std.proofs.lemmas.List.{length-map, length-replicate}
 use Rattle.its_model.specs.Views.{rule_of}
 use Rattle.time_bounds.specs.declared.asking.Asked.{Asked}
 use Rattle.time_bounds.specs.declared.sizing.Attempt.{Attempt}
-use Rattle.time_bounds.specs.Questions.{AreKept, program_in}
+use Rattle.time_bounds.specs.Questions.{AreAnsweredFrom, program_in}
 use Rattle.time_bounds.specs.RoundsMade.{known_with}
 use Rattle.time_bounds.specs.EarlierAnswers.{WereAttempts}
 use Rattle.time_bounds.proofs.AnsweredQuestions.{none_kept}
@@ -24,7 +24,7 @@ loop-kept-init c =
             ap (λ (os : List (Option Asked)). length os) c.in_ok-kept.ensures.asked ∙ length-replicate c.len.result nothing in
             omega (arith, long, c.len.ensures, cx.program.now.rules.ok.0, length-map cx.program.now.rules.items rule_of);
         answered =
-            subst (λ (os : List (Option Asked)). AreKept (program_in cx) cx.pivots cx.empties.items 1 os)
+            subst (λ (os : List (Option Asked)). AreAnsweredFrom (program_in cx) cx.pivots cx.empties.items 1 os)
             (sym c.in_ok-kept.ensures.asked) (none_kept (program_in cx) cx.pivots cx.empties.items 1 c.len.result);
         first = b;
         attempts =

@@ -9,7 +9,7 @@ use Rattle.bound_book.specs.Views.{finds_of}
 use Rattle.time_bounds.specs.declared.candidates.Candidate.{Candidate}
 use Rattle.time_bounds.specs.declared.sizing.Attempt.{Attempt}
 use Rattle.time_bounds.specs.Attempts.{ArePlacesOf}
-use Rattle.time_bounds.specs.Candidates.{IsCandidate, spots_in}
+use Rattle.time_bounds.specs.Candidates.{IsRightCandidate, spots_in}
 use Rattle.time_bounds.specs.ProgramSearches.{searches_of_program}
 use Rattle.time_bounds.specs.Questions.{program_in}
 use Rattle.time_bounds.specs.RoundsMade.{known_with, AreSizesMade}
@@ -37,7 +37,7 @@ loop-candidate-init c = record {
 pub try_component-requires-clause-candidate : goal.try_component-requires-clause-candidate
 try_component-requires-clause-candidate c = (
   c.requires.candidates.local,
-  subst (λ (x : Candidate). IsCandidate (program_in c.args.cx.now) c.args.cx.now.pivots c.requires.candidates.local x) (sym c.candidate-item.is)
+  subst (λ (x : Candidate). IsRightCandidate (program_in c.args.cx.now) c.args.cx.now.pivots c.requires.candidates.local x) (sym c.candidate-item.is)
       (c.requires.candidates.each c.loop-candidate.candidate-index c.candidate-item.result c.loop-candidate-test.true),
 )
 

@@ -1,6 +1,6 @@
 -- An atom ends where its right side ends before the next piece; elsewhere nothing changes.
 use Rattle.std.proofs.Common.{◌≡◌, Some, sym, ◌∙◌}
-use Rattle.expr_reader.proofs.GuardSettling.{stays, ends}
+use Rattle.expr_reader.proofs.AtomEnds.{stays, ends}
 use Rattle.expr_reader.proofs.guard.GuardReader.settle.Goals as goal
 
 pub returns-then-not-ends_before : goal.returns-then-not-ends_before

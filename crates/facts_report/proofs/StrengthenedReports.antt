@@ -14,7 +14,7 @@ use Rattle.location_facts.specs.Faults.{AreProved}
 use Rattle.location_facts.specs.Kept.{AreKept}
 use Rattle.location_facts.specs.Laws.{AreHeld}
 use Rattle.location_facts.specs.Strengthening.{strengthened_rule, strengthened}
-use Rattle.location_facts.proofs.Proved.{facts-hold}
+use Rattle.location_facts.proofs.ProvedFacts.{facts-hold}
 use Rattle.location_facts.proofs.StrongLaws.{strengthening-changes-no-run}
 use Rattle.time_bounds.specs.Analysis.{IsAnalysis}
 use Rattle.time_bounds.specs.Whys.{ReasonsAreTrue}
