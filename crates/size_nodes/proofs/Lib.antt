@@ -11,7 +11,6 @@ pub mod SpreadAnswers
 -- the members after one rule
 pub mod MembersAfter
 -- lists of the members after each rule
-pub mod RuleLists
 -- the graph and the limits of a member of a loop
 pub mod LoopMembers
 -- parts that are joined

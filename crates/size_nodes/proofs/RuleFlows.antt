@@ -1,6 +1,6 @@
 -- The flows of a loop come by rules, and those of one rule decide what it does.
-use Rattle.std.proofs.Common.{◌≡◌, ℕ, zero, suc, ◌+◌, ◌<◌, ◌≤◌, ◌==◌, ◌&&◌, not, max, Bool, true, false, cond, List, [], ◌∷◌, ◌++◌}
-use Rattle.std.proofs.Common.{length, map, take, drop, get_or, Option, inl, inr, refl, sym, ap, subst, ◌∙◌, arith}
+use Rattle.std.proofs.Common.{◌≡◌, ℕ, zero, suc, ◌+◌, ◌≤◌, ◌==◌, ◌&&◌, not, max, Bool, true, false, cond, List, [], ◌∷◌, ◌++◌}
+use Rattle.std.proofs.Common.{length, map, take, drop, get_or, Option, refl, sym, ap, subst, ◌∙◌, arith}
 use Rattle.std.specs.Prelude.{⊤}
 use Rattle.std.specs.List.{AllAdjacentBelow, AllWithin}
 use Rattle.std.specs.List.Sorted.{IsNonDecreasingBy}
@@ -10,7 +10,7 @@ use Rattle.model.specs.Bounds as plain
 use Rattle.model.specs.Bounds.{MaximumOf, Parts, Part}
 use Rattle.bound_table.specs.InForce.{rewritten}
 use Rattle.model.specs.Paths.{pre}
-use Rattle.proof_tree.specs.proof_nodes.AcceptsSizes.{AreAscending, ComesBefore}
+use Rattle.proof_tree.specs.proof_nodes.AcceptsSizes.{AreAscending}
 use Rattle.proof_tree.specs.proof_nodes.ComposedSizes as flows
 use Rattle.proof_tree.specs.proof_nodes.ComposedSizes.{factor_of, flows_from, flows_into, is_inner, offsets}
 use Rattle.proof_tree.specs.proof_nodes.Known.{is_zero_bound}

@@ -1,5 +1,5 @@
 -- Arms take members neither by coefficients that are 0 nor after rules without members.
-use Rattle.std.proofs.Common.{◌≡◌, ℕ, ◌+◌, ◌≤◌, ◌-◌, ◌/◌, Bool, true, false, cond, List, [], ◌∷◌, length, map, refl, sym, ap, ◌∙◌, arith}
+use Rattle.std.proofs.Common.{◌≡◌, ℕ, ◌+◌, ◌≤◌, ◌-◌, Bool, true, false, cond, List, [], ◌∷◌, length, map, refl, sym, ap, ◌∙◌, arith}
 use Rattle.std.specs.Prelude.{ℤ, pos, nat_abs}
 use Rattle.std.proofs.lemmas.Nat.{div_below}
 use Rattle.proof_tree.specs.proof_nodes.Nodes.{Arm, Linear, Poly}

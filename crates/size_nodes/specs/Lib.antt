@@ -1,7 +1,6 @@
 -- members of a program
 pub mod Members
 -- members by the rules that they are places after
-pub mod ByRule
 -- the sizes that arms need, and the first bound that isn't known
 pub mod Needs
 -- what flows into the members of a loop

@@ -12,7 +12,7 @@ ghost use Rattle.size_nodes.specs.BentArms.{is_bent_arm, is_bent_from, is_bent_o
 ghost use Rattle.size_nodes.specs.BentArms.{first_bent as first_bent_of};
 ghost use Rattle.size_nodes.specs.Members.{IsMemberIn, AreMembersIn};
 
-use crate::members::Cycle;
+use crate::members::LoopMembers;
 use crate::transitions::Transitions;
 use crate::updates::poly_at;
 use poly_terms::{Monomial, Poly};
@@ -59,7 +59,7 @@ fn is_bent(arm: &Arm, poly: Option<&Poly>, members: &[Member], rule: u32) -> boo
 }
 
 // Whether one of both arms is, after a rule. Of the members only those after it are looked at.
-fn is_bent_bound(local: &LocalBound, poly: Option<&Poly>, cycle: &Cycle, rule: u32) -> bool
+fn is_bent_bound(local: &LocalBound, poly: Option<&Poly>, cycle: &LoopMembers, rule: u32) -> bool
     requires { HasFewPlaces poly }
     ensures { result ≡ is_bent_from (optional_poly poly.entry) (map member_of cycle.now.members.now)
         (local_of local.now) rule }
@@ -69,7 +69,12 @@ fn is_bent_bound(local: &LocalBound, poly: Option<&Poly>, cycle: &Cycle, rule: u
 }
 
 // Whether one of both arms is, after one of these rules.
-fn is_bent_after(local: &LocalBound, poly: Option<&Poly>, cycle: &Cycle, before: &[u32]) -> bool
+fn is_bent_after(
+    local: &LocalBound,
+    poly: Option<&Poly>,
+    cycle: &LoopMembers,
+    before: &[u32],
+) -> bool
     requires { HasFewPlaces poly }
     ensures { result ≡ is_bent_over (optional_poly poly.entry) (map member_of cycle.now.members.now)
         (local_of local.now) before.now }
@@ -84,7 +89,7 @@ fn is_bent_after(local: &LocalBound, poly: Option<&Poly>, cycle: &Cycle, before:
 }
 
 // Whether one of both arms of a member is, after what can come before it.
-fn is_bent_member(transitions: &Transitions, cycle: &Cycle, member: &Member) -> bool
+fn is_bent_member(transitions: &Transitions, cycle: &LoopMembers, member: &Member) -> bool
     requires { (p : Program) × IsMemberIn p transitions.now (member_of member.now) }
     ensures { (p : Program) → IsMemberIn p transitions.now (member_of member.now)
         → result ≡ is_bent_by (setting_of p) (map member_of cycle.now.members.now) (member_of member.now) }
@@ -99,7 +104,7 @@ fn is_bent_member(transitions: &Transitions, cycle: &Cycle, member: &Member) -> 
 }
 
 /// The first member with a polynomial arm that reads a member, after what can come before it.
-pub(crate) fn first_bent(transitions: &Transitions, cycle: &Cycle) -> Option<Spot>
+pub(crate) fn first_bent(transitions: &Transitions, cycle: &LoopMembers) -> Option<Spot>
     requires { (p : Program) × AreMembersIn p transitions.now (map member_of cycle.now.members.now) }
     ensures { (p : Program) → AreMembersIn p transitions.now (map member_of cycle.now.members.now)
         → option_map spot_of result ≡ first_bent_of (setting_of p) (map member_of cycle.now.members.now) (map member_of

@@ -17,7 +17,7 @@ ghost use Rattle.proof_tree.specs.Views.{arm_of, member_of};
 ghost use Rattle.size_nodes.specs.Flows.{IsLimited, flow_of, flow_over, flows_over};
 ghost use Rattle.size_nodes.specs.Members.{IsMemberIn, AreMembersIn};
 
-use crate::members::Cycle;
+use crate::members::LoopMembers;
 use crate::transitions::Transitions;
 use crate::updates::poly_at;
 use bound_expr::{Bound, Memory};
@@ -40,7 +40,7 @@ pub(crate) struct Flow {
 #[derive(Drop)]
 pub(crate) struct Scope<'a, 'b, K> {
     pub known: &'a K,
-    pub cycle: &'a Cycle<'b>,
+    pub cycle: &'a LoopMembers<'b>,
 }
 
 // A rule before a member, with the members that are places after it.

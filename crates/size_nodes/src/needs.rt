@@ -9,7 +9,7 @@ ghost use Rattle.proof_tree.specs.Views.{member_of, spot_of};
 ghost use Rattle.size_nodes.specs.Needs.{spots_outside, spots_from};
 ghost use Rattle.size_nodes.specs.Members.{IsMemberIn, AreMembersIn};
 
-use crate::members::Cycle;
+use crate::members::LoopMembers;
 use crate::transitions::Transitions;
 use crate::updates::poly_at;
 use bound_expr::Memory;
@@ -58,7 +58,7 @@ fn push_outside(
     spots: &mut Vec<Spot>,
     rule: u32,
     places: &[u32],
-    cycle: &Cycle,
+    cycle: &LoopMembers,
 ) -> Result<(), Memory>
     requires { All (λ j. j < 2 ^ 31) places.now }
     ensures { OnOk result (map spot_of spots.new.items
@@ -73,7 +73,7 @@ fn push_from(
     up: &[u32],
     low: &[u32],
     before: &[u32],
-    cycle: &Cycle,
+    cycle: &LoopMembers,
 ) -> Result<(), Memory>
     requires up { All (λ j. j < 2 ^ 31) up.now }
     requires low { All (λ j. j < 2 ^ 31) low.now }
@@ -98,7 +98,7 @@ pub(crate) fn push_needed(
     spots: &mut Vec<Spot>,
     transitions: &Transitions,
     m: &Member,
-    cycle: &Cycle,
+    cycle: &LoopMembers,
 ) -> Result<(), Memory>
     requires { (p : Program) × IsMemberIn p transitions.now (member_of m.now) }
     ensures { OnOk result ((p : Program) → IsMemberIn p transitions.now (member_of m.now)
@@ -120,7 +120,7 @@ pub(crate) fn push_needed(
 pub(crate) fn needed_spots(
     alloc: Global,
     transitions: &Transitions,
-    cycle: &Cycle,
+    cycle: &LoopMembers,
 ) -> Result<Vec<Spot>, Memory>
     requires { (p : Program) × AreMembersIn p transitions.now (map member_of cycle.now.members.now) }
     ensures { IfOk result (λ spots. (p : Program) → AreMembersIn p transitions.now (map member_of cycle.now.members.now)
@@ -148,7 +148,7 @@ pub(crate) fn needed_alone(
     ensures { IfOk result (λ spots. (p : Program) → IsMemberIn p transitions.now (member_of m.now)
         → map spot_of spots.items ≡ needed_into (setting_of p) [] (member_of m.now ∷ [])) }
 {
-    let nothing = Cycle::new(alloc, &[])?;
+    let nothing = LoopMembers::new(&[]);
     let mut spots = Vec::new(alloc);
     push_needed(alloc, &mut spots, transitions, m, &nothing)?;
     Ok(spots)

@@ -18,7 +18,7 @@ use crate::bent::first_bent;
 use crate::flow::{Flow, Scope, flows_in};
 use crate::growth::{FlowKind, Growth, growing_rules, growths_by, maximum_offset};
 use crate::loop_bound::loop_bound;
-use crate::members::Cycle;
+use crate::members::LoopMembers;
 use crate::missing::{first_missing, first_untimed};
 use crate::needs::{needed_alone, needed_spots};
 use crate::rules::rules_in;
@@ -113,7 +113,7 @@ pub fn sized_cycle<K: Known>(
         graph: g,
         rows: preps,
     };
-    let cycle = Cycle::new(alloc, members)?;
+    let cycle = LoopMembers::new(members);
     sized_members(alloc, &transitions, known, &cycle)
 }
 
@@ -122,7 +122,7 @@ fn sized_members<K: Known>(
     alloc: Global,
     transitions: &Transitions,
     known: &K,
-    cycle: &Cycle,
+    cycle: &LoopMembers,
 ) -> Result<Sizing, Memory>
     requires { (p : Program) × AreMembersIn p transitions.now (map member_of cycle.now.members.now) }
     ensures { IfOk result (λ a. (p : Program) → AreMembersIn p transitions.now (map member_of cycle.now.members.now)

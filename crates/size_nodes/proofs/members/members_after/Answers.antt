@@ -4,16 +4,16 @@ use Rattle.std.proofs.lemmas.List.Sorted.{IsNonDecreasingBy-drop}
 use Rattle.proof_tree.specs.proof_nodes.ComposedSizes.{is_member}
 use Rattle.proof_tree.specs.declared.arm.Member.{Member}
 use Rattle.proof_tree.specs.Views.{member_of}
-use Rattle.size_nodes.proofs.MembersAfter.{rules-ascend, behind-lesser, before-greater}
+use Rattle.size_nodes.proofs.MembersAfter.{behind-lesser, before-greater}
 use Rattle.size_nodes.proofs.members.members_after.Goals as goal
 
 pub count_below-requires : goal.count_below-requires
-count_below-requires c = rules-ascend c.args.members.now c.requires
+count_below-requires c = c.requires
 
 pub count_below-requires-2 : goal.count_below-requires-2
 count_below-requires-2 c =
     subst (IsNonDecreasingBy (λ (m : Member). m.spot.rule)) (sym c.split_at.ensures.back)
-    (IsNonDecreasingBy-drop (λ (m : Member). m.spot.rule) c.count_below.result c.args.members.now (rules-ascend c.args.members.now c.requires))
+    (IsNonDecreasingBy-drop (λ (m : Member). m.spot.rule) c.count_below.result c.args.members.now c.requires)
 
 pub returns : goal.returns
 returns c =

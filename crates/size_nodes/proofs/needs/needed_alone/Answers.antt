@@ -13,6 +13,6 @@ returns c = λ p given.
     let m = member_of c.args.m.now in
     c.in_ok-push_needed.ensures p given
     ∙ (ap (λ (spots : List Spot). map spot_of spots
-    ++ needed_from (setting_of p) (map member_of c.in_ok-nothing.nothing.members.now) m (pre p m.spot.rule)) c.new-spots.ensures.items
-    ∙ (ap (λ (ms : List Member). needed_from (setting_of p) (map member_of ms) m (pre p m.spot.rule)) c.in_ok-nothing.ensures
+    ++ needed_from (setting_of p) (map member_of c.new-nothing.result.members.now) m (pre p m.spot.rule)) c.new-spots.ensures.items
+    ∙ (ap (λ (ms : List Member). needed_from (setting_of p) (map member_of ms) m (pre p m.spot.rule)) c.new-nothing.ensures
     ∙ sym (append-nil (needed_from (setting_of p) [] m (pre p m.spot.rule)))))

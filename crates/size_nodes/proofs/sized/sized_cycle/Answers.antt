@@ -12,7 +12,7 @@ pub sized_members-requires : goal.sized_members-requires
 sized_members-requires g c = (
   c.requires.0,
   subst (λ (ms : List Member). AreMembersOfProgram c.requires.0 c.args.g.now c.args.preps.now (map member_of ms))
-      (sym c.in_ok-cycle.ensures) c.requires.1,
+      (sym c.new-cycle.ensures) c.requires.1,
 )
 
 pub returns : goal.returns
@@ -20,4 +20,4 @@ returns g c =
     subst (λ (ms : List Member). IfOk c.sized_members.result (λ a. (p : Program)
     → AreMembersOfProgram p c.args.g.now c.args.preps.now (map member_of ms)
     → IsCycleSizing (setting_of p) (g.K.Known.table c.args.known.now) (map member_of ms) a))
-    c.in_ok-cycle.ensures c.sized_members.ensures
+    c.new-cycle.ensures c.sized_members.ensures
