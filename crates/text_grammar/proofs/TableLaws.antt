@@ -20,6 +20,12 @@ better-better (Passes ms) (Passes ns) Stuck = refl
 better-better (Passes ms) Stuck j = refl
 better-better Stuck k j = refl
 
+-- a lead is better than none
+pub better-none : (l : Lead) → better l Stuck ≡ l
+better-none (Matches ms rest) = refl
+better-none (Passes ms) = refl
+better-none Stuck = refl
+
 -- an element of a list with one more at its end: one of the others, or that one
 pub at_pushed : {X : Type 0} (xs : List X) (x d : X) (i : ℕ) → i < length xs + 1 → ((i < length xs) × (slice_index_or (xs ++ x ∷ []) i d ≡ slice_index_or xs i d)) ⊎ ((i ≡ length xs) × (slice_index_or (xs ++ x ∷ []) i d ≡ x))
 at_pushed [] x d zero h = inr (refl, refl)

@@ -78,9 +78,6 @@ fn lead_of_body(
 ) -> Result<Entry, AllocError>
     ensures { IfOk result (λ e. lead_of e ≡ lead class (leads_of row.now) body.now) }
 {
-    if is_refused_at_once(row, class, body) {
-        return Ok(Entry::Stuck);
-    }
     let mut rest = stack_of(alloc, body)?;
     let mut marks = Vec::new(alloc);
     Ok(match meet(&mut rest, &mut marks, row, class)? {
@@ -113,7 +110,9 @@ fn lead_of_bodies(
 {
     let mut found = Entry::Stuck;
     for body in bodies {
-        found = better_of(found, lead_of_body(alloc, row, class, body)?);
+        if !is_refused_at_once(row, class, body) {
+            found = better_of(found, lead_of_body(alloc, row, class, body)?);
+        }
     }
     Ok(found)
 }
