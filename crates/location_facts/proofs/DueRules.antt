@@ -1,23 +1,18 @@
 -- Rules under a list of facts, where they are due: at which of them nothing went, and what is told of a fact by each.
-use Rattle.std.proofs.Common.{◌≡◌, ◌⊎◌, inl, inr, ℕ, zero, suc, ◌+◌, ◌-◌, ◌<◌, ◌≤◌, ap, arith, refl, sym, ◌∙◌, subst}
+use Rattle.std.proofs.Common.{◌≡◌, ◌≢◌, ◌⊎◌, inl, inr, ℕ, zero, suc, ◌+◌, ◌-◌, ◌<◌, ◌≤◌, ap, arith, refl, sym, ◌∙◌, subst}
 use Rattle.std.proofs.Common.{List, [], ◌∷◌, ◌++◌, length, length-append, map, get_or, Option, Some, None, Bool, true, false, replicate}
 use Rattle.std.proofs.Common.{if◌then◌else◌}
 use Rattle.std.proofs.Common.{option_map}
-use Rattle.std.specs.Prelude.{slice_get, nat_eq, pos, Vec}
+use Rattle.std.specs.Prelude.{slice_get, nat_eq, Vec}
 use Rattle.std.specs.declared.alloc.Global.{Global}
 use Rattle.std.proofs.lemmas.Bool.{cases_lt}
 use Rattle.std.proofs.lemmas.List.Elements.{All-get_or}
-use Rattle.std.proofs.lemmas.List.{length-map}
-use Rattle.std.proofs.lemmas.Option.{slice_get_within, slice_get-map, slice_get_past, get_or_from_slice_get}
-use Rattle.poly_terms.specs.linear_forms.Certificates.{Implies, minus_one}
-use Rattle.poly_terms.specs.linear_forms.Combinations.{form_times}
+use Rattle.std.proofs.lemmas.Option.{slice_get_within, slice_get-map, get_or_from_slice_get}
 use Rattle.poly_terms.specs.linear_forms.Forms.{Form}
-use Rattle.poly_terms.specs.linear_forms.Limits.{certificate_limit}
 use Rattle.poly_terms.specs.linear_forms.RuleQuestions.{RuleForms}
 use Rattle.poly_terms.specs.model.Programs as plain
 use Rattle.poly_terms.specs.Views.{form_of}
 use Rattle.poly_terms.proofs.model.Cases.{some_same, slice_get-there}
-use Rattle.farkas_cert.specs.Sizes.{AreWithinLimit}
 use Rattle.proof_tree.specs.Composing.{AreRowsOf}
 use Rattle.proof_tree.specs.guard_prep.declared.rule_rows.RuleRows.{RuleRows}
 use Rattle.proof_tree.specs.guard_prep.Prepared.{prepared}
@@ -25,20 +20,17 @@ use Rattle.proof_tree.specs.guard_prep.Views.{prepared_of}
 use Rattle.rule_questions.specs.ProgramQuestions.{forms_in, forms_at}
 use Rattle.location_facts.specs.declared.fact.LocFact.{LocFact}
 use Rattle.location_facts.specs.declared.fact.FactProof.{FactProof}
-use Rattle.location_facts.specs.declared.fact.LocFacts.{LocFacts}
-use Rattle.location_facts.specs.declared.fact.FactProof.TheVariants.{Empty, Implied}
 use Rattle.location_facts.specs.declared.implied.Answered.{Answered}
 use Rattle.location_facts.specs.declared.implied.Under.{Under}
 use Rattle.location_facts.specs.Certificates.{IsWithinLimit}
-use Rattle.location_facts.specs.Faults.{proofs_of, rules_into, ShowsFact}
+use Rattle.location_facts.specs.Faults.{rules_into}
 use Rattle.location_facts.specs.Implied.{TellsEmpty, TellsGoal, HasProofs, AreProofsUnder, proof_in}
 use Rattle.location_facts.specs.Kept.{HasThose, IsNext, IsImpliedByAll}
-use Rattle.location_facts.specs.declared.implied.Answered.TheVariants as answers
 use Rattle.location_facts.specs.declared.rules.Wanted.{Wanted}
 use Rattle.location_facts.specs.declared.rules.Wanted.TheVariants.{Nothing, Facts, Everything}
-use Rattle.location_facts.specs.Due.{IsSameProof, IsCopyOf, AreDue, IsWanted, HasKnownPoint, TellsRule, IsUnderIfDue, AreUnder}
-use Rattle.location_facts.specs.Due.{HasRows, TellsEarlier, TellsAgain, Stands, AllStand, listed_at, listed_in}
-use Rattle.location_facts.specs.Pointed.{HasPoint, ArePointed}
+use Rattle.location_facts.specs.Due.{AreDue, IsWanted, HasKnownPoint, TellsRule, IsUnderIfDue, AreUnder}
+use Rattle.location_facts.specs.Due.{HasRows, TellsEarlier, TellsAgain, Stands, AllStand, lists_of, listed_at, listed_in}
+use Rattle.location_facts.specs.Pointed.{HasPoint}
 use Rattle.location_facts.specs.Rows.{row_before, row_after, facts_at, combined}
 use Rattle.location_facts.proofs.KeptLists.{those-all, those-keep}
 use Rattle.location_facts.proofs.RoundSteps.{slice-last, slice-before, implied-at}
@@ -70,37 +62,16 @@ module _ (Keeps : LocFact → Type 0) (s : ℕ) where
   nothing-went facts those h e = those-all Keeps (facts_at s facts) (facts_at s those) (those-at facts those h) (sym e)
 
 module _ (pivots n : ℕ) (rows : List Form) (goal : Form) where
-  -- what a proof shows its copy shows
-  pub copy-told : (a b : FactProof) → IsSameProof a b → TellsGoal pivots n rows goal (Some a)
-      → TellsGoal pivots n rows goal (Some b)
-  copy-told (Empty a) (Empty b) same (implied, within, shows) = (
-    implied,
-    subst AreWithinLimit (sym same) within,
-    subst (λ (ms : List ℕ). Implies rows ms minus_one) (sym same) shows,
-  )
-  copy-told (Empty a) (Implied b e) h told = absurd h
-  copy-told (Implied a d) (Empty b) h told = absurd h
-  copy-told (Implied a d) (Implied b e) (same, den) (implied, within, shows) = (
-    implied,
-    subst (λ (ms : List ℕ). AreWithinLimit ms × (1 ≤ e) × (e ≤ certificate_limit)) (sym same)
-        (subst (λ (k : ℕ). AreWithinLimit a.items × (1 ≤ k) × (k ≤ certificate_limit)) (sym den) within),
-    subst (λ (ms : List ℕ). Implies rows ms (form_times (pos e) goal)) (sym same)
-        (subst (λ (k : ℕ). Implies rows a.items (form_times (pos k) goal)) (sym den) shows),
-  )
-
-  -- so does the answer that is its copy
-  pub copied-told : (earlier : Option FactProof) (a : Answered) → IsCopyOf earlier a
-      → TellsEarlier pivots n rows goal earlier → TellsGoal pivots n rows goal (proof_in a)
-  copied-told None a copied told = absurd told
-  copied-told (Some b) (answers.Shown copy) copied told = copy-told b copy copied told
-  copied-told (Some b) (answers.Against z) copied told = absurd copied
-  copied-told (Some b) answers.Missed copied told = absurd copied
-
-  -- of a rule that isn't under a list it is told so
-  pub told-none : (o : Option Under) (earlier : Option FactProof) (a : Answered) → o ≡ None → IsCopyOf earlier a
-      → TellsAgain pivots n rows goal o earlier → TellsGoal pivots n rows goal (proof_in a)
-  told-none o earlier a e copied told =
-      copied-told earlier a copied (subst (λ (w : Option Under). TellsAgain pivots n rows goal w earlier) e told)
+  -- of a rule that isn't under a list it is told by the earlier proof
+  pub told-none : (o : Option Under) (earlier x : Option FactProof) → o ≡ None → x ≡ earlier
+      → TellsAgain pivots n rows goal o earlier → TellsGoal pivots n rows goal x
+  told-none o earlier x e same told =
+      subst (TellsGoal pivots n rows goal) (sym same)
+      (go earlier (subst (λ (w : Option Under). TellsAgain pivots n rows goal w earlier) e told))
+    where
+      go : (y : Option FactProof) → TellsEarlier pivots n rows goal y → TellsGoal pivots n rows goal y
+      go None h = absurd h
+      go (Some proof) h = h
 
   -- and what is told over the rows of a list is told over these
   pub again-told : (u : Under) (earlier o : Option FactProof) → TellsAgain pivots n rows goal (Some u) earlier
@@ -223,16 +194,18 @@ pub told-answer : (p : plain.Program) (preps : List RuleRows) (pivots : ℕ) (du
     (a b : Answered) → a ≡ b → AreRowsOf preps p → into ≡ rules_into p f.symbol → k < length into → t ≡ get_or into k t
     → (1 ≤ t) × (t ≤ length p.rules) → m ≡ get_or preps (t - 1) m
     → IsUnderIfDue pivots (forms_at p t) (slice_get due (t - 1)) kept o → Stands p pivots due kept f ps
-    → ((rows : List Form) → TellsAgain pivots m.unknowns rows (row_after (map form_of m.news.items) f) o (slice_get ps k)
+    → (earlier : Option FactProof) → earlier ≡ slice_get ps k
+    → ((rows : List Form) → TellsAgain pivots m.unknowns rows (row_after (map form_of m.news.items) f) o earlier
     → TellsGoal pivots m.unknowns rows (row_after (map form_of m.news.items) f) (proof_in a))
     → TellsGoal pivots (forms_at p t).unknowns (combined (forms_at p t) kept) (row_after (forms_at p t).news f)
     (proof_in b)
-told-answer p preps pivots due kept f ps into k t m o a b same are e l g within at-m is stand told =
+told-answer p preps pivots due kept f ps into k t m o a b same are e l g within at-m is stand earlier taken told =
     subst (λ (y : Answered). TellsGoal pivots (forms_at p t).unknowns (combined (forms_at p t) kept)
     (row_after (forms_at p t).news f) (proof_in y)) same
-    (told-later p preps pivots (slice_get due (t - 1)) kept t m o f (slice_get ps k) (proof_in a) are within at-m is
-    (stand.each k t (read (rules_into p f.symbol) k t (subst (λ (ts : List ℕ). k < length ts) e l)
-    (subst (λ (ts : List ℕ). t ≡ get_or ts k t) e g))) told)
+    (told-later p preps pivots (slice_get due (t - 1)) kept t m o f earlier (proof_in a) are within at-m is
+    (λ not. subst (λ (x : Option FactProof). TellsEarlier pivots (forms_at p t).unknowns (combined (forms_at p t) kept)
+    (row_after (forms_at p t).news f) x) (sym taken) (stand.each k t (read (rules_into p f.symbol) k t (subst (λ (ts : List ℕ). k < length ts) e l)
+    (subst (λ (ts : List ℕ). t ≡ get_or ts k t) e g)) not)) told)
 
 -- where no list came before, each rule is due, so nothing has to stand
 pub all-due : (p : plain.Program) (pivots n : ℕ) (due : List Bool) (kept : List LocFact) (proofs : List (List FactProof))
@@ -321,13 +294,28 @@ due-pushed p old new due more i r b many are there same made = record {
         subst (λ (x : plain.Rule). length (facts_at x.source old) ≡ length (facts_at x.source new)) rule (same not)
 
 -- the proofs that are listed at a position, where there are some and where there are none
-pub listed-there : (found : LocFacts) (i : ℕ) (v : Vec FactProof Global) → slice_get found.proofs.items i ≡ Some v
-    → v.items ≡ listed_at (proofs_of found) i
-listed-there found i v e =
-    sym (ap (λ (o : Option (List FactProof)). listed_in o) (slice_get-map (λ (w : Vec FactProof Global). w.items) found.proofs.items i
+pub listed_there : (lists : List (Vec FactProof Global)) (i : ℕ) (v : Vec FactProof Global)
+    → slice_get lists i ≡ Some v → v.items ≡ listed_at (lists_of lists) i
+listed_there lists i v e =
+    sym (ap (λ (o : Option (List FactProof)). listed_in o) (slice_get-map (λ (w : Vec FactProof Global). w.items) lists i
     ∙ ap (λ (o : Option (Vec FactProof Global)). option_map (λ (w : Vec FactProof Global). w.items) o) e))
 
-pub listed-missing : (found : LocFacts) (i : ℕ) → length found.proofs.items ≤ i → [] ≡ listed_at (proofs_of found) i
-listed-missing found i l =
-    sym (ap (λ (o : Option (List FactProof)). listed_in o) (slice_get_past (proofs_of found) i
-    (let a = length-map found.proofs.items (λ (w : Vec FactProof Global). w.items) in omega (arith, a, l))))
+pub listed_missing : (lists : List (Vec FactProof Global)) (i : ℕ) → slice_get lists i ≡ None
+    → [] ≡ listed_at (lists_of lists) i
+listed_missing lists i e =
+    sym (ap (λ (o : Option (List FactProof)). listed_in o) (slice_get-map (λ (w : Vec FactProof Global). w.items) lists i
+    ∙ ap (λ (o : Option (Vec FactProof Global)). option_map (λ (w : Vec FactProof Global). w.items) o) e))
+
+-- two lists that have the same at a position
+pub listed-same : (lists others : List (Vec FactProof Global)) (i : ℕ) → slice_get lists i ≡ slice_get others i
+    → listed_at (lists_of lists) i ≡ listed_at (lists_of others) i
+listed-same lists others i e =
+    ap (λ (o : Option (List FactProof)). listed_in o) (slice_get-map (λ (w : Vec FactProof Global). w.items) lists i
+    ∙ (ap (λ (o : Option (Vec FactProof Global)). option_map (λ (w : Vec FactProof Global). w.items) o) e
+    ∙ sym (slice_get-map (λ (w : Vec FactProof Global). w.items) others i)))
+
+-- where one is taken out, those behind it are as they were
+pub rest-same : {X : Type 0} (old new first : List X) (i : ℕ) → ((j : ℕ) → i ≤ j → slice_get old j ≡ slice_get first j)
+    → ((j : ℕ) → j ≢ i → slice_get new j ≡ slice_get old j) → (j : ℕ) → i + 1 ≤ j → slice_get new j ≡ slice_get first j
+rest-same old new first i same others j l =
+    others j (λ e. absurd (let no : ⊥ = omega (arith, l, e) in no)) ∙ same j (omega (arith, l))

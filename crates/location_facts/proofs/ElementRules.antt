@@ -1,10 +1,10 @@
 -- Points and rays of the rows of rules: the values of facts there, and which facts they refute.
 use Rattle.std.proofs.Common.{◌≡◌, inl, inr, ℕ, zero, suc, ◌-◌, ◌<◌, ◌≤◌, ap, arith, refl, sym, ◌∙◌, subst, List, map}
-use Rattle.std.proofs.Common.{length, get_or, Option, Some, None}
+use Rattle.std.proofs.Common.{[], true, false, if◌then◌else◌, length, get_or, Option, Some, None}
 use Rattle.std.specs.Prelude.{Bool, ℤ, pos, ◌-ℤ◌, ◌+ℤ◌, ◌*ℤ◌, ◌<ℤ◌, nat_abs, unsigned_abs, slice_get}
 use Rattle.std.specs.List.{All}
 use Rattle.std.proofs.lemmas.Int.{ints}
-use Rattle.std.proofs.lemmas.List.Elements.{All-weaker}
+use Rattle.std.proofs.lemmas.List.Elements.{All-nil, All-weaker}
 use Rattle.std.proofs.lemmas.Option.{slice_get_within, get_or_from_slice_get}
 use Rattle.poly_terms.proofs.int_laws.RingLaws.{mul_comm_ℤ}
 use Rattle.poly_terms.specs.linear_forms.Forms.{Form, form_value}
@@ -44,6 +44,11 @@ use Rattle.location_facts.proofs.RowValues.{margin-value}
 use Rattle.location_facts.proofs.ShownRules.{read, rule-count}
 use Rattle.location_facts.proofs.UnderRules.{forms-read, prep-read, rule-here}
 use Rattle.location_facts.proofs.Writable.{goal-fits-after}
+
+-- what holds of all elements holds of those that are left where a symbol begins
+pub begun-all : (P : Element → Type 0) (b : Bool) (es : List Element) → All P es → All P (if b then es else [])
+begun-all P true es h = h
+begun-all P false es h = All-nil P
 
 -- the value at a place after a rule, by whether it is 0 or has a new value
 pub value_none : (v : ℤ) (news : List Form) (i : ℕ) (z : ℕ → ℤ) (d : ℤ) → i ≡ 0 → v ≡ pos 0

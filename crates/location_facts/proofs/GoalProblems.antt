@@ -26,7 +26,7 @@ use Rattle.lp_builder.specs.Descriptions.{group_of, question_of, IsWritable, Are
 use Rattle.rule_questions.specs.Programs.{IsProblemOf}
 use Rattle.location_facts.specs.Kept.{goal_question, goal_program, IsSolvedWithin}
 use Rattle.location_facts.specs.Replies.{FollowsBy, IsAgainst}
-use Rattle.location_facts.proofs.Answered.{solved-by}
+use Rattle.location_facts.proofs.ProgramAnswers.{solved-by}
 use Rattle.location_facts.proofs.GoalAnswers.{solution-long, solution-follows-by, dual-long, dual-against}
 
 -- a group without goals can be written where its rows and the fixed form can

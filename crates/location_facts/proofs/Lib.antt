@@ -1,7 +1,7 @@
 -- facts as rows, and what proofs of them are worth
 pub mod RowValues
 pub mod Inductive
-pub mod Proved
+pub mod ProvedFacts
 -- the sequence of lists of facts
 pub mod Next
 -- programs that are strengthened by facts
@@ -12,7 +12,7 @@ pub mod StrongLaws
 pub mod AtomLists
 -- the facts that are tried, and what answers tell of them
 pub mod CandidateList
-pub mod Answered
+pub mod ProgramAnswers
 -- the first fault of facts and their proofs
 pub mod Counting
 pub mod FactSizes
@@ -36,8 +36,9 @@ pub mod UnderRules
 pub mod NextFacts
 pub mod ProofSteps
 pub mod FirstFaults
--- rules that are due
+-- rules that are due, and tables by symbol
 pub mod DueRules
+pub mod SymbolTables
 -- points and rays that stand against facts, and points that are kept
 pub mod ElementRules
 pub mod PointRules

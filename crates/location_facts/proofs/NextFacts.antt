@@ -1,5 +1,5 @@
 -- The next list of facts and its proofs, one fact more.
-use Rattle.std.proofs.Common.{◌≡◌, ℕ, ◌+◌, ◌*◌, ◌<◌, sym, subst, List, [], ◌∷◌, ◌++◌, length, map, take}
+use Rattle.std.proofs.Common.{◌≡◌, ℕ, ◌+◌, ◌*◌, ◌<◌, sym, subst, List, [], ◌∷◌, ◌++◌, length, take}
 use Rattle.std.proofs.Common.{get_or}
 use Rattle.std.proofs.Common.{Option, Some, None}
 use Rattle.std.specs.Prelude.{Vec}
@@ -8,6 +8,7 @@ use Rattle.std.proofs.lemmas.List.{take_more, map-append}
 use Rattle.poly_terms.specs.model.Programs.{Program}
 use Rattle.location_facts.specs.declared.fact.LocFact.{LocFact}
 use Rattle.location_facts.specs.declared.fact.FactProof.{FactProof}
+use Rattle.location_facts.specs.Due.{lists_of}
 use Rattle.location_facts.specs.Implied.{TellsProofs, AreProofsUnder, IsPushed, AreInOrder}
 use Rattle.location_facts.specs.Kept.{IsImpliedByAll, HasThose, IsNext, EndsWith, AreKept, Stays}
 use Rattle.location_facts.specs.Candidates.{candidates}
@@ -15,10 +16,6 @@ use Rattle.location_facts.specs.Faults.{AreProved}
 use Rattle.location_facts.proofs.CandidateList.{all-between}
 use Rattle.location_facts.proofs.KeptLists.{those-kept, those-passed, those-all}
 use Rattle.location_facts.proofs.RoundSteps.{between-ascend, proofs-pushed, proved-end}
-
--- lists of the code, as lists
-abbrev pub lists_of : List (Vec FactProof Global) → List (List FactProof)
-lists_of lists = map (λ (v : Vec FactProof Global). v.items) lists
 
 module _ (p : Program) (pivots : ℕ) (kept : List LocFact) (n : ℕ) (d : LocFact) (l : n < length kept) where
   -- the facts up to this one

@@ -1,26 +1,18 @@
 -- The proofs of a fact by the rules into its symbol, one rule after the other.
-use Rattle.std.proofs.Common.{◌≡◌, ℕ, ◌+◌, ◌-◌, ◌<◌, ◌≤◌, ap, arith, sym, ◌∙◌, subst, List, [], ◌∷◌, ◌++◌, length}
+use Rattle.std.proofs.Common.{◌≡◌, ℕ, ◌+◌, ◌<◌, ap, arith, sym, ◌∙◌, subst, List, [], ◌∷◌, ◌++◌, length}
 use Rattle.std.proofs.Common.{length-append, get_or, Some, None}
 use Rattle.std.specs.Prelude.{Vec}
 use Rattle.std.specs.declared.alloc.Global.{Global}
-use Rattle.std.specs.List.{All}
 use Rattle.poly_terms.specs.model.Programs as plain
-use Rattle.poly_terms.specs.declared.poly.Row.{Row}
-use Rattle.poly_terms.specs.Views.{form_of}
-use Rattle.lp_builder.specs.Descriptions.{IsWritable}
-use Rattle.proof_tree.specs.Composing.{AreRowsOf}
-use Rattle.proof_tree.specs.guard_prep.declared.rule_rows.RuleRows.{RuleRows}
 use Rattle.rule_questions.specs.ProgramQuestions.{forms_at}
 use Rattle.location_facts.specs.declared.fact.LocFact.{LocFact}
 use Rattle.location_facts.specs.declared.fact.FactProof.{FactProof}
-use Rattle.location_facts.specs.declared.implied.Under.{Under}
 use Rattle.location_facts.specs.Faults.{rules_into, ProofsShow}
-use Rattle.location_facts.specs.Implied.{TellsGoal, TellsProofs, IsUnder, AreImplied}
+use Rattle.location_facts.specs.Implied.{TellsGoal, TellsProofs, AreImplied}
 use Rattle.location_facts.specs.Kept.{IsImpliedByAll}
 use Rattle.location_facts.specs.Rows.{row_after, combined}
 use Rattle.location_facts.proofs.RoundSteps.{implied-more, implied-all, missed}
 use Rattle.location_facts.proofs.ShownRules.{read}
-use Rattle.location_facts.proofs.UnderRules.{forms-read}
 
 -- one proof more
 pub proofs-longer : (old new : List FactProof) (proof : FactProof) (n : ℕ) → length old ≡ n → new ≡ old ++ proof ∷ []

@@ -23,7 +23,7 @@ use Rattle.location_facts.specs.Implied.{Ascend, AreInOrder, HasProofs, AreProof
 use Rattle.location_facts.specs.Kept.{IsImplied, IsImpliedByAll, HasThose}
 use Rattle.location_facts.proofs.CandidateList.{Between}
 use Rattle.location_facts.proofs.Counting.{least_from}
-use Rattle.location_facts.proofs.Proved.{into}
+use Rattle.location_facts.proofs.ProvedFacts.{into}
 use Rattle.location_facts.proofs.ShownRules.{into-rule}
 
 -- the element that is pushed, and those before it

@@ -4,6 +4,7 @@ use Rattle.std.proofs.Common.{get_or, Option, Some}
 use Rattle.std.specs.Prelude.{slice_get, Vec}
 use Rattle.std.specs.declared.alloc.Global.{Global}
 use Rattle.std.specs.List.{All, range_with_len}
+use Rattle.std.proofs.lemmas.Grind.{get_or_default_zero}
 use Rattle.std.proofs.lemmas.List.{length-map}
 use Rattle.std.proofs.lemmas.List.Elements.{All-filter}
 use Rattle.std.proofs.lemmas.List.FromFn.{get_or-range_with_len, length-range_with_len}
@@ -39,6 +40,10 @@ rule-count p = length-map p.rules.items rule_of
 -- an element that is read is there
 pub read : {X : Type 0} (xs : List X) (i : ℕ) (x : X) → i < length xs → x ≡ get_or xs i x → slice_get xs i ≡ Some x
 read xs i x l e = slice_get_read xs (length xs) i x refl l e
+
+-- a number that is read is there
+pub number-read : (xs : List ℕ) (i : ℕ) → i < length xs → get_or xs i 0 ≡ get_or xs i (get_or xs i 0)
+number-read xs i l = sym (get_or_default_zero xs i (get_or xs i 0) l)
 
 -- the rules into a symbol are rules of the program
 into-rules : (p : plain.Program) (s : ℕ) → All (λ t. (1 ≤ t) × (t ≤ length p.rules)) (rules_into p s)

@@ -1,16 +1,15 @@
 -- Rules under a list of facts, as they are read of a program.
-use Rattle.std.proofs.Common.{◌≡◌, ◌⊎◌, inl, inr, ℕ, zero, suc, ◌+◌, ◌-◌, ◌<◌, ◌≤◌, ap, arith, refl, sym, ◌∙◌, subst}
-use Rattle.std.proofs.Common.{List, [], ◌∷◌, ◌++◌, length, length-append, map, get_or, Option, Some, option_map}
+use Rattle.std.proofs.Common.{◌≡◌, ℕ, zero, suc, ◌+◌, ◌-◌, ◌≤◌, ap, arith, refl, sym, ◌∙◌, subst}
+use Rattle.std.proofs.Common.{List, ◌++◌, length, length-append, map, get_or, Option, Some, option_map}
 use Rattle.std.specs.Prelude.{slice_get}
 use Rattle.std.specs.List.{All}
-use Rattle.std.proofs.lemmas.Bool.{cases_lt}
 use Rattle.std.proofs.lemmas.List.{length-map}
-use Rattle.std.proofs.lemmas.Option.{slice_get_within, slice_get-map}
+use Rattle.std.proofs.lemmas.Option.{slice_get-map}
 use Rattle.poly_terms.specs.linear_forms.Forms.{Form}
 use Rattle.poly_terms.specs.model.Programs as plain
 use Rattle.poly_terms.specs.declared.poly.Row.{Row}
 use Rattle.poly_terms.specs.Views.{form_of}
-use Rattle.poly_terms.proofs.model.Cases.{some_same, slice_get-there}
+use Rattle.poly_terms.proofs.model.Cases.{slice_get-there}
 use Rattle.its_model.specs.declared.program.Rule.{Rule}
 use Rattle.its_model.specs.declared.program.Program.{Program}
 use Rattle.its_model.specs.Valid.{IsValid}
@@ -25,13 +24,12 @@ use Rattle.proof_tree.proofs.guard_prep.StepLaws.{preparable}
 use Rattle.rule_questions.specs.EmptyAnswers.{IsPrepared}
 use Rattle.rule_questions.specs.ProgramQuestions.{forms_in, forms_at}
 use Rattle.location_facts.specs.declared.fact.LocFact.{LocFact}
-use Rattle.location_facts.specs.declared.fact.FactProof.{FactProof}
 use Rattle.location_facts.specs.declared.implied.Under.{Under}
 use Rattle.location_facts.specs.Implied.{TellsEmpty, IsUnder, AreInOrder}
-use Rattle.location_facts.specs.Rows.{row_before, row_after, facts_at, combined}
+use Rattle.location_facts.specs.Rows.{row_before, facts_at, combined}
 use Rattle.location_facts.proofs.CombinedLists.{prepared-at, prepared-many, is-prepared}
 use Rattle.location_facts.proofs.Counting.{few-from}
-use Rattle.location_facts.proofs.RoundSteps.{slice-last, slice-before, ascend-tried}
+use Rattle.location_facts.proofs.RoundSteps.{ascend-tried}
 use Rattle.location_facts.proofs.ShownRules.{read}
 use Rattle.location_facts.proofs.Writable.{combined-writable}
 

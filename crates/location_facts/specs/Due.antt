@@ -11,7 +11,6 @@ use Rattle.lp_builder.specs.Descriptions.{IsWritable}
 use Rattle.rule_questions.specs.ProgramQuestions.{forms_in, forms_at}
 use Rattle.location_facts.specs.declared.fact.LocFact.{LocFact}
 use Rattle.location_facts.specs.declared.fact.FactProof.{FactProof}
-use Rattle.location_facts.specs.declared.fact.FactProof.TheVariants.{Empty, Implied}
 use Rattle.location_facts.specs.declared.elements.Element.{Element}
 use Rattle.location_facts.specs.declared.implied.Answered.{Answered}
 use Rattle.location_facts.specs.declared.implied.Answered.TheVariants as answers
@@ -24,22 +23,6 @@ use Rattle.location_facts.specs.Faults.{rules_into}
 use Rattle.location_facts.specs.Implied.{TellsEmpty, TellsGoal, IsUnder, StandsIn}
 use Rattle.location_facts.specs.Pointed.{HasPoint}
 use Rattle.location_facts.specs.Rows.{row_after, facts_at, combined}
-
--- a proof has the numbers of another one
-abbrev pub IsSameProof : FactProof → FactProof → Type 0
-IsSameProof (Empty a) (Empty b) = b.items ≡ a.items
-IsSameProof (Empty a) (Implied b e) = ⊥
-IsSameProof (Implied a d) (Empty b) = ⊥
-IsSameProof (Implied a d) (Implied b e) = (b.items ≡ a.items) × (e ≡ d)
-
--- an answer is a copy of the proof that is there; where there is none, it tells of none
-abbrev pub IsCopyOf : Option FactProof → Answered → Type 0
-IsCopyOf None (answers.Shown copy) = ⊥
-IsCopyOf None (answers.Against z) = ⊥
-IsCopyOf None answers.Missed = ⊤
-IsCopyOf (Some proof) (answers.Shown copy) = IsSameProof proof copy
-IsCopyOf (Some proof) (answers.Against z) = ⊥
-IsCopyOf (Some proof) answers.Missed = ⊥
 
 -- where a second list of facts follows a first one, no fact went at the source of a rule that isn't due
 pub record AreDue (p : Program) (old new : List LocFact) (due : List Bool) : Type 0 where
@@ -113,6 +96,10 @@ pub record Stands (p : Program) (pivots : ℕ) (due : List Bool) (kept : List Lo
   pub each : (k t : ℕ) → slice_get (rules_into p f.symbol) k ≡ Some t → slice_get due (t - 1) ≡ Some false
       → TellsEarlier pivots (forms_at p t).unknowns (combined (forms_at p t) kept) (row_after (forms_at p t).news f)
       (slice_get ps k)
+
+-- lists of the code, as lists
+abbrev pub lists_of : List (Vec FactProof Global) → List (List FactProof)
+lists_of lists = map (λ (v : Vec FactProof Global). v.items) lists
 
 -- the proofs at a position, none where the list is shorter
 abbrev pub listed_in : Option (List FactProof) → List FactProof

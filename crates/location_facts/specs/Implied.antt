@@ -6,11 +6,11 @@ use Rattle.std.specs.List.{All}
 use Rattle.poly_terms.specs.linear_forms.Certificates.{Implies, minus_one}
 use Rattle.poly_terms.specs.linear_forms.Forms.{Form}
 use Rattle.poly_terms.specs.linear_forms.RuleQuestions.{RuleForms}
-use Rattle.poly_terms.specs.model.Programs.{Program, Rule}
+use Rattle.poly_terms.specs.model.Programs.{Program}
 use Rattle.poly_terms.specs.Views.{form_of}
 use Rattle.farkas_cert.specs.Sizes.{AreWithinLimit}
 use Rattle.lp_builder.specs.Descriptions.{IsWritable}
-use Rattle.rule_questions.specs.ProgramQuestions.{forms_in, forms_at}
+use Rattle.rule_questions.specs.ProgramQuestions.{forms_at}
 use Rattle.location_facts.specs.declared.fact.LocFact.{LocFact}
 use Rattle.location_facts.specs.declared.fact.FactProof.{FactProof}
 use Rattle.location_facts.specs.declared.implied.Answered.{Answered}

@@ -18,3 +18,4 @@ pub mod Implied
 pub mod Elements
 pub mod Due
 pub mod Pointed
+pub mod Tables

@@ -26,8 +26,8 @@ pub(crate) fn all_candidates(alloc: Global, p: &Program) -> Result<Vec<LocFact>,
     Ok(all)
 }
 
-// A count as a number of 32 bits.
-fn narrow(count: usize) -> Result<u32, Memory>
+/// A count as a number of 32 bits; `Memory` where it has more.
+pub(crate) fn narrow(count: usize) -> Result<u32, Memory>
     ensures { IfOk result (λ n. n ≡ count) }
 {
     u32::try_from(count).map_err(|_| AllocError)

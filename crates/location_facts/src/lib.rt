@@ -19,6 +19,7 @@ mod rows;
 mod rules;
 mod shown;
 mod strengthening;
+mod tables;
 
 pub use fact::{FactFault, FactProof, LocFact, LocFacts};
 pub use faults::facts_fault;

@@ -1,24 +1,27 @@
 //! The facts that are kept: lists of facts, round by round.
 
-ghost use Rattle.std.specs.Prelude.{◌≡◌, ◌++◌, IfOk};
+ghost use Rattle.std.specs.Prelude.{◌≡◌, ◌≢◌, ◌++◌, ℕ, slice_get, [], nat_eq, if◌then◌else◌, IfOk};
 ghost use Rattle.its_model.specs.Valid.{IsValid};
 ghost use Rattle.its_model.specs.Views.{program_of};
 ghost use Rattle.proof_tree.specs.Composing.{AreRowsOf};
 ghost use Rattle.location_facts.specs.Faults.{proofs_of, AreProved};
-ghost use Rattle.location_facts.specs.Due.{AllStand, listed_at, proofs_in, elements_in};
+ghost use Rattle.location_facts.specs.Due.{AllStand, lists_of, listed_at, proofs_in, elements_in};
 ghost use Rattle.location_facts.specs.Implied.{AreInOrder, AreProofsUnder, IsPushed};
 ghost use Rattle.location_facts.specs.Kept.{IsNext, AreKept};
 ghost use Rattle.location_facts.specs.Pointed.{ArePointed};
+ghost use Rattle.location_facts.specs.Tables.{AreRulesInto};
 
 use crate::candidates::all_candidates;
 use crate::elements::Element;
 use crate::fact::{FactProof, LocFact, LocFacts};
 use crate::rules::{Search, due_rules, rules_under};
-use crate::shown::{Earlier, Told, proofs_under};
+use crate::shown::{Earlier, Listed, Told, proofs_under};
+use crate::tables::rules_by_symbol;
 use guard_prep::RuleRows;
 use its_model::Program;
 use poly_terms::Memory;
 use std::alloc::Global;
+use std::mem;
 
 /// The facts that are kept within a number of pivots, with proofs of which nothing is wrong. All facts that are tried
 /// come first; from each list those go that some rule into their symbol doesn't imply under it, until all are kept. What
@@ -43,25 +46,31 @@ pub fn facts(
     ensures kept { IfOk result (λ f. AreKept (program_of p.now) pivots f.kept.items) }
     ensures proved { IfOk result (λ f. AreProved (program_of p.now) f.kept.items (proofs_of f)) }
 {
+    let into = rules_by_symbol(alloc, p)?;
     let search = Search {
         program: p,
         preps,
         pivots,
+        into: &into,
     };
     let candidates = all_candidates(alloc, p)?;
-    let tried = LocFacts {
-        kept: candidates,
-        proofs: Vec::new(alloc),
-    };
     let all = vec![in alloc; true; p.rules.len()]?;
     let mut points = vec![in alloc; false; p.rules.len()]?;
-    let mut found = next_facts(alloc, search, &tried, &all, &mut points)?;
-    let mut kept = tried.kept;
+    let tried = Listed {
+        facts: &candidates,
+        proofs: Vec::new(alloc),
+    };
+    let mut found = next_facts(alloc, search, tried, &all, &mut points)?;
+    let mut kept = candidates;
     while found.kept.len() < kept.len() {
         let due = due_rules(alloc, p, &kept, &found.kept)?;
-        let next = next_facts(alloc, search, &found, &due, &mut points)?;
-        kept = found.kept;
-        found = next;
+        let LocFacts { kept: now, proofs } = found;
+        let listed = Listed {
+            facts: &now,
+            proofs,
+        };
+        found = next_facts(alloc, search, listed, &due, &mut points)?;
+        kept = now;
     }
     Ok(found)
 }
@@ -72,30 +81,38 @@ pub fn facts(
 fn next_facts(
     alloc: Global,
     search: Search,
-    found: &LocFacts,
+    listed: Listed,
     due: &[bool],
     points: &mut Vec<bool>,
 ) -> Result<LocFacts, Memory>
     requires valid { IsValid (program_of search.program.now) }
     requires rows { AreRowsOf search.preps.now (program_of search.program.now) }
-    requires ordered { AreInOrder (program_of search.program.now) found.now.kept.items }
-    requires stand { AllStand (program_of search.program.now) search.pivots due.now found.now.kept.items
-        (proofs_of found.now) }
-    requires points { ArePointed (program_of search.program.now) found.now.kept.items points.old.items }
+    requires into { AreRulesInto (program_of search.program.now) search.into.now }
+    requires ordered { AreInOrder (program_of search.program.now) listed.facts.now }
+    requires stand { AllStand (program_of search.program.now) search.pivots due.now listed.facts.now
+        (lists_of listed.proofs.items) }
+    requires points { ArePointed (program_of search.program.now) listed.facts.now points.old.items }
     ensures next { IfOk result (λ f.
-        IsNext (program_of search.entry.program.now) search.entry.pivots found.now.kept.items f.kept.items) }
+        IsNext (program_of search.entry.program.now) search.entry.pivots listed.entry.facts.now f.kept.items) }
     ensures proofs { IfOk result (λ f.
-        AreProofsUnder (program_of search.entry.program.now) found.now.kept.items f.kept.items (proofs_of f)) }
+        AreProofsUnder (program_of search.entry.program.now) listed.entry.facts.now f.kept.items (proofs_of f)) }
     ensures points { IfOk result (λ _.
-        ArePointed (program_of search.entry.program.now) found.now.kept.items points.new.items) }
+        ArePointed (program_of search.entry.program.now) listed.entry.facts.now points.new.items) }
 {
-    let unders = rules_under(alloc, search, &found.kept, due, points)?;
+    let Listed {
+        facts,
+        proofs: mut standing,
+    } = listed;
+    let unders = rules_under(alloc, search, facts, due, points)?;
     let mut kept = Vec::new(alloc);
     let mut proofs = Vec::new(alloc);
     let mut elements = Vec::new(alloc);
-    for i in 0..found.kept.len() {
-        let fact = found.kept[i];
-        let before = proofs_at(found, i);
+    let mut symbol = 0;
+    for i in 0..facts.len() {
+        let fact = facts[i];
+        begin_symbol(&mut elements, symbol, fact.symbol);
+        symbol = fact.symbol;
+        let before = taken_proofs(alloc, &mut standing, i);
         let earlier = Earlier {
             fact,
             proofs: before,
@@ -106,13 +123,24 @@ fn next_facts(
     Ok(LocFacts { kept, proofs })
 }
 
-// The proofs of the fact at a position, none where there are none of it.
-fn proofs_at(found: &LocFacts, i: usize) -> &[FactProof]
-    ensures { result.now ≡ listed_at (proofs_of found.now) i }
+// Forgets the elements where a fact has another symbol than the one before it: they are of rules that don't lead there.
+fn begin_symbol(elements: &mut Vec<Element>, before: u32, symbol: u32)
+    ensures { elements.new.items ≡ (if nat_eq before symbol then elements.old.items else []) }
 {
-    match found.proofs.get(i) {
-        Some(proofs) => proofs,
-        None => &[],
+    if before != symbol {
+        elements.clear();
+    }
+}
+
+// Takes out the proofs at a position; none where there are none of it.
+#[tactic(auto, using(crate::proofs::DueRules::listed_there, crate::proofs::DueRules::listed_missing))]
+fn taken_proofs(alloc: Global, proofs: &mut Vec<Vec<FactProof>>, i: usize) -> Vec<FactProof>
+    ensures taken { result.items ≡ listed_at (lists_of proofs.old.items) i }
+    ensures others { (j : ℕ) → j ≢ i → slice_get proofs.new.items j ≡ slice_get proofs.old.items j }
+{
+    match proofs.get_mut(i) {
+        Some(list) => mem::replace(list, Vec::new(alloc)),
+        None => Vec::new(alloc),
     }
 }
 

@@ -1,6 +1,7 @@
 //! The rules of a program under a list of facts: what is asked of each before the facts at its target.
 
-ghost use Rattle.std.specs.Prelude.{◌≡◌, ◌⊎◌, ◌++◌, ◌≤◌, ℕ, List, length, map, true, false, Some, slice_get, IfOk};
+ghost use Rattle.std.specs.Prelude.{◌≡◌, ◌⊎◌, ◌++◌, ◌≤◌, ◌<◌, ℕ, List, length, map, true, false, Some};
+ghost use Rattle.std.specs.Prelude.{slice_get, slice_index, IfOk};
 ghost use Rattle.std.specs.List.{All};
 ghost use Rattle.lp_builder.specs.Descriptions.{IsWritable};
 ghost use Rattle.poly_terms.specs.linear_forms.Forms.{Form};
@@ -16,17 +17,21 @@ ghost use Rattle.location_facts.specs.Rows.{row_before as row_of, facts_at as fa
 
 use crate::fact::LocFact;
 use crate::implied::{Under, pointed_under, rule_under};
+use crate::tables::counts_by_symbol;
 use guard_prep::RuleRows;
 use its_model::Program;
 use poly_terms::Memory;
 use std::alloc::Global;
 
-/// What facts are asked of: a program, what is prepared of its rules, and how many pivots a linear program may take.
+/// What facts are asked of: a program, what is prepared of its rules, how many pivots a linear program may take, and
+/// which rules lead where.
 #[derive(Clone, Copy)]
 pub(crate) struct Search<'a> {
     pub program: &'a Program,
     pub preps: &'a [RuleRows],
     pub pivots: u32,
+    /// For each symbol, the rules that lead to it, ascending.
+    pub into: &'a [Vec<u32>],
 }
 
 /// A rule: what is prepared of it, and its source.
@@ -60,27 +65,27 @@ pub(crate) fn due_rules(
 ) -> Result<Vec<bool>, Memory>
     ensures { IfOk result (λ due. AreDue (program_of p.now) old.now new.now due.items) }
 {
+    let before = counts_by_symbol(alloc, p.symbols.len(), old)?;
+    let after = counts_by_symbol(alloc, p.symbols.len(), new)?;
     let mut due = Vec::new(alloc);
     for i in 0..p.rules.len() {
         let source = p.rules[i].source;
-        let is_due = differ(old, new, source);
+        let is_due = differ(&before, &after, source);
         due.push(is_due)?;
     }
     Ok(due)
 }
 
-// Whether one of two lists has more facts of a symbol.
-fn differ(old: &[LocFact], new: &[LocFact], symbol: u32) -> bool
-    ensures { result ≡ false → length (facts_of_symbol symbol old.now) ≡ length (facts_of_symbol symbol new.now) }
+// Whether a symbol has more facts by one of two tables than by the other, or isn't in both.
+fn differ(before: &[usize], after: &[usize], symbol: u32) -> bool
+    ensures within { result ≡ false → (symbol < length before.now) × (symbol < length after.now) }
+    ensures same { result ≡ false → slice_index before.now symbol ≡ slice_index after.now symbol }
 {
-    count_at(old, symbol) != count_at(new, symbol)
-}
-
-// How many facts of a symbol there are.
-fn count_at(facts: &[LocFact], symbol: u32) -> usize
-    ensures { result ≡ length (facts_of_symbol symbol facts.now) }
-{
-    facts.iter().filter(|fact| fact.symbol == symbol).count()
+    let place = symbol as usize;
+    if place < before.len() && place < after.len() {
+        return before[place] != after[place];
+    }
+    true
 }
 
 /// The rules of a program, each under a list where it is due. Those that are marked have a point under the list, and

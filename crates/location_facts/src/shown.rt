@@ -1,7 +1,7 @@
 //! Whether all rules into a fact's symbol imply it under a list: asked of those that are due, while what the others told
 //! before stands.
 
-ghost use Rattle.std.specs.Prelude.{◌≡◌, ℕ, List, length, map, Some, slice_get, IfOk, Bool};
+ghost use Rattle.std.specs.Prelude.{◌≡◌, ◌≢◌, ℕ, List, length, map, Some, slice_get, IfOk, Bool};
 ghost use Rattle.std.specs.List.{All};
 ghost use Rattle.poly_terms.specs.linear_forms.Forms.{Form};
 ghost use Rattle.poly_terms.specs.Views.{form_of};
@@ -10,11 +10,13 @@ ghost use Rattle.its_model.specs.Views.{program_of};
 ghost use Rattle.proof_tree.specs.Composing.{AreRowsOf};
 ghost use Rattle.rule_questions.specs.EmptyAnswers.{IsPrepared};
 ghost use Rattle.location_facts.specs.declared.fact.LocFact.{LocFact as Fact};
-ghost use Rattle.location_facts.specs.Due.{AreUnder, AnyUnder, HasRows, Stands, TellsAgain, StandsOf, IsSameProof};
-ghost use Rattle.location_facts.specs.Due.{IsCopyOf, proofs_in, elements_in};
+ghost use Rattle.location_facts.specs.Due.{AreUnder, AnyUnder, HasRows, Stands, TellsAgain, StandsOf, HasNoElement};
+ghost use Rattle.location_facts.specs.Due.{proofs_in, elements_in};
 ghost use Rattle.location_facts.specs.Elements.{IsMeasured, AreElements};
+ghost use Rattle.location_facts.specs.Faults.{rules_into as rules_to};
 ghost use Rattle.location_facts.specs.Implied.{TellsGoal, TellsProofs, proof_in};
 ghost use Rattle.location_facts.specs.Rows.{row_after as goal_of};
+ghost use Rattle.location_facts.specs.Tables.{AreRulesInto};
 
 use crate::checks::rules_into;
 use crate::elements::{Element, is_refuted};
@@ -24,13 +26,22 @@ use crate::rules::Search;
 use guard_prep::RuleRows;
 use poly_terms::Memory;
 use std::alloc::Global;
+use std::mem;
+
+/// Facts with the proofs that showed each under an earlier list, by position; or with none, where they are asked for
+/// the first time.
+#[derive(Debug, Drop)]
+pub(crate) struct Listed<'a> {
+    pub facts: &'a [LocFact],
+    pub proofs: Vec<Vec<FactProof>>,
+}
 
 /// A fact with the proofs that showed it under an earlier list, one for each rule into its symbol; or with none, where it
 /// is asked for the first time.
-#[derive(Clone, Copy)]
-pub(crate) struct Earlier<'a> {
+#[derive(Debug, Drop)]
+pub(crate) struct Earlier {
     pub fact: LocFact,
-    pub proofs: &'a [FactProof],
+    pub proofs: Vec<FactProof>,
 }
 
 /// A rule: what is prepared of it, and how it is under a list, where it is due.
@@ -66,32 +77,71 @@ pub(crate) fn proofs_under(
 ) -> Result<Told, Memory>
     requires valid { IsValid (program_of search.program.now) }
     requires rows { AreRowsOf search.preps.now (program_of search.program.now) }
+    requires into { AreRulesInto (program_of search.program.now) search.into.now }
     requires under { AnyUnder (program_of search.program.now) search.pivots unders.now }
     requires measured { All (IsMeasured (program_of search.program.now)) elements.now }
     ensures told { IfOk result (λ t. (due : List Bool) (kept : List Fact)
         → AreUnder (program_of search.entry.program.now) search.entry.pivots due kept unders.now
         → AreElements (program_of search.entry.program.now) search.entry.pivots kept elements.now
-        → Stands (program_of search.entry.program.now) search.entry.pivots due kept earlier.entry.fact
-        earlier.entry.proofs.now
-        → TellsProofs (program_of search.entry.program.now) search.entry.pivots kept earlier.entry.fact (proofs_in t)) }
+        → Stands (program_of search.entry.program.now) search.entry.pivots due kept earlier.fact
+        earlier.proofs.items
+        → TellsProofs (program_of search.entry.program.now) search.entry.pivots kept earlier.fact (proofs_in t)) }
     ensures measured { IfOk result (λ t. All (IsMeasured (program_of search.entry.program.now)) (elements_in t)) }
     ensures elements { IfOk result (λ t. (due : List Bool) (kept : List Fact)
         → AreUnder (program_of search.entry.program.now) search.entry.pivots due kept unders.now
-        → Stands (program_of search.entry.program.now) search.entry.pivots due kept earlier.entry.fact
-        earlier.entry.proofs.now
+        → Stands (program_of search.entry.program.now) search.entry.pivots due kept earlier.fact
+        earlier.proofs.items
         → AreElements (program_of search.entry.program.now) search.entry.pivots kept (elements_in t)) }
 {
     if is_refuted(search.program, search.preps, elements, earlier.fact) {
         return Ok(Told::Missed);
     }
-    let into = rules_into(alloc, search.program, earlier.fact.symbol)?;
+    match search.into.get(earlier.fact.symbol as usize) {
+        Some(into) => proofs_by(alloc, search, unders, into, earlier),
+        None => {
+            let into = rules_into(alloc, search.program, earlier.fact.symbol)?;
+            proofs_by(alloc, search, unders, &into, earlier)
+        }
+    }
+}
+
+// Proofs by the rules into a fact's symbol, where all of them imply it, and else which element stands against it, where
+// one is found.
+fn proofs_by(
+    alloc: Global,
+    search: Search,
+    unders: &[Option<Under>],
+    into: &[u32],
+    earlier: Earlier,
+) -> Result<Told, Memory>
+    requires valid { IsValid (program_of search.program.now) }
+    requires rows { AreRowsOf search.preps.now (program_of search.program.now) }
+    requires into { into.now ≡ rules_to (program_of search.program.now) earlier.fact.symbol }
+    requires under { AnyUnder (program_of search.program.now) search.pivots unders.now }
+    ensures told { IfOk result (λ t. (due : List Bool) (kept : List Fact)
+        → AreUnder (program_of search.entry.program.now) search.entry.pivots due kept unders.now
+        → Stands (program_of search.entry.program.now) search.entry.pivots due kept earlier.fact
+        earlier.proofs.items
+        → TellsProofs (program_of search.entry.program.now) search.entry.pivots kept earlier.fact (proofs_in t)) }
+    ensures measured { IfOk result (λ t. All (IsMeasured (program_of search.entry.program.now)) (elements_in t)) }
+    ensures elements { IfOk result (λ t. (due : List Bool) (kept : List Fact)
+        → AreUnder (program_of search.entry.program.now) search.entry.pivots due kept unders.now
+        → Stands (program_of search.entry.program.now) search.entry.pivots due kept earlier.fact
+        earlier.proofs.items
+        → AreElements (program_of search.entry.program.now) search.entry.pivots kept (elements_in t)) }
+{
+    let Earlier {
+        fact,
+        proofs: mut standing,
+    } = earlier;
     let mut proofs = Vec::new(alloc);
     for k in 0..into.len() {
         let rule = into[k];
         let prep = &search.preps[rule as usize - 1];
         let under = &unders[rule as usize - 1];
         let asked = Asked { prep, under };
-        match proof_by(alloc, asked, earlier, k, search.pivots)? {
+        let before = taken_proof(alloc, &mut standing, k);
+        match proof_by(alloc, asked, fact, before, search.pivots)? {
             Answered::Shown(proof) => {
                 proofs.push(proof)?;
             }
@@ -102,59 +152,48 @@ pub(crate) fn proofs_under(
     Ok(Told::Shown(proofs))
 }
 
-// Whether a rule implies a fact: it is asked, or the proof at its position stands.
+// Takes out the proof at a position, where there is one.
+fn taken_proof(alloc: Global, proofs: &mut Vec<FactProof>, k: usize) -> Option<FactProof>
+    ensures taken { result ≡ slice_get proofs.old.items k }
+    ensures others { (j : ℕ) → j ≢ k → slice_get proofs.new.items j ≡ slice_get proofs.old.items j }
+{
+    match proofs.get_mut(k) {
+        Some(proof) => Some(mem::replace(proof, FactProof::Empty(Vec::new(alloc)))),
+        None => None,
+    }
+}
+
+// Whether a rule implies a fact: it is asked, or the earlier proof stands.
 fn proof_by(
     alloc: Global,
     asked: Asked,
-    earlier: Earlier,
-    k: usize,
+    fact: LocFact,
+    earlier: Option<FactProof>,
     pivots: u32,
 ) -> Result<Answered, Memory>
     requires prepared { IsPrepared asked.prep.now }
     requires rows { HasRows asked.prep.now.unknowns asked.under.now }
     ensures told { IfOk result (λ a. (rows : List Form)
         → TellsAgain pivots asked.entry.prep.now.unknowns rows
-        (goal_of (map form_of asked.entry.prep.now.news.items) earlier.entry.fact) asked.entry.under.now
-        (slice_get earlier.entry.proofs.now k)
+        (goal_of (map form_of asked.entry.prep.now.news.items) fact) asked.entry.under.now earlier
         → TellsGoal pivots asked.entry.prep.now.unknowns rows
-        (goal_of (map form_of asked.entry.prep.now.news.items) earlier.entry.fact) (proof_in a)) }
+        (goal_of (map form_of asked.entry.prep.now.news.items) fact) (proof_in a)) }
     ensures stands { IfOk result (StandsOf asked.entry.prep.now.unknowns
-        (goal_of (map form_of asked.entry.prep.now.news.items) earlier.entry.fact) asked.entry.under.now) }
+        (goal_of (map form_of asked.entry.prep.now.news.items) fact) asked.entry.under.now) }
 {
     match asked.under {
-        Some(under) => answer_under(alloc, asked.prep, under, earlier.fact, pivots),
-        None => {
-            let copy = standing_proof(alloc, earlier.proofs, k)?;
-            Ok(copy)
-        }
+        Some(under) => answer_under(alloc, asked.prep, under, fact, pivots),
+        None => Ok(standing_answer(earlier)),
     }
 }
 
-// A copy of the proof at a position, as an answer.
-fn standing_proof(alloc: Global, proofs: &[FactProof], k: usize) -> Result<Answered, Memory>
-    ensures { IfOk result (IsCopyOf (slice_get proofs.now k)) }
+// An earlier proof, where there is one, as an answer.
+fn standing_answer(earlier: Option<FactProof>) -> Answered
+    ensures same { proof_in result ≡ earlier }
+    ensures none { HasNoElement result }
 {
-    match proofs.get(k) {
-        Some(proof) => {
-            let copy = copied_proof(alloc, proof)?;
-            Ok(Answered::Shown(copy))
-        }
-        None => Ok(Answered::Missed),
-    }
-}
-
-// A copy of a proof.
-fn copied_proof(alloc: Global, proof: &FactProof) -> Result<FactProof, Memory>
-    ensures { IfOk result (IsSameProof proof.now) }
-{
-    match proof {
-        FactProof::Empty(multipliers) => {
-            let copies = multipliers.as_slice().to_vec(alloc)?;
-            Ok(FactProof::Empty(copies))
-        }
-        FactProof::Implied(multipliers, den) => {
-            let copies = multipliers.as_slice().to_vec(alloc)?;
-            Ok(FactProof::Implied(copies, *den))
-        }
+    match earlier {
+        Some(proof) => Answered::Shown(proof),
+        None => Answered::Missed,
     }
 }

@@ -1,4 +1,4 @@
-use Rattle.location_facts.proofs.Answered.{answers-tell-implied}
+use Rattle.location_facts.proofs.ProgramAnswers.{answers-tell-implied}
 use Rattle.location_facts.proofs.laws.answers_tell_implied.Goals as goal
 
 pub returns : goal.returns

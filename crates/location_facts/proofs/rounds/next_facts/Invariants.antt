@@ -1,6 +1,6 @@
-use Rattle.std.proofs.Common.{map, take}
+use Rattle.std.proofs.Common.{◌≡◌, ◌≤◌, ℕ, map, take}
 use Rattle.std.specs.List.{All}
-use Rattle.std.specs.Prelude.{Vec}
+use Rattle.std.specs.Prelude.{Vec, slice_get}
 use Rattle.std.specs.declared.alloc.Global.{Global}
 use Rattle.its_model.specs.Views.{program_of}
 use Rattle.location_facts.specs.declared.fact.FactProof.{FactProof}
@@ -12,10 +12,11 @@ use Rattle.location_facts.proofs.rounds.next_facts.Given as goal
 -- those of the facts passed that are implied, with their proofs, and what stands against others
 abbrev pub invariant-loop-i : goal.invariant-loop-i
 invariant-loop-i l = record {
-  next : HasThose (IsImpliedByAll (program_of l.search.program.now) l.search.pivots l.found.kept.items) (take l.i l.found.kept.items)
+  next : HasThose (IsImpliedByAll (program_of l.search.program.now) l.search.pivots l.facts) (take l.i l.facts)
       l.kept.items;
-  shown : AreProofsUnder (program_of l.search.program.now) l.found.kept.items l.kept.items
+  shown : AreProofsUnder (program_of l.search.program.now) l.facts l.kept.items
       (map (λ (v : Vec FactProof Global). v.items) l.proofs.items);
+  standing : (j : ℕ) → l.i ≤ j → slice_get l.standing.items j ≡ slice_get l.fn.listed.proofs.items j;
   measured : All (IsMeasured (program_of l.search.program.now)) l.elements.items;
-  elements : AreElements (program_of l.search.program.now) l.search.pivots l.found.kept.items l.elements.items;
+  elements : AreElements (program_of l.search.program.now) l.search.pivots l.facts l.elements.items;
 }
