@@ -34,7 +34,7 @@ abbrev pub fact_lines : List Name → List Fact → List ℕ
 fact_lines names [] = []
 fact_lines names (f ∷ fs) = fact_line names f ++ fact_lines names fs
 
--- the line of a gap: the rule that no function ranks
+-- the line of a gap: the rule that no function ranks which looks at no shut place
 abbrev pub gap_line : Gap → List ℕ
 gap_line g = codes "gap " ++ (decimal g.rule ++ codes "\n")
 

@@ -15,7 +15,7 @@ use Rattle.check_text.specs.declared.verdict.Verdict.TheVariants.{Accepted, Refu
 use Rattle.check_text.specs.Texts.{accepted_text, no_lemma_text, no_gap_text}
 
 -- every lemma and every gap of the file is accepted; every fact of its lemmas holds on all runs of the program, and no
--- function ranks the rule of a gap; and the text has all facts, in order, and the gaps
+-- function that looks at no shut place ranks the rule of a gap; and the text has all facts, in order, and the gaps
 pub record IsAcceptance (p : Program) (f : ProofFile) (text : List ℕ) : Type 0 where
   pub facts : List Fact
   pub accepted : IsAcceptedWith p f facts

@@ -92,7 +92,7 @@ fn push_gaps(text: &mut Vec<u8>, gaps: &[Gap]) -> Result<(), Memory>
     Ok(())
 }
 
-// The line of a gap: the rule that no function ranks.
+// The line of a gap: the rule that no function ranks which looks at no shut place.
 fn push_gap(text: &mut Vec<u8>, gap: &Gap) -> Result<(), Memory>
     ensures { OnOk result (text.new.items ≡ text.old.items ++ gap_line (gap_of gap.now)) }
 {

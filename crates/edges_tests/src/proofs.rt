@@ -73,6 +73,21 @@ lemma cost 1 lin 1 [1 0] [0] uses {start; cite 1}
 end
 ";
 
+// The same with an arm below the cost, and with the first line of files without costs.
+const TOO_CHEAP: &str = "koat-proof 2
+lemma rank 1 set [1] den 1 forms [l0 [0 1]; l1 [0 0]] moves [[]] floor [] uses {start}
+lemma spread 1.1 up lin 1 [1 0] [] low lin 1 [-1 0] [] uses {start}
+lemma cost 1 lin 1 [0 0] [0] uses {start; cite 1}
+end
+";
+
+const WITHOUT_COSTS: &str = "koat-proof 1
+lemma rank 1 set [1] den 1 forms [l0 [0 1]; l1 [0 0]] moves [[]] floor [] uses {start}
+lemma spread 1.1 up lin 1 [1 0] [] low lin 1 [-1 0] [] uses {start}
+lemma cost 1 lin 1 [1 0] [0] uses {start; cite 1}
+end
+";
+
 // Programs and proof files, with the status and the text of the answer.
 const CHECKS: &[(&str, &str, Status, &str)] = &[
     (ENTERING, "koat-proof 1\nend\n", Status::Done, "accepted\n"),
@@ -105,6 +120,18 @@ const CHECKS: &[(&str, &str, Status, &str)] = &[
         CHARGED,
         Status::Done,
         "accepted\ntime 1: 1\nsize 1.1: A\ncost 1: A\n",
+    ),
+    (
+        PRICED,
+        TOO_CHEAP,
+        Status::No,
+        "no lemma 3 node 3: arm 1.0 up\n",
+    ),
+    (
+        PRICED,
+        WITHOUT_COSTS,
+        Status::ProofRefused,
+        "proof refused at 174: Syntax\n",
     ),
     (
         STAYING,

@@ -32,9 +32,10 @@ IsStatusOfCheck RunRefused = ⊥
 IsStatusOfCheck NotARun = ⊥
 
 -- however a call ends that asks for the check of a proof, both files being held, it ends with one of five statuses; and
--- want of memory aside, the status is `ProgramRefused` exactly where the first file spells no program, `ProofRefused`
--- exactly where it spells one and the second file is the text of no proof file of it, `Done` exactly where it is that
--- of one that is accepted, and `No` exactly where it is that of one that isn't
+-- want of memory aside, the status is `ProgramRefused` exactly where the first file spells no program within the limits
+-- or is too long, `ProofRefused` exactly where it spells one and the second file is the text of no proof file of it
+-- within the limits or is too long, `Done` exactly where it is that of one that is accepted, and `No` exactly where it
+-- is that of one that isn't
 pub record ChecksAreAnswered : Type 0 where
   pub few : (call : Call) (put : Put) (bytes proof_bytes : List ℕ) (s : Status)
       → AsksOfTwo call put Check bytes proof_bytes → Ends s call put → IsStatusOfCheck s

@@ -58,10 +58,10 @@ pub fn replays_are_answered()
 
 /// The law that a call whose words ask for the check of a proof, both files being held by a shelf that tells so, and in
 /// which no count of faults rises, ends with `Done`, `ProgramRefused`, `ProofRefused`, `No` or for want of memory, and,
-/// want of memory aside, with `ProgramRefused` exactly where the first file spells no program within the limits, with
-/// `ProofRefused` exactly where it spells one and the second is the text of no proof file of it, with `Done` exactly
-/// where it is that of one that is accepted, and with `No` exactly where it is that of one that isn't. Its contract is
-/// the law; it has no code but the law of replays.
+/// want of memory aside, with `ProgramRefused` exactly where the first file spells no program within the limits or is
+/// too long, with `ProofRefused` exactly where it spells one and the second is the text of no proof file of it within
+/// the limits or is too long, with `Done` exactly where it is that of one that is accepted, and with `No` exactly where
+/// it is that of one that isn't. Its contract is the law; it has no code but the law of replays.
 pub fn checks_are_answered()
     ensures { ChecksAreAnswered }
 {

@@ -19,8 +19,8 @@ use std::alloc::Global;
 ///   inputs, or says why there is none. N is how many pivots each linear program may take, from 0 to 1,000,000, and
 ///   10,000 where it isn't given.
 /// - `prove [--pivots N] FILE` fetches the file of a program, and writes the proof file of what its analysis finds: a
-///   lemma for each bound, or for several, and a gap for each rule that no function ranks. `check` accepts it, where it
-///   has at most 67,108,864 bytes.
+///   lemma for each bound, or for several, and a gap for each rule that no function ranks by places of known size.
+///   `check` accepts it, where it has at most 67,108,864 bytes.
 /// - `check FILE PROOF` fetches the file of a program, and then that of a proof, of at most 67,108,864 bytes, and
 ///   writes the facts of all its lemmas, and its gaps, where all of them are accepted. It solves no linear program, and
 ///   believes none that did.

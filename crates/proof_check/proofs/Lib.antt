@@ -3,9 +3,9 @@ mod ChildNodes
 -- accepted lemmas, and their facts
 mod AcceptedLemmas
 -- what judging nodes gives
-mod Judged
+mod JudgedNodes
 -- what is kept of lemmas
-mod Keeping
+mod KeptLemmas
 -- gaps
 mod OffGaps
 -- what uses state

@@ -22,7 +22,7 @@ use Rattle.proof_check.specs.PlainChecks.{never_checks, weaken_checks}
 use Rattle.proof_facts.specs.NodeAnswers.{Refuses}
 use Rattle.proof_facts.specs.Statements.{facts_by, first_by, joined_by, owned_by, past_of}
 use Rattle.proof_check.proofs.UsedFacts.{joined-uses, first-child}
-use Rattle.proof_check.proofs.Judged.{stated}
+use Rattle.proof_check.proofs.JudgedNodes.{stated}
 
 -- what a node that is judged gives
 abbrev pub Answered : Setting → Kept → Proof → Result Use NodeFault → Type 0

@@ -21,7 +21,7 @@ use std::alloc::Global;
 
 /// The facts of all lemmas of a proof file, in order, where every lemma and every gap is accepted: exactly there it
 /// answers `Ok`, want of memory aside. Then each of these facts holds on all runs of the program, and each gap excludes
-/// every affine ranking function, whoever made the file. No linear program is solved.
+/// every affine ranking function that looks at no shut place, whoever made the file. No linear program is solved.
 ///
 /// # Errors
 ///

@@ -11,7 +11,7 @@ use Rattle.proof_check.proofs.AcceptedLemmas.{based-all}
 use Rattle.proof_tree.specs.proof_nodes.Nodes.{Proof}
 use Rattle.proof_check.proofs.ChildNodes.{count-children}
 use Rattle.proof_facts.proofs.Cuts.{cut-at, done-more, done-all}
-use Rattle.proof_check.proofs.Judged.{whole, refused-here, refused-child, one-more, refused-next, cut-count}
+use Rattle.proof_check.proofs.JudgedNodes.{whole, refused-here, refused-child, one-more, refused-next, cut-count}
 use Rattle.proof_check.proofs.judging.+judge.Goals as goal
 
 pub judge-judge_all-requires : goal.judge-judge_all-requires

@@ -1,5 +1,5 @@
 use Rattle.proof_tree.specs.Views.{facts_of}
-use Rattle.proof_check.proofs.Keeping.{copied-more}
+use Rattle.proof_check.proofs.KeptLemmas.{copied-more}
 use Rattle.proof_check.proofs.lemmas.all_stated.Goals as goal
 
 pub loop-position-preserved : goal.loop-position-preserved

@@ -5,7 +5,7 @@ use Rattle.proof_check.specs.Files.{HasFewNodes, RefusesLemmas}
 use Rattle.proof_facts.specs.Grounds.{program, setting}
 use Rattle.proof_check.specs.Judging.{IsKeptOf}
 use Rattle.proof_facts.proofs.Cuts.{cut-at, done-more, done-all, done-count, each-at}
-use Rattle.proof_check.proofs.Keeping.{kept-more, refused-fault}
+use Rattle.proof_check.proofs.KeptLemmas.{kept-more, refused-fault}
 use Rattle.proof_check.proofs.lemmas.judge_lemmas.Goals as goal
 
 pub judge-requires : goal.judge-requires

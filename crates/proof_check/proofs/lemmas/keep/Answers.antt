@@ -1,7 +1,7 @@
 use Rattle.std.proofs.Common.{◌≡◌, ◌∙◌, ℕ, ◌∷◌, ◌++◌, [], length, ap, sym, arith}
 use Rattle.std.proofs.lemmas.List.{length-append}
 use Rattle.proof_facts.specs.Statements.{facts_from, facts_by}
-use Rattle.proof_check.proofs.Keeping.{kept-before, kept-last}
+use Rattle.proof_check.proofs.KeptLemmas.{kept-before, kept-last}
 use Rattle.proof_check.proofs.lemmas.keep.Goals as goal
 
 pub returns-in_ok-push-in-Own-2 : goal.returns-in_ok-push-in-Own-2

@@ -1,4 +1,4 @@
-use Rattle.proof_check.proofs.Keeping.{kept-none}
+use Rattle.proof_check.proofs.KeptLemmas.{kept-none}
 use Rattle.its_model.specs.Views.{program_of}
 use Rattle.proof_check.proofs.lemmas.started.Goals as goal
 

@@ -5,7 +5,7 @@ use Rattle.proof_tree.specs.proof_nodes.Nodes.{Proof}
 use Rattle.proof_tree.specs.proof_nodes.Numbering.{nodes_of}
 use Rattle.proof_check.specs.Children.{nodes_in}
 use Rattle.proof_check.proofs.ChildNodes.{count-children, nodes-push}
-use Rattle.proof_check.proofs.Judged.{cut-count}
+use Rattle.proof_check.proofs.JudgedNodes.{cut-count}
 use Rattle.proof_check.proofs.NodeCounts.{count-more, count-same, count-within}
 use Rattle.proof_facts.proofs.Cuts.{done-more, done-all}
 use Rattle.proof_check.proofs.numbering.+counting.Goals as goal
