@@ -23,9 +23,11 @@ def index_rows():
 
 
 def with_facts(name):
-    """The total that facts lead to: that of their report, where one stands beside an example."""
-    there = os.path.exists(examples.path(name, ".facts.txt"))
-    return reports.read(examples.text(name, ".facts.txt")).total_text if there else "the same"
+    """The total that facts lead to: that of their report, where one stands beside an example with another total."""
+    if not os.path.exists(examples.path(name, ".facts.txt")):
+        return "the same"
+    total = reports.read(examples.text(name, ".facts.txt")).total_text
+    return total if total != reports.read(examples.text(name)).total_text else "the same"
 
 
 class Documents(unittest.TestCase):
