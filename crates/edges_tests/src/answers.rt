@@ -135,6 +135,12 @@ const COMMANDS: &[(&[&str], Status, &[u8], u64)] = &[
     (&["analyse", ""], Status::Done, BOUNDED, 1),
     (&["analyse", "--", "p"], Status::Done, BOUNDED, 1),
     (&["analyse", "p", "--pivots=5"], Status::Done, BOUNDED, 1),
+    (
+        &["prove", "--pivots", "0", "p"],
+        Status::Unknown,
+        b"koat-proof 1\nend\n",
+        1,
+    ),
     (&["generate", "1"], Status::Done, GENERATED, 0),
     (&["facts", "p"], Status::Done, BOUNDED, 1),
     (&["facts", "--pivots=5", "-"], Status::Done, BOUNDED, 1),

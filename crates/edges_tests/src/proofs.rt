@@ -53,19 +53,33 @@ lemma cycle [2.1 up lin 1 [1 0] [0] low lin 1 [0 0] [1]] uses {cite 3}
 end
 ";
 
-// Further ones of it, and one of the program with a cost.
+// The same without its floor, and with a weaker time.
 const WITHOUT_FLOOR: &str = "koat-proof 1
 lemma rank 1 set [1] den 1 forms [l0 [0 1]; l1 [0 0]] moves [[]] floor [] uses {start}
 lemma rank 2 set [1 2] den 1 forms [l0 [1 0]; l1 [1 0]] moves [[]; [0]] floor [0] uses {start}
+lemma spread 1.1 up lin 1 [1 0] [] low lin 1 [-1 0] [] uses {start}
+lemma cycle [2.1 up lin 1 [1 0] [0] low lin 1 [0 0] [1]] uses {cite 3}
 end
 ";
 
 const WEAKER: &str = "koat-proof 1
 lemma rank 1 set [1] den 1 forms [l0 [0 1]; l1 [0 0]] moves [[]] floor [] uses {start}
 lemma weaken (rank 2 set [1 2] den 1 forms [l0 [1 0]; l1 [1 0]] moves [[]; [0]] floor [1] uses {start}) to A + 7
+lemma spread 1.1 up lin 1 [1 0] [] low lin 1 [-1 0] [] uses {start}
+lemma cycle [2.1 up lin 1 [1 0] [0] low lin 1 [0 0] [1]] uses {cite 3}
 end
 ";
 
+// The proof file of the program whose second rule has no time.
+const STAYED: &str = "koat-proof 1
+lemma rank 1 set [1] den 1 forms [l0 [0 1]; l1 [0 0]] moves [[]] floor [] uses {start}
+lemma spread 1.1 up lin 1 [1 0] [] low lin 1 [-1 0] [] uses {start}
+lemma cycle [2.1 up lin 1 [1 0] [] low lin 1 [-1 0] []] uses {cite 2}
+gap 2 set [2] shut [] moves [[1 1]] floor [0 0] kept [[1 1]]
+end
+";
+
+// A proof file of the program with a cost.
 const CHARGED: &str = "koat-proof 2
 lemma rank 1 set [1] den 1 forms [l0 [0 1]; l1 [0 0]] moves [[]] floor [] uses {start}
 lemma spread 1.1 up lin 1 [1 0] [] low lin 1 [-1 0] [] uses {start}
@@ -113,7 +127,7 @@ const CHECKS: &[(&str, &str, Status, &str)] = &[
         COUNTING,
         WEAKER,
         Status::Done,
-        "accepted\ntime 1: 1\ntime 2: A + 7\n",
+        "accepted\ntime 1: 1\ntime 2: A + 7\nsize 1.1: A\nsize 2.1: A\n",
     ),
     (
         PRICED,
@@ -132,6 +146,12 @@ const CHECKS: &[(&str, &str, Status, &str)] = &[
         WITHOUT_COSTS,
         Status::ProofRefused,
         "proof refused at 174: Syntax\n",
+    ),
+    (
+        STAYING,
+        STAYED,
+        Status::Done,
+        "accepted\ntime 1: 1\nsize 1.1: A\nsize 2.1: A\ngap 2\n",
     ),
     (
         STAYING,
@@ -211,17 +231,7 @@ const CHECKS: &[(&str, &str, Status, &str)] = &[
 const PROOFS: &[(&str, Status, &str)] = &[
     (ENTERING, Status::Done, ENTERED),
     (COUNTING, Status::Done, COUNTED),
-    (
-        STAYING,
-        Status::Unknown,
-        "koat-proof 1
-lemma rank 1 set [1] den 1 forms [l0 [0 1]; l1 [0 0]] moves [[]] floor [] uses {start}
-lemma spread 1.1 up lin 1 [1 0] [] low lin 1 [-1 0] [] uses {start}
-lemma cycle [2.1 up lin 1 [1 0] [] low lin 1 [-1 0] []] uses {cite 2}
-gap 2 set [2] shut [] moves [[1 1]] floor [0 0] kept [[1 1]]
-end
-",
-    ),
+    (STAYING, Status::Unknown, STAYED),
     (
         "(VAR A)(VAR A)",
         Status::ProgramRefused,
@@ -389,11 +399,20 @@ fn written(
     }
 }
 
-// How many lines the answer has to the check of what `prove` writes of a program, where both end with status 0.
-fn lines_of_check(alloc: Global, program: &[u8]) -> Result<usize, AllocError> {
+// Whether what `prove` writes of a program is accepted with the bounds of its report, in order, and no others, where all
+// of these calls end with status 0.
+fn is_accepted_whole(alloc: Global, program: &[u8]) -> Result<bool, AllocError> {
     let proof = written(alloc, program, b"", &["prove", "p"])?;
     let facts = written(alloc, program, proof.bytes(), &["check", "p", "q"])?;
-    Ok(facts.bytes().iter().filter(|byte| **byte == b'\n').count())
+    let report = written(alloc, program, b"", &["analyse", "p"])?;
+    let mut bounds = Vec::from_slice(alloc, b"accepted\n")?;
+    for line in report.bytes().split(|byte| *byte == b'\n') {
+        if line.starts_with(b"time ") || line.starts_with(b"size ") {
+            bounds.extend_from_slice(line)?;
+            bounds.push(b'\n')?;
+        }
+    }
+    Ok(facts.bytes() == bounds.as_slice())
 }
 
 // What `prove` writes is accepted, with a fact for each of its bounds: of the generated program of thirteen rules, with
@@ -402,11 +421,11 @@ fn lines_of_check(alloc: Global, program: &[u8]) -> Result<usize, AllocError> {
 fn what_is_proved_is_accepted(rt: HostRuntime) -> Result<(), Fail> {
     let alloc = rt.alloc();
     let generated = written(alloc, b"", b"", &["generate", "6"])?;
-    let lines = [
-        lines_of_check(alloc, generated.bytes())?,
-        lines_of_check(alloc, NESTED.as_bytes())?,
+    let accepted = [
+        is_accepted_whole(alloc, generated.bytes())?,
+        is_accepted_whole(alloc, NESTED.as_bytes())?,
     ];
-    assert_eq!(rt; lines, [40, 31]);
+    assert_eq!(rt; accepted, [true, true]);
     Ok(())
 }
 

@@ -17,7 +17,7 @@ use Rattle.proof_tree.specs.proof_nodes.GapChecks.{net}
 use Rattle.proof_tree.specs.proof_nodes.Gaps.{Gap}
 use Rattle.gap_checks.specs.declared.touching.Group.{Group}
 use Rattle.gap_checks.specs.declared.touching.Touch.{Touch}
-use Rattle.gap_checks.specs.GapTests.{coefficient_at, value_limit}
+use Rattle.gap_checks.specs.GapTests.{coefficient_at, near_value_limit}
 use Rattle.gap_checks.specs.GapBalances.{AddsTouch, AreNets, AreSums, sum_at}
 use Rattle.gap_checks.specs.Touches.{AreTouches, IsGroup, share_of}
 use Rattle.gap_checks.proofs.TouchSums.{shares_sum, group-starts, group-ends}
@@ -50,7 +50,7 @@ opposite-read r h =
 pub record AreAddedBefore (f : ℕ → ℤ) (place : ℕ) (old new : List ℤ) : Type 0 where
   pub long : length new ≡ length old
   pub each : (k : ℕ) → k < place → sum_at new k ≡ sum_at old k +ℤ f k
-  pub small : (k : ℕ) → k < place → unsigned_abs (f k) ≤ value_limit
+  pub small : (k : ℕ) → k < place → unsigned_abs (f k) ≤ near_value_limit
   pub others : (k : ℕ) → place ≤ k → sum_at new k ≡ sum_at old k
 
 module _ (f : ℕ → ℤ) (old : List ℤ) where
@@ -65,7 +65,7 @@ module _ (f : ℕ → ℤ) (old : List ℤ) where
 
   -- one place more
   pub added-more : (place : ℕ) (new : List ℤ) (x r : ℤ) → place < length old → AreAddedBefore f place old new
-      → x ≡ sum_at new place +ℤ r → r ≡ f place → unsigned_abs r ≤ value_limit
+      → x ≡ sum_at new place +ℤ r → r ≡ f place → unsigned_abs r ≤ near_value_limit
       → AreAddedBefore f (place + 1) old (set new place x)
   added-more place new x r l h e v small = record {
     long = length-set new place x ∙ h.long;
@@ -86,11 +86,11 @@ module _ (f : ℕ → ℤ) (old : List ℤ) where
           subst (λ (j : ℕ). sum_at (set new place x) j ≡ sum_at old j +ℤ f j)
           (let same : place ≡ k = omega (arith, b, c) in same) here
 
-      small-at : (k : ℕ) → (k < place) ⊎ (place ≤ k) → k < place + 1 → unsigned_abs (f k) ≤ value_limit
+      small-at : (k : ℕ) → (k < place) ⊎ (place ≤ k) → k < place + 1 → unsigned_abs (f k) ≤ near_value_limit
       small-at k (inl b) c = h.small k b
       small-at k (inr b) c =
-          subst (λ (j : ℕ). unsigned_abs (f j) ≤ value_limit) (let same : place ≡ k = omega (arith, b, c) in same)
-          (subst (λ (y : ℤ). unsigned_abs y ≤ value_limit) v small)
+          subst (λ (j : ℕ). unsigned_abs (f j) ≤ near_value_limit) (let same : place ≡ k = omega (arith, b, c) in same)
+          (subst (λ (y : ℤ). unsigned_abs y ≤ near_value_limit) v small)
 
 -- all places of the symbol of a touch
 pub added-all : (p : Program) (g : Gap) (touch : Touch) (old new : List ℤ) (place : ℕ)
@@ -104,14 +104,14 @@ added-all p g touch old new place l h = record {
 }
   where
     size : (k : ℕ) → (k < place) ⊎ (place ≤ k)
-        → unsigned_abs (sum_at new k) ≤ unsigned_abs (sum_at old k) + value_limit
+        → unsigned_abs (sum_at new k) ≤ unsigned_abs (sum_at old k) + near_value_limit
     size k (inl b) = omega (arith, ints, ap unsigned_abs (h.each k b), h.small k b)
     size k (inr b) = omega (arith, ap unsigned_abs (h.others k b))
 
 -- the sums after the touches before a position, of those of a symbol: with what the others have they are what leaves by
 -- the moves, less what arrives
 pub record AreSumsSoFar (p : Program) (g : Gap) (ts : List Touch) (symbol i : ℕ) (nets : List ℤ) : Type 0 where
-  pub sums : AreSums nets (i * value_limit)
+  pub sums : AreSums nets (i * near_value_limit)
   pub each : (k : ℕ) → k < arity_of p symbol + 1
       → sum_at nets k +ℤ shares_sum (share_of (forms_at p) g.set g.moves (coefficient_at symbol k)) (drop i ts)
       ≡ net (forms_at p) (coefficient_at symbol k) g.set g.moves

@@ -9,7 +9,7 @@ use Rattle.proof_tree.specs.proof_nodes.Gaps.{Gap, SymbolPlace}
 use Rattle.proof_tree.specs.proof_setting.RankedSets.{forms_at}
 use Rattle.gap_checks.specs.declared.program_rules.Rules.{Rules}
 use Rattle.gap_checks.specs.declared.touching.Touch.{Touch}
-use Rattle.gap_checks.specs.GapTests.{coefficient_at, value_limit, AreShutFlags}
+use Rattle.gap_checks.specs.GapTests.{coefficient_at, near_value_limit, AreShutFlags}
 use Rattle.gap_checks.specs.Touches.{share_of}
 
 -- the program of rules, as plain data
@@ -36,11 +36,11 @@ pub record AddsTouch (p : Program) (g : Gap) (touch : Touch) (old new : List ℤ
       → sum_at new place
       ≡ sum_at old place +ℤ share_of (forms_at p) g.set g.moves (coefficient_at touch.symbol place) touch
   pub size : (place : ℕ) → place < length old
-      → unsigned_abs (sum_at new place) ≤ unsigned_abs (sum_at old place) + value_limit
+      → unsigned_abs (sum_at new place) ≤ unsigned_abs (sum_at old place) + near_value_limit
 
 -- for place 0 and each place of a symbol, what leaves it by the moves, less what arrives there
 pub record AreNets (p : Program) (g : Gap) (symbol : ℕ) (nets : List ℤ) : Type 0 where
-  pub sums : AreSums nets (2000 * value_limit)
+  pub sums : AreSums nets (2000 * near_value_limit)
   pub each : (place : ℕ) → place < arity_of p symbol + 1
       → sum_at nets place ≡ net (forms_at p) (coefficient_at symbol place) g.set g.moves
 

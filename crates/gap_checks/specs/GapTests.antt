@@ -70,8 +70,8 @@ abbrev pub coefficient_at : ℕ → ℕ → Coefficient
 coefficient_at symbol place = record { symbol = symbol; place = place }
 
 -- what an absolute value of a new value at a near point is at most
-abbrev pub value_limit : ℕ
-value_limit = 129 * 2 ^ 108
+abbrev pub near_value_limit : ℕ
+near_value_limit = 129 * 2 ^ 108
 
 -- a flag for place 0 and each place that a symbol may have: whether it is shut
 pub record AreShutFlags (flags : List Bool) (shut : List plain.SymbolPlace) (symbol : ℕ) : Type 0 where

@@ -10,7 +10,7 @@ ghost use Rattle.proof_tree.specs.proof_setting.RankedSets.{forms_at};
 ghost use Rattle.proof_tree.specs.proof_nodes.GapChecks.{HasGapShape, balance};
 ghost use Rattle.proof_tree.specs.AnswerViews.{gap_of};
 ghost use Rattle.proof_tree.specs.Composing.{AreRowsOf};
-ghost use Rattle.gap_checks.specs.GapTests.{IsFirstFailing, coefficient_at, value_limit, IsBalanced, places_at};
+ghost use Rattle.gap_checks.specs.GapTests.{IsFirstFailing, coefficient_at, near_value_limit, IsBalanced, places_at};
 ghost use Rattle.gap_checks.specs.GapTests.{AreShutFlags, IsFirstUnbalanced};
 ghost use Rattle.gap_checks.specs.GapBalances.{AddsTouch, AreNets, ArePrepared, AreShutRows, AreSums, program};
 ghost use Rattle.gap_checks.specs.Touches.{AreTouches, IsGroup, share_of};
@@ -40,7 +40,7 @@ fn share_at(rules: &Rules, g: &Gap, touch: &Touch, place: u32) -> i128
     requires inside { touch.now.position < length g.now.set.items }
     ensures value { result ≡ share_of (forms_at (program rules.now)) (gap_of g.now).set (gap_of g.now).moves
         (coefficient_at touch.now.symbol place) touch.now }
-    ensures size { unsigned_abs result ≤ value_limit }
+    ensures size { unsigned_abs result ≤ near_value_limit }
 {
     let rule = g.set[touch.position];
     let z = &g.moves[touch.position];
@@ -56,7 +56,7 @@ fn add_touch(sums: &mut [i128], rules: &Rules, g: &Gap, touch: &Touch)
     requires rows { ArePrepared rules.now }
     requires shape { HasGapShape (program rules.now) (forms_at (program rules.now)) (gap_of g.now) }
     requires inside { touch.now.position < length g.now.set.items }
-    requires room { AreSums sums.old (1999 * value_limit) }
+    requires room { AreSums sums.old (1999 * near_value_limit) }
     ensures { AddsTouch (program rules.now) (gap_of g.now) touch.now sums.old sums.new }
 {
     for place in 0..places_of(rules.program, touch.symbol) + 1 {

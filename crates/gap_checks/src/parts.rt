@@ -10,7 +10,7 @@ ghost use Rattle.proof_tree.specs.proof_setting.RankedSets.{forms_at};
 ghost use Rattle.proof_tree.specs.proof_nodes.AcceptsPlain.{IsRule};
 ghost use Rattle.proof_tree.specs.proof_nodes.GapChecks.{value_at};
 ghost use Rattle.proof_tree.specs.AnswerViews.{scaled_of};
-ghost use Rattle.gap_checks.specs.GapTests.{forms_by, IsNear, coefficient_at, value_limit};
+ghost use Rattle.gap_checks.specs.GapTests.{forms_by, IsNear, coefficient_at, near_value_limit};
 ghost use Rattle.gap_checks.specs.GapBalances.{ArePrepared, program};
 
 use crate::gap_points::prep_at;
@@ -40,7 +40,7 @@ fn new_value(preps: &[RuleRows], rule: u32, z: &Scaled, place: u32) -> i128
     requires news { All HasRowNumbers (forms_by preps.now rule).news }
     requires near { IsNear (scaled_of z.now) }
     ensures value { result ≡ value_at (after_rule (forms_by preps.now rule) place) (scaled_of z.now) }
-    ensures size { unsigned_abs result ≤ value_limit }
+    ensures size { unsigned_abs result ≤ near_value_limit }
 {
     if place == 0 {
         return i128::from(z.den);
@@ -80,7 +80,7 @@ pub(crate) fn arriving(rules: &Rules, rule: u32, z: &Scaled, symbol: u32, place:
     requires near { IsNear (scaled_of z.now) }
     ensures value { result
         ≡ value_at (at_target (forms_at (program rules.now) rule) (coefficient_at symbol place)) (scaled_of z.now) }
-    ensures size { unsigned_abs result ≤ value_limit }
+    ensures size { unsigned_abs result ≤ near_value_limit }
 {
     match target_of(rules.program, rule) {
         Some(target) => if target == symbol {

@@ -29,7 +29,7 @@ use Rattle.location_facts.specs.Kept.{HasThose, IsNext, IsImpliedByAll}
 use Rattle.location_facts.specs.declared.rules.Wanted.{Wanted}
 use Rattle.location_facts.specs.declared.rules.Wanted.TheVariants.{Nothing, Facts, Everything}
 use Rattle.location_facts.specs.Due.{AreDue, IsWanted, HasKnownPoint, TellsRule, IsUnderIfDue, AreUnder}
-use Rattle.location_facts.specs.Due.{HasRows, TellsEarlier, TellsAgain, Stands, AllStand, lists_of, listed_at, listed_in}
+use Rattle.location_facts.specs.Due.{HasRows, TellsEarlier, TellsAgain, IsShownEarlier, AreShownEarlier, lists_of, listed_at, listed_in}
 use Rattle.location_facts.specs.Pointed.{HasPoint}
 use Rattle.location_facts.specs.Rows.{row_before, row_after, facts_at, combined}
 use Rattle.location_facts.proofs.KeptLists.{those-all, those-keep}
@@ -193,7 +193,7 @@ pub told-answer : (p : plain.Program) (preps : List RuleRows) (pivots : ℕ) (du
     (f : LocFact) (ps : List FactProof) (into : List ℕ) (k t : ℕ) (m : RuleRows) (o : Option Under)
     (a b : Answered) → a ≡ b → AreRowsOf preps p → into ≡ rules_into p f.symbol → k < length into → t ≡ get_or into k t
     → (1 ≤ t) × (t ≤ length p.rules) → m ≡ get_or preps (t - 1) m
-    → IsUnderIfDue pivots (forms_at p t) (slice_get due (t - 1)) kept o → Stands p pivots due kept f ps
+    → IsUnderIfDue pivots (forms_at p t) (slice_get due (t - 1)) kept o → IsShownEarlier p pivots due kept f ps
     → (earlier : Option FactProof) → earlier ≡ slice_get ps k
     → ((rows : List Form) → TellsAgain pivots m.unknowns rows (row_after (map form_of m.news.items) f) o earlier
     → TellsGoal pivots m.unknowns rows (row_after (map form_of m.news.items) f) (proof_in a))
@@ -209,7 +209,7 @@ told-answer p preps pivots due kept f ps into k t m o a b same are e l g within 
 
 -- where no list came before, each rule is due, so nothing has to stand
 pub all-due : (p : plain.Program) (pivots n : ℕ) (due : List Bool) (kept : List LocFact) (proofs : List (List FactProof))
-    → due ≡ replicate n true → AllStand p pivots due kept proofs
+    → due ≡ replicate n true → AreShownEarlier p pivots due kept proofs
 all-due p pivots n due kept proofs e = record {
   each = λ i f there. record {
     each = λ k t at not. absurd (none n (t - 1) (ap (λ (ds : List Bool). slice_get ds (t - 1)) (sym e) ∙ not));
@@ -256,8 +256,8 @@ module _ (p : plain.Program) (pivots : ℕ) (old new : List LocFact) (proofs : L
         has.shown k t proof few (record { rule = at; listed = there }),
       ))
 
-  pub stands-next : AllStand p pivots due new proofs
-  stands-next = record {
+  pub shown-next : AreShownEarlier p pivots due new proofs
+  shown-next = record {
     each = λ i f there. record {
       each =
           let l : i < length proofs = subst (λ (n : ℕ). i < n) (sym are.one_each) (slice_get_within new i f there) in

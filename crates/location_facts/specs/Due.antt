@@ -91,8 +91,8 @@ TellsAgain pivots unknowns rows goal (Some u) earlier =
     (map form_of u.rows.items ≡ rows) × TellsEmpty pivots unknowns (map form_of u.rows.items) u.empty
 
 -- each rule into a fact's symbol that isn't due implies the fact under a list, as an earlier proof shows
-pub record Stands (p : Program) (pivots : ℕ) (due : List Bool) (kept : List LocFact) (f : LocFact) (ps : List FactProof)
-    : Type 0 where
+pub record IsShownEarlier (p : Program) (pivots : ℕ) (due : List Bool) (kept : List LocFact) (f : LocFact)
+    (ps : List FactProof) : Type 0 where
   pub each : (k t : ℕ) → slice_get (rules_into p f.symbol) k ≡ Some t → slice_get due (t - 1) ≡ Some false
       → TellsEarlier pivots (forms_at p t).unknowns (combined (forms_at p t) kept) (row_after (forms_at p t).news f)
       (slice_get ps k)
@@ -109,10 +109,10 @@ listed_in (Some ps) = ps
 abbrev pub listed_at : List (List FactProof) → ℕ → List FactProof
 listed_at proofs i = listed_in (slice_get proofs i)
 
--- so it is with each fact of a list and the proofs at its position
-pub record AllStand (p : Program) (pivots : ℕ) (due : List Bool) (kept : List LocFact) (proofs : List (List FactProof))
-    : Type 0 where
-  pub each : (i : ℕ) (f : LocFact) → slice_get kept i ≡ Some f → Stands p pivots due kept f (listed_at proofs i)
+-- each fact of a list is shown so by the proofs at its position
+pub record AreShownEarlier (p : Program) (pivots : ℕ) (due : List Bool) (kept : List LocFact)
+    (proofs : List (List FactProof)) : Type 0 where
+  pub each : (i : ℕ) (f : LocFact) → slice_get kept i ≡ Some f → IsShownEarlier p pivots due kept f (listed_at proofs i)
 
 -- an answer has no element
 abbrev pub HasNoElement : Answered → Type 0

@@ -5,7 +5,7 @@ ghost use Rattle.its_model.specs.Valid.{IsValid};
 ghost use Rattle.its_model.specs.Views.{program_of};
 ghost use Rattle.proof_tree.specs.Composing.{AreRowsOf};
 ghost use Rattle.location_facts.specs.Faults.{proofs_of, AreProved};
-ghost use Rattle.location_facts.specs.Due.{AllStand, lists_of, listed_at, proofs_in, elements_in};
+ghost use Rattle.location_facts.specs.Due.{AreShownEarlier, lists_of, listed_at, proofs_in, elements_in};
 ghost use Rattle.location_facts.specs.Implied.{AreInOrder, AreProofsUnder, IsPushed};
 ghost use Rattle.location_facts.specs.Kept.{IsNext, AreKept};
 ghost use Rattle.location_facts.specs.Pointed.{ArePointed};
@@ -89,7 +89,7 @@ fn next_facts(
     requires rows { AreRowsOf search.preps.now (program_of search.program.now) }
     requires into { AreRulesInto (program_of search.program.now) search.into.now }
     requires ordered { AreInOrder (program_of search.program.now) listed.facts.now }
-    requires stand { AllStand (program_of search.program.now) search.pivots due.now listed.facts.now
+    requires shown { AreShownEarlier (program_of search.program.now) search.pivots due.now listed.facts.now
         (lists_of listed.proofs.items) }
     requires points { ArePointed (program_of search.program.now) listed.facts.now points.old.items }
     ensures next { IfOk result (λ f.

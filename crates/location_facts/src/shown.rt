@@ -10,8 +10,8 @@ ghost use Rattle.its_model.specs.Views.{program_of};
 ghost use Rattle.proof_tree.specs.Composing.{AreRowsOf};
 ghost use Rattle.rule_questions.specs.EmptyAnswers.{IsPrepared};
 ghost use Rattle.location_facts.specs.declared.fact.LocFact.{LocFact as Fact};
-ghost use Rattle.location_facts.specs.Due.{AreUnder, AnyUnder, HasRows, Stands, TellsAgain, StandsOf, HasNoElement};
-ghost use Rattle.location_facts.specs.Due.{proofs_in, elements_in};
+ghost use Rattle.location_facts.specs.Due.{AreUnder, AnyUnder, HasRows, IsShownEarlier, TellsAgain, StandsOf};
+ghost use Rattle.location_facts.specs.Due.{HasNoElement, proofs_in, elements_in};
 ghost use Rattle.location_facts.specs.Elements.{IsMeasured, AreElements};
 ghost use Rattle.location_facts.specs.Faults.{rules_into as rules_to};
 ghost use Rattle.location_facts.specs.Implied.{TellsGoal, TellsProofs, proof_in};
@@ -83,13 +83,13 @@ pub(crate) fn proofs_under(
     ensures told { IfOk result (λ t. (due : List Bool) (kept : List Fact)
         → AreUnder (program_of search.entry.program.now) search.entry.pivots due kept unders.now
         → AreElements (program_of search.entry.program.now) search.entry.pivots kept elements.now
-        → Stands (program_of search.entry.program.now) search.entry.pivots due kept earlier.fact
+        → IsShownEarlier (program_of search.entry.program.now) search.entry.pivots due kept earlier.fact
         earlier.proofs.items
         → TellsProofs (program_of search.entry.program.now) search.entry.pivots kept earlier.fact (proofs_in t)) }
     ensures measured { IfOk result (λ t. All (IsMeasured (program_of search.entry.program.now)) (elements_in t)) }
     ensures elements { IfOk result (λ t. (due : List Bool) (kept : List Fact)
         → AreUnder (program_of search.entry.program.now) search.entry.pivots due kept unders.now
-        → Stands (program_of search.entry.program.now) search.entry.pivots due kept earlier.fact
+        → IsShownEarlier (program_of search.entry.program.now) search.entry.pivots due kept earlier.fact
         earlier.proofs.items
         → AreElements (program_of search.entry.program.now) search.entry.pivots kept (elements_in t)) }
 {
@@ -120,13 +120,13 @@ fn proofs_by(
     requires under { AnyUnder (program_of search.program.now) search.pivots unders.now }
     ensures told { IfOk result (λ t. (due : List Bool) (kept : List Fact)
         → AreUnder (program_of search.entry.program.now) search.entry.pivots due kept unders.now
-        → Stands (program_of search.entry.program.now) search.entry.pivots due kept earlier.fact
+        → IsShownEarlier (program_of search.entry.program.now) search.entry.pivots due kept earlier.fact
         earlier.proofs.items
         → TellsProofs (program_of search.entry.program.now) search.entry.pivots kept earlier.fact (proofs_in t)) }
     ensures measured { IfOk result (λ t. All (IsMeasured (program_of search.entry.program.now)) (elements_in t)) }
     ensures elements { IfOk result (λ t. (due : List Bool) (kept : List Fact)
         → AreUnder (program_of search.entry.program.now) search.entry.pivots due kept unders.now
-        → Stands (program_of search.entry.program.now) search.entry.pivots due kept earlier.fact
+        → IsShownEarlier (program_of search.entry.program.now) search.entry.pivots due kept earlier.fact
         earlier.proofs.items
         → AreElements (program_of search.entry.program.now) search.entry.pivots kept (elements_in t)) }
 {

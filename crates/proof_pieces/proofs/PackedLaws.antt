@@ -8,16 +8,16 @@ use Rattle.proof_pieces.specs.declared.marks.Short.{Short}
 use Rattle.proof_pieces.specs.declared.marks.Source.{Source}
 use Rattle.proof_pieces.specs.declared.marks.Source.TheVariants as source
 use Rattle.proof_pieces.specs.Packing.{longs_at, longs_behind, longs_taken, next_at, short_inner, shorts_at, shorts_behind}
-use Rattle.proof_pieces.specs.Packing.{shorts_taken, source_of, unpacked}
+use Rattle.proof_pieces.specs.Packing.{shorts_taken, mark_source, unpacked}
 
 -- with one more mark, behind a mark whose piece is found there
 one_pushed : (ms : List Mark) (es : List Short) (el : List Inner) (m : Mark)
     → ((ss : List Short) (ls : List Inner) → shorts_taken ms ≡ length ss → longs_taken ms ≡ length ls
-    → unpacked (ms ++ m ∷ []) (ss ++ es) (ls ++ el) ≡ unpacked ms ss ls ++ next_at (source_of m) es el ∷ [])
+    → unpacked (ms ++ m ∷ []) (ss ++ es) (ls ++ el) ≡ unpacked ms ss ls ++ next_at (mark_source m) es el ∷ [])
     → (s : Source) (ss : List Short) (ls : List Inner) → shorts_at s + shorts_taken ms ≡ length ss
     → longs_at s + longs_taken ms ≡ length ls
     → next_at s (ss ++ es) (ls ++ el) ∷ unpacked (ms ++ m ∷ []) (shorts_behind s (ss ++ es)) (longs_behind s (ls ++ el))
-    ≡ next_at s ss ls ∷ (unpacked ms (shorts_behind s ss) (longs_behind s ls) ++ next_at (source_of m) es el ∷ [])
+    ≡ next_at s ss ls ∷ (unpacked ms (shorts_behind s ss) (longs_behind s ls) ++ next_at (mark_source m) es el ∷ [])
 one_pushed ms es el m ih (source.Known x) ss ls e f =
     ap (λ (xs : List Inner). x ∷ xs) (ih ss ls (omega (arith, e)) (omega (arith, f)))
 one_pushed ms es el m ih source.Shorts [] ls e f = absurd (omega (arith, e))
@@ -30,26 +30,26 @@ one_pushed ms es el m ih source.Longs ss (l ∷ ls) e f =
 -- a mark more, with the short and the long ones that come with it
 pub unpacked_push : (ms : List Mark) (es : List Short) (el : List Inner) (m : Mark) (ss : List Short) (ls : List Inner)
     → shorts_taken ms ≡ length ss → longs_taken ms ≡ length ls
-    → unpacked (ms ++ m ∷ []) (ss ++ es) (ls ++ el) ≡ unpacked ms ss ls ++ next_at (source_of m) es el ∷ []
+    → unpacked (ms ++ m ∷ []) (ss ++ es) (ls ++ el) ≡ unpacked ms ss ls ++ next_at (mark_source m) es el ∷ []
 unpacked_push [] es el m [] [] e f = refl
 unpacked_push [] es el m (s ∷ ss) ls e f = absurd (omega (arith, e))
 unpacked_push [] es el m [] (l ∷ ls) e f = absurd (omega (arith, f))
 unpacked_push (x ∷ ms) es el m ss ls e f =
-    one_pushed ms es el m (λ ss ls e f. unpacked_push ms es el m ss ls e f) (source_of x) ss ls e f
+    one_pushed ms es el m (λ ss ls e f. unpacked_push ms es el m ss ls e f) (mark_source x) ss ls e f
 
 -- what marks take, with one more
-pub shorts_more : (ms : List Mark) (m : Mark) → shorts_taken (ms ++ m ∷ []) ≡ shorts_taken ms + shorts_at (source_of m)
+pub shorts_more : (ms : List Mark) (m : Mark) → shorts_taken (ms ++ m ∷ []) ≡ shorts_taken ms + shorts_at (mark_source m)
 shorts_more [] m = omega arith
 shorts_more (x ∷ ms) m = let ih = shorts_more ms m in omega (arith, ih)
 
-pub longs_more : (ms : List Mark) (m : Mark) → longs_taken (ms ++ m ∷ []) ≡ longs_taken ms + longs_at (source_of m)
+pub longs_more : (ms : List Mark) (m : Mark) → longs_taken (ms ++ m ∷ []) ≡ longs_taken ms + longs_at (mark_source m)
 longs_more [] m = omega arith
 longs_more (x ∷ ms) m = let ih = longs_more ms m in omega (arith, ih)
 
 -- as many pieces as marks
 pub unpacked_length : (ms : List Mark) (ss : List Short) (ls : List Inner) → length (unpacked ms ss ls) ≡ length ms
 unpacked_length [] ss ls = refl
-unpacked_length (m ∷ ms) ss ls = ap suc (unpacked_length ms (shorts_behind (source_of m) ss) (longs_behind (source_of m) ls))
+unpacked_length (m ∷ ms) ss ls = ap suc (unpacked_length ms (shorts_behind (mark_source m) ss) (longs_behind (mark_source m) ls))
 
 -- with none behind them they are the same
 append_none : {X : Type 0} (xs : List X) → xs ++ [] ≡ xs
@@ -57,7 +57,7 @@ append_none [] = refl
 append_none (x ∷ xs) = ap (λ (ys : List _). x ∷ ys) (append_none xs)
 
 -- a piece more that is known by its mark
-pub known_pushed : (ms : List Mark) (ss : List Short) (ls : List Inner) (m : Mark) (x : Inner) → source_of m ≡ source.Known x
+pub known_pushed : (ms : List Mark) (ss : List Short) (ls : List Inner) (m : Mark) (x : Inner) → mark_source m ≡ source.Known x
     → shorts_taken ms ≡ length ss → longs_taken ms ≡ length ls → unpacked (ms ++ m ∷ []) ss ls ≡ unpacked ms ss ls ++ x ∷ []
 known_pushed ms ss ls m x k e f =
     ap (λ (ts : List Short). unpacked (ms ++ m ∷ []) ts ls) (sym (append_none ss))
@@ -82,7 +82,7 @@ long_pushed ms ss ls l e f =
     ∙ unpacked_push ms [] (l ∷ []) mark.Long ss ls e f
 
 -- a mark that is put, where there is room: what is known by it takes nothing
-pub known_taken : (ok : Bool) (ms new : List Mark) (m : Mark) (x : Inner) → source_of m ≡ source.Known x
+pub known_taken : (ok : Bool) (ms new : List Mark) (m : Mark) (x : Inner) → mark_source m ≡ source.Known x
     → new ≡ cond ok (ms ++ m ∷ []) ms → (shorts_taken new ≡ shorts_taken ms) × (longs_taken new ≡ longs_taken ms)
 known_taken false ms new m x k e = (ap shorts_taken e, ap longs_taken e)
 known_taken true ms new m x k e =

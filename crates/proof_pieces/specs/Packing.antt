@@ -16,18 +16,18 @@ abbrev pub inner_with : Piece → ℕ → Inner
 inner_with piece len = record { piece = piece; len = len }
 
 -- where the piece of a mark is found: it is known by the mark, or it is the next of the short ones or of the long ones
-abbrev pub source_of : Mark → Source
-source_of mark.Maximum = source.Known (inner_with bound.Maximum 4)
-source_of mark.Open = source.Known (inner_with bound.Open 1)
-source_of mark.Close = source.Known (inner_with bound.Close 1)
-source_of mark.Times = source.Known (inner_with bound.Times 1)
-source_of mark.Caret = source.Known (inner_with bound.Caret 1)
-source_of mark.Plus = source.Known (inner_with bound.Plus 1)
-source_of mark.Blank = source.Known (inner_with bound.Blank 1)
-source_of mark.Comma = source.Known (inner_with bound.Comma 1)
-source_of mark.Wrong = source.Known (inner_with bound.Wrong 1)
-source_of mark.Short = source.Shorts
-source_of mark.Long = source.Longs
+abbrev pub mark_source : Mark → Source
+mark_source mark.Maximum = source.Known (inner_with bound.Maximum 4)
+mark_source mark.Open = source.Known (inner_with bound.Open 1)
+mark_source mark.Close = source.Known (inner_with bound.Close 1)
+mark_source mark.Times = source.Known (inner_with bound.Times 1)
+mark_source mark.Caret = source.Known (inner_with bound.Caret 1)
+mark_source mark.Plus = source.Known (inner_with bound.Plus 1)
+mark_source mark.Blank = source.Known (inner_with bound.Blank 1)
+mark_source mark.Comma = source.Known (inner_with bound.Comma 1)
+mark_source mark.Wrong = source.Known (inner_with bound.Wrong 1)
+mark_source mark.Short = source.Shorts
+mark_source mark.Long = source.Longs
 
 -- a short piece as a piece
 abbrev pub short_piece : ShortKind → ℕ → Piece
@@ -74,7 +74,7 @@ longs_behind source.Longs ls = tail_of ls
 abbrev pub unpacked : List Mark → List Short → List Inner → List Inner
 unpacked [] ss ls = []
 unpacked (m ∷ ms) ss ls =
-    next_at (source_of m) ss ls ∷ unpacked ms (shorts_behind (source_of m) ss) (longs_behind (source_of m) ls)
+    next_at (mark_source m) ss ls ∷ unpacked ms (shorts_behind (mark_source m) ss) (longs_behind (mark_source m) ls)
 
 -- how many short and how many long ones marks take
 abbrev pub shorts_at : Source → ℕ
@@ -89,8 +89,8 @@ longs_at source.Longs = 1
 
 abbrev pub shorts_taken : List Mark → ℕ
 shorts_taken [] = 0
-shorts_taken (m ∷ ms) = shorts_at (source_of m) + shorts_taken ms
+shorts_taken (m ∷ ms) = shorts_at (mark_source m) + shorts_taken ms
 
 abbrev pub longs_taken : List Mark → ℕ
 longs_taken [] = 0
-longs_taken (m ∷ ms) = longs_at (source_of m) + longs_taken ms
+longs_taken (m ∷ ms) = longs_at (mark_source m) + longs_taken ms

@@ -17,7 +17,7 @@ use text_grammar::Item::{self, AMade, AMark, APiece, End, Or};
 
 /// How many classes of pieces there are.
 pub const CLASSES: u32 = 46;
-/// After how many rounds the table is whole.
+/// After how many rounds an entry of the table is what it stays.
 pub const ROUNDS: u32 = 5;
 
 // The classes of pieces: the first word, the other words, other names, numbers, blanks and line feeds, brackets and

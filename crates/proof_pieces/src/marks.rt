@@ -2,7 +2,7 @@
 
 ghost use Rattle.std.specs.Prelude.{◌≡◌, IfSome, Some};
 ghost use Rattle.proof_pieces.specs.Packing.{inner_with, short_inner, short_piece as piece_of_short};
-ghost use Rattle.proof_pieces.specs.Packing.{source_of as source_at};
+ghost use Rattle.proof_pieces.specs.Packing.{mark_source as source_at};
 ghost use Rattle.proof_pieces.specs.declared.marks.Source.TheVariants.{Known};
 
 use crate::inner::Inner;
@@ -49,7 +49,7 @@ pub(crate) enum Source {
 }
 
 /// Where the piece of a mark is found.
-pub(crate) fn source_of(mark: Mark) -> Source
+pub(crate) fn mark_source(mark: Mark) -> Source
     ensures { result ≡ source_at mark }
 {
     let (piece, len) = match mark {

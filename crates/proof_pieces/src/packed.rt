@@ -4,7 +4,7 @@ ghost use Rattle.std.specs.Prelude.{◌≡◌, length};
 ghost use Rattle.proof_pieces.specs.Packing.{longs_taken, shorts_taken, next_long, next_short, tail_of};
 
 use crate::inner::Inner;
-use crate::marks::{Mark, Short, Source, mark_of, short_of, short_piece, source_of};
+use crate::marks::{Mark, Short, Source, mark_of, mark_source, short_of, short_piece};
 use bound_text::Piece as BoundPiece;
 use std::alloc::{AllocError, Global};
 
@@ -29,7 +29,7 @@ pub struct PackedRest<'a> {
 impl Packed {
     ghost use Rattle.std.specs.Prelude.{◌∷◌, ◌++◌, [], OnOk};
     ghost use Rattle.proof_pieces.specs.Packed.{inners_in, inners_of};
-    ghost use Rattle.proof_pieces.specs.Packing.{inner_with, short_inner, source_of as source_at};
+    ghost use Rattle.proof_pieces.specs.Packing.{inner_with, short_inner, mark_source as source_at};
     ghost use Rattle.proof_pieces.specs.declared.marks.Source.TheVariants.{Known};
 
     /// No pieces.
@@ -128,7 +128,7 @@ impl<'a> PackedRest<'a> {
     {
         let (mark, marks) = self.marks.split_first()?;
         let PackedRest { shorts, longs, .. } = *self;
-        match source_of(*mark) {
+        match mark_source(*mark) {
             Source::Known(inner) => Some((
                 inner,
                 PackedRest {

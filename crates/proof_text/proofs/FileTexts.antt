@@ -38,7 +38,7 @@ use Rattle.proof_text.specs.Reading.{Progress, file_in, proof_fold, proofs_of}
 use Rattle.proof_text.specs.Refused.{GivesBack}
 use Rattle.proof_text.specs.Remembered.{Draft, State, Whole, begun, no_draft}
 use Rattle.proof_text.specs.Spelled.{AreLemmasWithin, IsFileWithin, IsGapWithin, IsPlaceOf, IsPointWithin, IsTextWithin}
-use Rattle.proof_text.specs.Texts.{first_line, gap_lines, gap_text, has_cost, lemma_lines, node_text, place_text, point_text}
+use Rattle.proof_text.specs.Texts.{first_line, gap_lines, gap_text, has_cost, lemma_lines, node_text, symbol_place_text, point_text}
 use Rattle.proof_text.specs.Texts.{some_has_cost, text_of}
 use Rattle.proof_text.specs.Told.{refusal_in}
 use Rattle.proof_text.proofs.Along.{Along, Bytes, IsCutOff, Then, becomes, cut_tokens, ends, flatten, makes, marks, reads}
@@ -61,7 +61,7 @@ module _ {p : Program} {ss : List Symbol} {rest : List ℕ} {Q : State → Type 
   gap g h l d more =
       let c : Base = record b { in_gap = true } in
       spelled_as (flatten (Then (Then (Bytes (decimal g.rule)) (Then (Bytes (codes " set ")) (Then (Bytes (numbers_text g.set))
-      (Then (Bytes (codes " shut ")) (Bytes (bracketed (joined (codes " ") (map (place_text p) g.shut))))))))
+      (Then (Bytes (codes " shut ")) (Bytes (bracketed (joined (codes " ") (map (symbol_place_text p) g.shut))))))))
       (Then (Bytes (codes " moves ")) (Then (Bytes (listed (map point_text g.moves))) (Then (Bytes (codes " floor "))
       (Then (Bytes (point_text g.floor)) (Then (Bytes (codes " kept ")) (Bytes (listed (map point_text g.kept))))))))) rest)
       (makes 32 (item.Mark 41 ∷ item.Made 9 ∷ item.Piece 32 ∷ item.Piece 15 ∷ item.Piece 32 ∷ item.Made 11 ∷ item.Piece 32 ∷

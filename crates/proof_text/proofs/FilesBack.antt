@@ -51,7 +51,7 @@ use Rattle.proof_text.specs.Lists.{bracketed, joined, listed, numbers_text}
 use Rattle.proof_text.specs.Reading.{Progress, file_in, moved, proof_fold, proofs_of}
 use Rattle.proof_text.specs.Remembered.{Draft, State, begun, done, no_draft}
 use Rattle.proof_text.specs.Spelled.{AreLemmasWithin, IsFileWithin, IsGapWithin, IsPlaceOf, IsPointWithin, IsTextWithin}
-use Rattle.proof_text.specs.Texts.{first_line, gap_lines, gap_text, has_cost, lemma_lines, node_text, place_text, point_text}
+use Rattle.proof_text.specs.Texts.{first_line, gap_lines, gap_text, has_cost, lemma_lines, node_text, symbol_place_text, point_text}
 use Rattle.proof_text.specs.Texts.{some_has_cost, text_of}
 use Rattle.proof_text.specs.Told.{refusal_in}
 use Rattle.proof_text.proofs.Along.{Along, Bytes, Cuts, IsCutOff, Then, at, flatten, skipped}
@@ -111,12 +111,12 @@ module _ {p : Program} {ss : List Symbol} {whole : List ℕ} {Q : State → Type
             })
             (on (decimal r) e1 (on (codes " set ") (on (codes " ") e2 (on (codes "set") e3 e4)) (on (numbers_text rs) e5
             (on (codes " shut ") (on (codes " ") e6 (on (codes "shut") e7 e8))
-            (on (bracketed (joined (codes " ") (map (place_text p) shut))) e9
+            (on (bracketed (joined (codes " ") (map (symbol_place_text p) shut))) e9
             (on (codes " moves ") (on (codes " ") e10 (on (codes "moves") e11 e12)) (on (listed (map point_text moves)) e13
             (on (codes " floor ") (on (codes " ") e14 (on (codes "floor") e15 e16)) (on (point_text floor) e17
             (on (codes " kept ") (on (codes " ") e18 (on (codes "kept") e19 e20)) e21)))))))))
             ∙ sym (flatten (Then (Then (Bytes (decimal r)) (Then (Bytes (codes " set ")) (Then (Bytes (numbers_text rs))
-            (Then (Bytes (codes " shut ")) (Bytes (bracketed (joined (codes " ") (map (place_text p) shut))))))))
+            (Then (Bytes (codes " shut ")) (Bytes (bracketed (joined (codes " ") (map (symbol_place_text p) shut))))))))
             (Then (Bytes (codes " moves ")) (Then (Bytes (listed (map point_text moves))) (Then (Bytes (codes " floor "))
             (Then (Bytes (point_text floor)) (Then (Bytes (codes " kept ")) (Bytes (listed (map point_text kept))))))))) rest))
             x21)))))))))))))))))))))),

@@ -31,7 +31,7 @@ use Rattle.proof_text.specs.Against.{or_else}
 use Rattle.proof_text.specs.Lists.{bracketed, each_before, each_behind, joined, listed}
 use Rattle.proof_text.specs.Remembered.{Draft, State, last_of, point_in}
 use Rattle.proof_text.specs.Spelled.{IsPlaceOf, IsPointWithin}
-use Rattle.proof_text.specs.Texts.{name_at, place_text, point_text}
+use Rattle.proof_text.specs.Texts.{name_at, symbol_place_text, point_text}
 use Rattle.proof_text.proofs.Along.{Along, Bytes, IsCutOff, Then, becomes, flatten, makes, marks, reads, spelled_as}
 use Rattle.proof_text.proofs.Cutting.{Bare, Digits, Shut, blank, closes, digits_of, minus, number, opens, positive, semicolon}
 use Rattle.proof_text.proofs.KeptLaws.{before_behind, last_behind}
@@ -246,7 +246,7 @@ module _ {p : Program} {ss : List Symbol} {rest : List ℕ} {Q : State → Type 
   -- a place that is shut
   pub place : (s : SymbolPlace) → IsPlaceOf p s → Stops continues_name rest
       → Along p ss (st b l (record d { shut = d.shut ++ s ∷ [] })) mode.InShut rest Q
-      → Along p (item.Piece 43 ∷ ss) (st b l d) mode.InShut (place_text p s ++ rest) Q
+      → Along p (item.Piece 43 ∷ ss) (st b l d) mode.InShut (symbol_place_text p s ++ rest) Q
   place s h stops more =
       let few = sure.few_places s.symbol in
       let least = limit_least b in
@@ -268,14 +268,14 @@ module _ {p : Program} {ss : List Symbol} {rest : List ℕ} {Q : State → Type 
   more_places : (xs : List SymbolPlace) → AllByRecursion (IsPlaceOf p) xs → (d : Draft)
       → Along p ss (st b l (record d { shut = d.shut ++ xs })) mode.Plain rest Q
       → Along p (item.Made 34 ∷ ss) (st b l d) mode.InShut
-      (each_behind (codes " ") (map (place_text p) xs) ++ (93 ∷ rest)) Q
+      (each_behind (codes " ") (map (symbol_place_text p) xs) ++ (93 ∷ rest)) Q
   more_places [] all d more =
       makes 34 (item.Piece 35 ∷ []) (inl refl)
       (closes Shut (becomes (ap (λ (xs : List SymbolPlace). st b l (record d { shut = xs })) (sym (append-nil d.shut))) more))
   more_places (x ∷ xs) all d more =
-      spelled_as (word_then (place_text p x) (map (place_text p) xs) (93 ∷ rest))
+      spelled_as (word_then (symbol_place_text p x) (map (symbol_place_text p) xs) (93 ∷ rest))
       (makes 34 (item.Piece 32 ∷ item.Piece 43 ∷ item.Made 34 ∷ []) (inr (inl refl))
-      (blank Shut (place sure b l d x all.0 (places_stop (map (place_text p) xs) rest)
+      (blank Shut (place sure b l d x all.0 (places_stop (map (symbol_place_text p) xs) rest)
       (more_places xs all.1 (record d { shut = d.shut ++ x ∷ [] })
       (becomes (ap (λ (ys : List SymbolPlace). st b l (record d { shut = ys })) (append_assoc d.shut (x ∷ []) xs)) more)))))
 
@@ -283,13 +283,13 @@ module _ {p : Program} {ss : List Symbol} {rest : List ℕ} {Q : State → Type 
   pub places : (xs : List SymbolPlace) → AllByRecursion (IsPlaceOf p) xs → (d : Draft)
       → Along p ss (st b l (record d { shut = d.shut ++ xs })) mode.Plain rest Q
       → Along p (item.Piece 34 ∷ item.Made 33 ∷ ss) (st b l d) mode.InShut
-      (bracketed (joined (codes " ") (map (place_text p) xs)) ++ rest) Q
+      (bracketed (joined (codes " ") (map (symbol_place_text p) xs)) ++ rest) Q
   places [] all d more =
       opens Shut (makes 33 (item.Piece 35 ∷ []) (inl refl)
       (closes Shut (becomes (ap (λ (xs : List SymbolPlace). st b l (record d { shut = xs })) (sym (append-nil d.shut))) more)))
   places (x ∷ xs) all d more =
-      opens Shut (spelled_as (words_then (place_text p x) (map (place_text p) xs) rest)
+      opens Shut (spelled_as (words_then (symbol_place_text p x) (map (symbol_place_text p) xs) rest)
       (makes 33 (item.Piece 43 ∷ item.Made 34 ∷ []) (inr (inl refl))
-      (place sure b l d x all.0 (places_stop (map (place_text p) xs) rest)
+      (place sure b l d x all.0 (places_stop (map (symbol_place_text p) xs) rest)
       (more_places xs all.1 (record d { shut = d.shut ++ x ∷ [] })
       (becomes (ap (λ (ys : List SymbolPlace). st b l (record d { shut = ys })) (append_assoc d.shut (x ∷ []) xs)) more)))))

@@ -32,7 +32,7 @@ use Rattle.proof_text.specs.Lists.{bracketed, each_before, each_behind, joined, 
 use Rattle.proof_text.specs.Reading.{moved}
 use Rattle.proof_text.specs.Remembered.{Draft, State}
 use Rattle.proof_text.specs.Spelled.{IsPlaceOf, IsPointWithin}
-use Rattle.proof_text.specs.Texts.{name_at, place_text, point_text}
+use Rattle.proof_text.specs.Texts.{name_at, symbol_place_text, point_text}
 use Rattle.proof_text.proofs.Along.{Along, Bytes, Then, flatten}
 use Rattle.proof_text.proofs.Back.{less, made_back, mark_back, on, read_back, shorter, sign_back, turned_to}
 use Rattle.proof_text.proofs.Cutting.{Bare}
@@ -210,7 +210,7 @@ shut_there p limit s d n is h =
 module _ {p : Program} {ss : List Symbol} {Q : State → Type 0} {R : Type 0} (sure : Sure p) (b : Base) (l : Last) where
   -- a place that is shut
   place_read : {whole : List ℕ} (d : Draft) → Along p (item.Piece 43 ∷ ss) (st b l d) mode.InShut whole Q
-      → ((s : SymbolPlace) (rest : List ℕ) → IsPlaceOf p s → whole ≡ place_text p s ++ rest
+      → ((s : SymbolPlace) (rest : List ℕ) → IsPlaceOf p s → whole ≡ symbol_place_text p s ++ rest
       → Along p ss (st b l (record d { shut = d.shut ++ s ∷ [] })) mode.InShut rest Q → R) → R
   place_read d a k = read_back 43 a (λ q rest is none cut more.
       let c = class_place q is in
@@ -247,7 +247,7 @@ module _ {p : Program} {ss : List Symbol} {Q : State → Type 0} {R : Type 0} (s
   more_places_back : (f : ℕ) {whole : List ℕ} → length whole < f → (d : Draft)
       → Along p (item.Made 34 ∷ ss) (st b l d) mode.InShut whole Q
       → ((xs : List SymbolPlace) (rest : List ℕ) → AllByRecursion (IsPlaceOf p) xs
-      → whole ≡ each_behind (codes " ") (map (place_text p) xs) ++ (93 ∷ rest)
+      → whole ≡ each_behind (codes " ") (map (symbol_place_text p) xs) ++ (93 ∷ rest)
       → Along p ss (st b l (record d { shut = d.shut ++ xs })) mode.Plain rest Q → R) → R
   more_places_back zero few d a k = absurd (omega (arith, few))
   more_places_back (suc f) few d a k =
@@ -256,11 +256,11 @@ module _ {p : Program} {ss : List Symbol} {Q : State → Type 0} {R : Type 0} (s
             (turned_to (ap (λ (xs : List SymbolPlace). st b l (record d { shut = xs })) (sym (append-nil d.shut))) y))),
         (
           (λ x. sign_back sign.Blank x (λ r1 e1 y. place_read sure b l d y (λ s r2 is e2 z.
-              let one = less 32 e1 in let two = shorter (place_text p s) r2 e2 in
+              let one = less 32 e1 in let two = shorter (symbol_place_text p s) r2 e2 in
               more_places_back f (omega (arith, few, one, two)) (record d { shut = d.shut ++ s ∷ [] }) z
               (λ xs rest all e w. k (s ∷ xs) rest (is, all)
-              (on (codes " ") e1 (on (place_text p s) e2 e)
-              ∙ sym (word_then (place_text p s) (map (place_text p) xs) (93 ∷ rest)))
+              (on (codes " ") e1 (on (symbol_place_text p s) e2 e)
+              ∙ sym (word_then (symbol_place_text p s) (map (symbol_place_text p) xs) (93 ∷ rest)))
               (turned_to (ap (λ (ys : List SymbolPlace). st b l (record d { shut = ys })) (append_assoc d.shut (s ∷ []) xs)) w))))),
           tt,
         ),
@@ -269,7 +269,7 @@ module _ {p : Program} {ss : List Symbol} {Q : State → Type 0} {R : Type 0} (s
   -- the places that are shut
   pub places_back : {whole : List ℕ} (d : Draft) → Along p (item.Piece 34 ∷ item.Made 33 ∷ ss) (st b l d) mode.InShut whole Q
       → ((xs : List SymbolPlace) (rest : List ℕ) → AllByRecursion (IsPlaceOf p) xs
-      → whole ≡ bracketed (joined (codes " ") (map (place_text p) xs)) ++ rest
+      → whole ≡ bracketed (joined (codes " ") (map (symbol_place_text p) xs)) ++ rest
       → Along p ss (st b l (record d { shut = d.shut ++ xs })) mode.Plain rest Q → R) → R
   places_back d a k =
       sign_back sign.OpenSquare a (λ r1 e1 y.
@@ -280,8 +280,8 @@ module _ {p : Program} {ss : List Symbol} {Q : State → Type 0} {R : Type 0} (s
           (λ z. place_read sure b l d z (λ s r2 is e2 w.
               more_places_back (suc (length r2)) (omega arith) (record d { shut = d.shut ++ s ∷ [] }) w
               (λ xs rest all e v. k (s ∷ xs) rest (is, all)
-              (on (codes "[") e1 (on (place_text p s) e2 e
-              ∙ sym (words_then (place_text p s) (map (place_text p) xs) rest)))
+              (on (codes "[") e1 (on (symbol_place_text p s) e2 e
+              ∙ sym (words_then (symbol_place_text p s) (map (symbol_place_text p) xs) rest)))
               (turned_to (ap (λ (ys : List SymbolPlace). st b l (record d { shut = ys })) (append_assoc d.shut (s ∷ []) xs)) v)))),
           tt,
         ),

@@ -1,7 +1,7 @@
 -- what the contracts of this crate, and of those above it, cite
 pub mod Lists
 pub mod Texts
-pub mod Listed
+pub mod OverFirst
 pub mod Spelled
 pub mod Remembered
 pub mod Against

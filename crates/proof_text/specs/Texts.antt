@@ -132,14 +132,14 @@ abbrev pub point_text : ScaledPoint → List ℕ
 point_text z = ending_in z.parts (decimal z.den)
 
 -- a place of a symbol
-abbrev pub place_text : Program → SymbolPlace → List ℕ
-place_text p s = name_at p s.symbol ++ (codes "." ++ decimal s.place)
+abbrev pub symbol_place_text : Program → SymbolPlace → List ℕ
+symbol_place_text p s = name_at p s.symbol ++ (codes "." ++ decimal s.place)
 
 -- the rule, the set and the shut places of a gap
 abbrev pub gap_head : Program → Gap → List ℕ
 gap_head p g =
     decimal g.rule ++ (codes " set " ++ (numbers_text g.set
-    ++ (codes " shut " ++ bracketed (joined (codes " ") (map (place_text p) g.shut)))))
+    ++ (codes " shut " ++ bracketed (joined (codes " ") (map (symbol_place_text p) g.shut)))))
 
 -- its points
 abbrev pub gap_points : Gap → List ℕ

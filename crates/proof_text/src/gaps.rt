@@ -4,7 +4,7 @@ ghost use Rattle.std.specs.Prelude.{◌≡◌, ◌++◌, map, codes, OnOk};
 ghost use Rattle.its_model.specs.Views.{program_of};
 ghost use Rattle.proof_tree.specs.AnswerViews.{gap_of, scaled_of, shut_of, symbol_place};
 ghost use Rattle.proof_text.specs.Lists.{bracketed, each_behind, joined, listed};
-ghost use Rattle.proof_text.specs.Texts.{gap_head, gap_points, gap_text, place_text, point_text};
+ghost use Rattle.proof_text.specs.Texts.{gap_head, gap_points, gap_text, symbol_place_text, point_text};
 
 use crate::nodes::push_name;
 use crate::numbers::{push_each_before, push_number, push_rules};
@@ -91,7 +91,7 @@ fn push_more_points(text: &mut Vec<u8>, points: &[Scaled]) -> Result<(), Memory>
 // Shut places in square brackets, with a blank between them.
 fn push_shut(text: &mut Vec<u8>, p: &Program, shut: &[(u32, u32)]) -> Result<(), Memory>
     ensures { OnOk result (text.new.items ≡ text.old.items
-        ++ bracketed (joined (codes " ") (map (place_text (program_of p.now)) (map shut_of shut.now)))) }
+        ++ bracketed (joined (codes " ") (map (symbol_place_text (program_of p.now)) (map shut_of shut.now)))) }
 {
     text.extend_from_slice(b"[")?;
     push_joined_places(text, p, shut)?;
@@ -101,7 +101,7 @@ fn push_shut(text: &mut Vec<u8>, p: &Program, shut: &[(u32, u32)]) -> Result<(),
 // The places, with a blank between them.
 fn push_joined_places(text: &mut Vec<u8>, p: &Program, places: &[(u32, u32)]) -> Result<(), Memory>
     ensures { OnOk result (text.new.items ≡ text.old.items
-        ++ joined (codes " ") (map (place_text (program_of p.now)) (map shut_of places.now))) }
+        ++ joined (codes " ") (map (symbol_place_text (program_of p.now)) (map shut_of places.now))) }
 {
     let Some((first, others)) = places.split_first() else {
         return Ok(());
@@ -113,7 +113,7 @@ fn push_joined_places(text: &mut Vec<u8>, p: &Program, places: &[(u32, u32)]) ->
 // A blank before each place.
 fn push_more_places(text: &mut Vec<u8>, p: &Program, places: &[(u32, u32)]) -> Result<(), Memory>
     ensures { OnOk result (text.new.items ≡ text.old.items
-        ++ each_behind (codes " ") (map (place_text (program_of p.now)) (map shut_of places.now))) }
+        ++ each_behind (codes " ") (map (symbol_place_text (program_of p.now)) (map shut_of places.now))) }
 {
     for place in places {
         text.extend_from_slice(b" ")?;
@@ -125,7 +125,7 @@ fn push_more_places(text: &mut Vec<u8>, p: &Program, places: &[(u32, u32)]) -> R
 // A place of a symbol.
 fn push_place(text: &mut Vec<u8>, p: &Program, symbol: u32, place: u32) -> Result<(), Memory>
     ensures { OnOk result (text.new.items ≡ text.old.items
-        ++ place_text (program_of p.now) (symbol_place symbol place)) }
+        ++ symbol_place_text (program_of p.now) (symbol_place symbol place)) }
 {
     push_name(text, &p.symbols, symbol)?;
     text.extend_from_slice(b".")?;

@@ -5,7 +5,7 @@ ghost use Rattle.std.specs.List.{All};
 ghost use Rattle.its_model.specs.Views.{program_of};
 ghost use Rattle.proof_tree.specs.Views.{proof_of};
 ghost use Rattle.proof_tree.specs.AnswerViews.{file_of, gap_of};
-ghost use Rattle.proof_text.specs.Listed.{IsListed};
+ghost use Rattle.proof_text.specs.OverFirst.{IsOverFirst};
 ghost use Rattle.proof_text.specs.Texts.{first_line, gap_lines, lemma_lines, text_of};
 
 use crate::gaps::push_gap;
@@ -23,7 +23,7 @@ use std::alloc::Global;
 /// `Memory` where an allocation fails.
 #[tactic(auto, unfolding(crate::specs::Texts::text_of))]
 pub fn print(alloc: Global, p: &Program, f: &ProofFile) -> Result<Vec<u8>, Memory>
-    requires { All (λ lemma. IsListed (length p.now.start_names.items) (proof_of lemma)) f.now.lemmas.items }
+    requires { All (λ lemma. IsOverFirst (length p.now.start_names.items) (proof_of lemma)) f.now.lemmas.items }
     ensures { IfOk result (λ text. text.items ≡ text_of (program_of p.now) (file_of f.now)) }
 {
     let mut text = Vec::new(alloc);
@@ -47,7 +47,7 @@ fn push_first_line(text: &mut Vec<u8>, lemmas: &[Proof]) -> Result<(), Memory>
 
 // A line for each lemma.
 fn push_lemmas(text: &mut Vec<u8>, p: &Program, lemmas: &[Proof]) -> Result<(), Memory>
-    requires { All (λ lemma. IsListed (length p.now.start_names.items) (proof_of lemma)) lemmas.now }
+    requires { All (λ lemma. IsOverFirst (length p.now.start_names.items) (proof_of lemma)) lemmas.now }
     ensures { OnOk result
         (text.new.items ≡ text.old.items ++ lemma_lines (program_of p.now) (map proof_of lemmas.now)) }
 {

@@ -56,7 +56,7 @@ fn judge(alloc: Global, p: &Program, bytes: &[u8]) -> Result<ProofFile, ProofTex
     let lexer = ProofLexer::new(alloc, p)?;
     let cut = Cut::new(lexer, Mode::Beginning, bytes);
     let text = ProofReading::new(alloc, p);
-    match read_tokens(alloc, &tables, text, cut, bytes.len() as u64) {
+    match read_tokens(alloc, tables, text, cut, bytes.len() as u64) {
         Ok(file) => Ok(file),
         Err(refusal) => Err(ProofTextError::from(refusal)),
     }

@@ -6,7 +6,7 @@ ghost use Rattle.proof_tree.specs.Views.{proof_of, uses_of};
 ghost use Rattle.proof_tree.specs.bound_expr.Numbers.{ReadsBelow};
 ghost use Rattle.proof_tree.specs.bound_expr.Views.{bound_of};
 ghost use Rattle.proof_tree.specs.proof_nodes.Nodes.{Never, Weaken};
-ghost use Rattle.proof_text.specs.Listed.{AreListed, IsListed};
+ghost use Rattle.proof_text.specs.OverFirst.{AreOverFirst, IsOverFirst};
 ghost use Rattle.proof_text.specs.Texts.{has_cost as has_cost_node, have_cost, node_text, uses_text};
 ghost use Rattle.proof_text.specs.Texts.{some_has_cost as some_has_cost_of};
 
@@ -20,7 +20,7 @@ use proof_tree::Proof;
 /// A node with all that it rests on. The call goes as deep as the proof.
 #[cycle(write_proof)]
 pub(crate) fn push_proof(text: &mut Vec<u8>, p: &Program, proof: &Proof) -> Result<(), Memory>
-    requires { IsListed (length p.now.start_names.items) (proof_of proof.now) }
+    requires { IsOverFirst (length p.now.start_names.items) (proof_of proof.now) }
     ensures { OnOk result
         (text.new.items ≡ text.old.items ++ node_text (program_of p.now) (proof_of proof.now)) }
 {
@@ -56,7 +56,7 @@ pub(crate) fn push_proof(text: &mut Vec<u8>, p: &Program, proof: &Proof) -> Resu
 // The sizes after a rule that never runs.
 #[cycle(write_proof)]
 fn push_never(text: &mut Vec<u8>, p: &Program, child: &Proof) -> Result<(), Memory>
-    requires { IsListed (length p.now.start_names.items) (proof_of child.now) }
+    requires { IsOverFirst (length p.now.start_names.items) (proof_of child.now) }
     ensures { OnOk result
         (text.new.items ≡ text.old.items ++ node_text (program_of p.now) (Never (proof_of child.now))) }
 {
@@ -68,7 +68,7 @@ fn push_never(text: &mut Vec<u8>, p: &Program, child: &Proof) -> Result<(), Memo
 // A fact with another bound.
 #[cycle(write_proof)]
 fn push_weaken(text: &mut Vec<u8>, p: &Program, child: &Proof, bound: &Bound) -> Result<(), Memory>
-    requires child { IsListed (length p.now.start_names.items) (proof_of child.now) }
+    requires child { IsOverFirst (length p.now.start_names.items) (proof_of child.now) }
     requires bound { ReadsBelow (length p.now.start_names.items) (bound_of bound.now) }
     ensures { OnOk result (text.new.items ≡ text.old.items
         ++ node_text (program_of p.now) (Weaken (proof_of child.now) (bound_of bound.now))) }
@@ -82,7 +82,7 @@ fn push_weaken(text: &mut Vec<u8>, p: &Program, child: &Proof, bound: &Bound) ->
 // What a node rests on.
 #[cycle(write_proof)]
 fn push_uses(text: &mut Vec<u8>, p: &Program, uses: &[Proof]) -> Result<(), Memory>
-    requires { AreListed (length p.now.start_names.items) (uses_of (map proof_of uses.now)) }
+    requires { AreOverFirst (length p.now.start_names.items) (uses_of (map proof_of uses.now)) }
     ensures { OnOk result
         (text.new.items ≡ text.old.items ++ uses_text (program_of p.now) (uses_of (map proof_of uses.now))) }
 {

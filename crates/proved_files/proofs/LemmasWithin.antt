@@ -12,7 +12,7 @@ use Rattle.proof_tree.specs.proof_nodes.Nodes.{Spot, Proof, Proofs, Start, AndPr
 use Rattle.proof_tree.specs.proof_nodes.Setting.{Setting}
 use Rattle.bound_rounds.specs.Finds.{Node, EmptyBy, UnreachedBy, NeverBy, RankBy, SpreadBy, CycleBy, Find, number_in}
 use Rattle.bound_rounds.specs.Needs.{once, cites, uses_from, uses_for, lemma_by, lemmas_of}
-use Rattle.proof_text.specs.Listed.{IsListed, AreListed}
+use Rattle.proof_text.specs.OverFirst.{IsOverFirst, AreOverFirst}
 use Rattle.proof_text.specs.Spelled.{level_limit, IsMemberWithin, IsProofWithin, AreProofsWithin, AreLemmasWithin}
 use Rattle.proved_files.proofs.NodesWithin.{member-within, rank-within}
 
@@ -81,20 +81,20 @@ unfolding AcceptsLemmas
 lemmas-within s valid fs h = lemmas-from s valid (number_in fs) [] fs h
 
 -- citing writes no bound
-cites-listed : (n : ℕ) (ns : List ℕ) → AreListed n (cites ns)
+cites-listed : (n : ℕ) (ns : List ℕ) → AreOverFirst n (cites ns)
 cites-listed n [] = tt
 cites-listed n (m ∷ ns) = (tt, cites-listed n ns)
 
-uses-listed : (n : ℕ) (ns : List ℕ) → AreListed n (uses_from ns)
+uses-listed : (n : ℕ) (ns : List ℕ) → AreOverFirst n (uses_from ns)
 uses-listed n ns = go (is_in 0 ns)
   where
-    go : (v : Bool) → AreListed n
+    go : (v : Bool) → AreOverFirst n
         (cond v (AndProof Start (cites (once (filter (λ m. not (m == 0)) ns)))) (cites (once (filter (λ m. not (m == 0)) ns))))
     go true = (tt, cites-listed n (once (filter (λ m. not (m == 0)) ns)))
     go false = cites-listed n (once (filter (λ m. not (m == 0)) ns))
 
 -- nor does the lemma of a find
-lemma-listed : (n : ℕ) (number : ℕ → ℕ → ℕ) (node : Node) (needs : List Spot) → IsListed n (lemma_by number node needs)
+lemma-listed : (n : ℕ) (number : ℕ → ℕ → ℕ) (node : Node) (needs : List Spot) → IsOverFirst n (lemma_by number node needs)
 lemma-listed n number (EmptyBy t multipliers) needs = tt
 lemma-listed n number (UnreachedBy t) needs = uses-listed n (map (λ k. number k.rule k.place) needs)
 lemma-listed n number (NeverBy t) needs = tt
@@ -103,11 +103,11 @@ lemma-listed n number (SpreadBy m) needs = uses-listed n (map (λ k. number k.ru
 lemma-listed n number (CycleBy members) needs = uses-listed n (map (λ k. number k.rule k.place) needs)
 
 each-listed : (n : ℕ) (number : ℕ → ℕ → ℕ) (fs : List Find)
-    → All (IsListed n) (map (λ f. lemma_by number f.node f.needs) fs)
-each-listed n number [] = All-nil (IsListed n)
+    → All (IsOverFirst n) (map (λ f. lemma_by number f.node f.needs) fs)
+each-listed n number [] = All-nil (IsOverFirst n)
 each-listed n number (f ∷ fs) =
-    All-cons (IsListed n) (lemma_by number f.node f.needs) (map (λ g. lemma_by number g.node g.needs) fs)
+    All-cons (IsOverFirst n) (lemma_by number f.node f.needs) (map (λ g. lemma_by number g.node g.needs) fs)
     (lemma-listed n number f.node f.needs) (each-listed n number fs)
 
-pub lemmas-listed : (n : ℕ) (fs : List Find) → All (IsListed n) (lemmas_of fs)
+pub lemmas-listed : (n : ℕ) (fs : List Find) → All (IsOverFirst n) (lemmas_of fs)
 lemmas-listed n fs = each-listed n (number_in fs) fs

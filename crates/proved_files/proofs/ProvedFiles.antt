@@ -17,7 +17,7 @@ use Rattle.proof_tree.specs.proof_setting.RankedSets.{forms_at}
 use Rattle.proof_tree.specs.proof_setting.Setting.{setting_of}
 use Rattle.bound_rounds.specs.Finds.{Find, number_in}
 use Rattle.bound_rounds.specs.Needs.{lemma_by, lemmas_of}
-use Rattle.proof_text.specs.Listed.{IsListed}
+use Rattle.proof_text.specs.OverFirst.{IsOverFirst}
 use Rattle.proof_text.specs.Spelled.{AreLemmasWithin, IsGapWithin, IsFileWithin}
 use Rattle.time_bounds.specs.ProgramSearches.{searches_of_program}
 use Rattle.time_bounds.proofs.OneProgram.{program_searches_one}
@@ -94,6 +94,6 @@ proved-accepted = record {
   };
   within = λ p pivots o valid h. whole p pivots o valid h;
   listed = λ p pivots o valid h.
-      each-proof (IsListed (length p.start_names)) o.lemmas.items
-      (subst (All (IsListed (length p.start_names))) (sym h.lemmas.lemmas) (lemmas-listed (length p.start_names) h.lemmas.finds));
+      each-proof (IsOverFirst (length p.start_names)) o.lemmas.items
+      (subst (All (IsOverFirst (length p.start_names))) (sym h.lemmas.lemmas) (lemmas-listed (length p.start_names) h.lemmas.finds));
 }

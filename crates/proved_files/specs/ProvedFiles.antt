@@ -8,7 +8,7 @@ use Rattle.proof_tree.specs.AnswerViews.{gap_of}
 use Rattle.proof_tree.specs.Views.{proof_of}
 use Rattle.proof_tree.specs.proof_nodes.Gaps.{ProofFile}
 use Rattle.proof_tree.specs.proof_setting.Laws.{AcceptsFileFor}
-use Rattle.proof_text.specs.Listed.{IsListed}
+use Rattle.proof_text.specs.OverFirst.{IsOverFirst}
 use Rattle.proof_text.specs.Spelled.{IsFileWithin}
 use Rattle.outcome.specs.Views.{report_of}
 use Rattle.time_bounds.specs.Analysis.{IsAnalysis}
@@ -31,4 +31,4 @@ pub record ProvedFilesAreAccepted : Type 0 where
   pub within : (p : Program) (pivots : ℕ) (o : Outcome) → IsValid p → IsOutcomeOf p pivots o
       → IsFileWithin p (file_of_outcome o)
   pub listed : (p : Program) (pivots : ℕ) (o : Outcome) → IsValid p → IsOutcomeOf p pivots o
-      → All (λ lemma. IsListed (length p.start_names) (proof_of lemma)) o.lemmas.items
+      → All (λ lemma. IsOverFirst (length p.start_names) (proof_of lemma)) o.lemmas.items

@@ -3,7 +3,7 @@
 ghost use Rattle.its_model.specs.Valid.{IsValid};
 ghost use Rattle.its_model.specs.Views.{program_of};
 
-use crate::listed::are_listed;
+use crate::over_first::are_over_first;
 use crate::runs::bytes_of;
 use crate::writing::{Frame, text_of};
 use its_model::Program;
@@ -76,7 +76,7 @@ fn text_again(
     file: &ProofFile,
     bytes: &[u8],
 ) -> Result<&'static str, Memory> {
-    if !are_listed(program.start_names.len(), &file.lemmas) {
+    if !are_over_first(program.start_names.len(), &file.lemmas) {
         return Ok("over other names");
     }
     let text = print(alloc, program, file)?;

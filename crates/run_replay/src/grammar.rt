@@ -21,7 +21,7 @@ mod class {
 
 /// How many classes of bytes there are.
 pub const CLASSES: u32 = 18;
-/// After how many rounds the table is whole.
+/// After how many rounds an entry of the table is what it stays.
 pub const ROUNDS: u32 = 9;
 
 const STEPS: u32 = 8;

@@ -18,7 +18,7 @@ use Rattle.text_grammar.specs.Parts.{ComesTo, AreMade, Gives, AllGive, AllMake, 
 use Rattle.text_grammar.specs.ByteTexts.{ByteText, Spelling, Numeral, Numbered, Value, fresh, with_byte, reads, says}
 use Rattle.text_grammar.specs.ByteTexts.{class_of, only, tokens, fold_of, numbers_of, done_mark, grammar_of}
 use Rattle.text_grammar.specs.ByteTexts.{texts_of, number_rule, positive_rule, digits_rule, values_rule, HasNumbers}
-use Rattle.text_grammar.specs.ByteTexts.{IsBounded, against_number, value_limit, AreSmall, line_text, values_parts}
+use Rattle.text_grammar.specs.ByteTexts.{IsBounded, against_number, line_value_limit, AreSmall, line_text, values_parts}
 use Rattle.text_grammar.specs.ByteTexts.{value_events, values_events}
 use Rattle.text_grammar.specs.declared.numeral.Within.TheVariants.{Natural as InNatural}
 use Rattle.text_grammar.specs.ByteParts.{Plain, Positive, number_of, ValueOf, parts_of, OwnAreMade}
@@ -116,7 +116,7 @@ module _ {S T K : Type 0} (x : ByteText S T K) (bounded : IsBounded x) where
   values_stand (v ∷ vs) o m ws h =
       let r = values_stand vs o fresh (ws ++ v ∷ []) h.1.1 in (
         (
-          small_value (unsigned_abs v) (none_when (nat_lt value_limit (unsigned_abs v)) x.too_large h.1.0),
+          small_value (unsigned_abs v) (none_when (nat_lt line_value_limit (unsigned_abs v)) x.too_large h.1.0),
           r.0,
         ),
         ap (λ (us : List ℤ). x.against_line o (length us)) (sym (append_assoc ws (v ∷ []) vs)) ∙ r.1,

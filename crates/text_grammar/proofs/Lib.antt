@@ -1,6 +1,7 @@
 pub mod Tests
 pub mod Events
 pub mod LeadLaws
+mod RuleLaws
 pub mod TableLaws
 pub mod Readable
 pub mod Parsing

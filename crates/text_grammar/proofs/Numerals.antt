@@ -15,7 +15,7 @@ use Rattle.text_grammar.specs.Parts.{Part, come, Stand}
 use Rattle.text_grammar.specs.ByteTexts.{ByteText, Spelling, Numeral, Numbered, Value, Natural, Line, fresh, one_more}
 use Rattle.text_grammar.specs.ByteTexts.{with_byte, reads, says, fold_of, numbers_of, number_events, value_events}
 use Rattle.text_grammar.specs.ByteTexts.{values_events, NumberStands, put_number, against_in, against_number}
-use Rattle.text_grammar.specs.ByteTexts.{against_feed, against_next, done_mark, IsBounded, value_limit, AreSmall}
+use Rattle.text_grammar.specs.ByteTexts.{against_feed, against_next, done_mark, IsBounded, line_value_limit, AreSmall}
 use Rattle.text_grammar.specs.declared.numeral.Within.{Within}
 use Rattle.text_grammar.specs.declared.numeral.Within.TheVariants.{Words, Natural as InNatural, Line as InLine}
 use Rattle.text_core.specs.Choices.{when}
@@ -115,10 +115,10 @@ pub has_room : (limit n : ℕ) → n + 1 ≤ limit → nat_le limit n ≡ false
 has_room limit n h = grind (arith, nat_tests)
 
 -- a value is small exactly where it isn't too large
-pub small_value : (n : ℕ) → nat_lt value_limit n ≡ false → n ≤ value_limit
+pub small_value : (n : ℕ) → nat_lt line_value_limit n ≡ false → n ≤ line_value_limit
 small_value n h = grind (arith, nat_tests)
 
-pub value_small : (n : ℕ) → n ≤ value_limit → nat_lt value_limit n ≡ false
+pub value_small : (n : ℕ) → n ≤ line_value_limit → nat_lt line_value_limit n ≡ false
 value_small n h = grind (arith, nat_tests)
 
 module _ {S T K : Type 0} (x : ByteText S T K) (h : IsBounded x) where
@@ -128,17 +128,17 @@ module _ {S T K : Type 0} (x : ByteText S T K) (h : IsBounded x) where
     where
       go : (w : Within) → against_in x w s.own n ≡ None → n < 2 ^ 64
       go InNatural e = h.small s.own n e
-      go InLine e = let l = small_value n (none_when (nat_lt value_limit n) x.too_large e) in omega (arith, l)
-      go Words e = let l = small_value n (none_when (nat_lt value_limit n) x.too_large e) in omega (arith, l)
+      go InLine e = let l = small_value n (none_when (nat_lt line_value_limit n) x.too_large e) in omega (arith, l)
+      go Words e = let l = small_value n (none_when (nat_lt line_value_limit n) x.too_large e) in omega (arith, l)
 
   -- and nothing stands against lesser ones from 1 on
   below : (s : Spelling S) (m n : ℕ) → 1 ≤ m → m ≤ n → against_number x s n ≡ None → against_number x s m ≡ None
   below s m n some l e = go s.within e
     where
-      valued : when (nat_lt value_limit n) x.too_large ≡ None → when (nat_lt value_limit m) x.too_large ≡ None
+      valued : when (nat_lt line_value_limit n) x.too_large ≡ None → when (nat_lt line_value_limit m) x.too_large ≡ None
       valued e =
-          let k = small_value n (none_when (nat_lt value_limit n) x.too_large e) in
-          when_none (nat_lt value_limit m) x.too_large (value_small m (omega (arith, l, k)))
+          let k = small_value n (none_when (nat_lt line_value_limit n) x.too_large e) in
+          when_none (nat_lt line_value_limit m) x.too_large (value_small m (omega (arith, l, k)))
 
       go : (w : Within) → against_in x w s.own n ≡ None → against_in x w s.own m ≡ None
       go InNatural e = h.below s.own m n some l e
@@ -327,7 +327,7 @@ module _ {S T K : Type 0} (x : ByteText S T K) (h : IsBounded x) where
   )
   values_put (v ∷ vs) o m ws small k =
       let s : Spelling S = lined o fresh ws in
-      let one = value_put s v (when_none (nat_lt value_limit (unsigned_abs v)) x.too_large
+      let one = value_put s v (when_none (nat_lt line_value_limit (unsigned_abs v)) x.too_large
       (value_small (unsigned_abs v) small.0)) in
       let rest =
       values_put vs o fresh (ws ++ v ∷ []) small.1

@@ -1,14 +1,19 @@
 -- Rounds and rows of tables.
-use Rattle.std.proofs.Common.{◌≡◌, ℕ, zero, suc, ◌+◌, ◌<◌, List, [], ◌∷◌, ◌++◌, map, length, refl, ap, ◌∙◌, inl, inr}
-use Rattle.std.proofs.Common.{arith}
-use Rattle.std.specs.Prelude.{Vec, ◌⊎◌, slice_index_or}
-use Rattle.std.proofs.lemmas.List.{map-append, length-map}
-use Rattle.std.proofs.lemmas.Grind.{common_steps}
+use Rattle.std.proofs.Common.{◌≡◌, ℕ, zero, suc, ◌-◌, ◌<◌, ◌≤◌, Bool, true, false, List, [], ◌∷◌, ◌++◌, map, length, refl, ap, sym}
+use Rattle.std.proofs.Common.{◌∙◌, inr, subst, arith, inl}
+use Rattle.std.specs.Prelude.{Vec, ◌⊎◌, ◌≢◌, ◌==◌, slice_index_or, slice_set}
+use Rattle.std.specs.Vec.{with_item}
 use Rattle.std.specs.declared.alloc.Global.{Global}
+use Rattle.std.proofs.Math.ListN as of_lists
+use Rattle.std.proofs.lemmas.Bool.{eqb-true, eqb-false}
+use Rattle.std.proofs.lemmas.List.{get_or-map, get_or-set_same, get_or-set_other, length-map, length-set, map-set}
 use Rattle.text_grammar.specs.declared.symbol.Symbol.{Symbol}
 use Rattle.text_grammar.specs.declared.entry.Entry as code
-use Rattle.text_grammar.specs.Leads.{Lead, Matches, Passes, Stuck, better, row_after}
-use Rattle.text_grammar.specs.Views.{leads_of, HasRows}
+use Rattle.text_grammar.specs.declared.tables.Tables.{Tables}
+use Rattle.text_grammar.specs.Grammars.{alternatives}
+use Rattle.text_grammar.specs.Leads.{Lead, Matches, Passes, Stuck, better, entry, lead_among, row_after}
+use Rattle.text_grammar.specs.Tabled.{IsSound, Remains, HasPut, kept_in, row_in}
+use Rattle.text_grammar.specs.Views.{lead_of, leads_of}
 
 -- of three leads the better one, either way
 pub better-better : (l k j : Lead) → better (better l k) j ≡ better l (better k j)
@@ -26,28 +31,81 @@ better-none (Matches ms rest) = refl
 better-none (Passes ms) = refl
 better-none Stuck = refl
 
--- an element of a list with one more at its end: one of the others, or that one
-pub at_pushed : {X : Type 0} (xs : List X) (x d : X) (i : ℕ) → i < length xs + 1 → ((i < length xs) × (slice_index_or (xs ++ x ∷ []) i d ≡ slice_index_or xs i d)) ⊎ ((i ≡ length xs) × (slice_index_or (xs ++ x ∷ []) i d ≡ x))
-at_pushed [] x d zero h = inr (refl, refl)
-at_pushed [] x d (suc i) h = absurd (omega (arith, h))
-at_pushed (y ∷ xs) x d zero h = inl (omega arith, refl)
-at_pushed (y ∷ xs) x d (suc i) h = go (at_pushed xs x d i (omega (arith, h)))
-  where
-    go : ((i < length xs) × (slice_index_or (xs ++ x ∷ []) i d ≡ slice_index_or xs i d)) ⊎ ((i ≡ length xs) × (slice_index_or (xs ++ x ∷ []) i d ≡ x))
-        → ((suc i < length (y ∷ xs)) × (slice_index_or ((y ∷ xs) ++ x ∷ []) (suc i) d ≡ slice_index_or (y ∷ xs) (suc i) d)) ⊎ ((suc i ≡ length (y ∷ xs)) × (slice_index_or ((y ∷ xs) ++ x ∷ []) (suc i) d ≡ x))
-    go (inl a) = inl ((let k = a.0 in omega (arith, k)), a.1)
-    go (inr a) = inr ((let k = a.0 in omega (arith, k)), a.1)
+-- one more that is stuck changes no lead of a row
+pub entry-longer : (row : List Lead) (n : ℕ) → entry (row ++ Stuck ∷ []) n ≡ entry row n
+entry-longer [] zero = refl
+entry-longer [] (suc n) = refl
+entry-longer (l ∷ row) zero = refl
+entry-longer (l ∷ row) (suc n) = entry-longer row n
 
--- the rows with the next one behind them
-pub rows_pushed : (rows : List (Vec code.Entry Global)) (row : Vec code.Entry Global) (rules : List (List (List Symbol))) (rounds class : ℕ)
-    → HasRows rows rules rounds class → leads_of row.items ≡ row_after rules class rounds → HasRows (rows ++ row ∷ []) rules rounds (class + 1)
-rows_pushed rows row rules rounds class h e = record {
-  counted = let n = h.counted in grind (arith, common_steps, n);
-  each = λ c l. go c (at_pushed (map (λ r. leads_of r.items) rows) (leads_of row.items) [] c (let n = h.counted in grind (arith, common_steps, n, l)));
-}
+-- a lead of a row after a round: its alternatives are led by the row of the round before
+pub entry-after : (rules : List (List (List Symbol))) (c k n : ℕ) → k ≢ 0 → entry (row_after rules c k) n ≡ lead_among c (row_after rules c (k - 1)) (alternatives rules n)
+entry-after rules c k n h = ap (λ (j : ℕ). entry (row_after rules c j) n) (stepped k h) ∙ of_lists.get_or-map (lead_among c (row_after rules c (k - 1))) rules n []
   where
-    go : (c : ℕ) → ((c < length (map (λ r. leads_of r.items) rows)) × (slice_index_or (map (λ r. leads_of r.items) rows ++ leads_of row.items ∷ []) c [] ≡ slice_index_or (map (λ r. leads_of r.items) rows) c []))
-        ⊎ ((c ≡ length (map (λ r. leads_of r.items) rows)) × (slice_index_or (map (λ r. leads_of r.items) rows ++ leads_of row.items ∷ []) c [] ≡ leads_of row.items))
-        → slice_index_or (map (λ r. leads_of r.items) (rows ++ row ∷ [])) c [] ≡ row_after rules c rounds
-    go c (inl a) = ap (λ rs. slice_index_or rs c []) (map-append (λ (r : Vec code.Entry Global). leads_of r.items) rows (row ∷ [])) ∙ a.1 ∙ h.each c (let n = h.counted in let k = a.0 in let m = length-map rows (λ (r : Vec code.Entry Global). leads_of r.items) in omega (arith, n, k, m))
-    go c (inr a) = ap (λ rs. slice_index_or rs c []) (map-append (λ (r : Vec code.Entry Global). leads_of r.items) rows (row ∷ [])) ∙ a.1 ∙ e ∙ ap (λ (k : ℕ). row_after rules k rounds) (let n = h.counted in let k = a.0 in let m = length-map rows (λ (r : Vec code.Entry Global). leads_of r.items) in omega (arith, n, k, m))
+    stepped : (k : ℕ) → k ≢ 0 → k ≡ suc (k - 1)
+    stepped k h = omega (arith, h)
+
+-- a row with an entry in place of another
+pub entry_set : (was entries : List code.Entry) (n : ℕ) (e : code.Entry) → ((k : ℕ) → entry (leads_of entries) k ≡ entry (leads_of was) k) → n < length entries
+    → HasPut (leads_of was) n (lead_of e) (leads_of (slice_set entries n e))
+entry_set was entries n e same l = record {
+  put = ap (λ r. entry r n) (map-set lead_of entries n e) ∙ get_or-set_same (leads_of entries) n (lead_of e) Stuck (let m = length-map entries lead_of in omega (arith, l, m));
+  others = λ k h. ap (λ r. entry r k) (map-set lead_of entries n e) ∙ get_or-set_other (leads_of entries) n k (lead_of e) Stuck h ∙ same k;
+}
+
+-- what is kept of the row of a class stands in it
+pub row_kept : (t : Tables) (c : ℕ) (row : Vec code.Entry Global) → IsSound t → c ≤ t.end → row ≡ slice_index_or t.rows.items c row → leads_of row.items ≡ kept_in t c
+row_kept t c row sound is-class is =
+    ap (λ (r : Vec code.Entry Global). leads_of r.items) is
+    ∙ sym (get_or-map (λ (r : Vec code.Entry Global). leads_of r.items) t.rows.items c row [] (let n = sound.counted in omega (arith, n, is-class)))
+
+-- a table with another row for a class
+module _ (t : Tables) (c : ℕ) (row : Vec code.Entry Global) (sound : IsSound t) (is-class : c ≤ t.end) where
+  abbrev next : Tables
+  next = record t { rows = with_item t.rows c row }
+
+  row_there : kept_in next c ≡ leads_of row.items
+  row_there =
+      get_or-map (λ (r : Vec code.Entry Global). leads_of r.items) (slice_set t.rows.items c row) c row [] (let n = sound.counted in let m = length-set t.rows.items c row in omega (arith, n, m, is-class))
+      ∙ ap (λ (r : Vec code.Entry Global). leads_of r.items) (get_or-set_same t.rows.items c row row (let n = sound.counted in omega (arith, n, is-class)))
+
+  row_elsewhere : (k : ℕ) → k ≢ c → kept_in next k ≡ kept_in t k
+  row_elsewhere k h =
+      ap (λ rs. slice_index_or rs k []) (map-set (λ (r : Vec code.Entry Global). leads_of r.items) t.rows.items c row)
+      ∙ get_or-set_other (map (λ (r : Vec code.Entry Global). leads_of r.items) t.rows.items) c k (leads_of row.items) [] h
+
+  -- keeps the lead that is put in the row
+  pub put_kept : (n : ℕ) (l : Lead) (old : List Lead) → HasPut old n l (leads_of row.items) → l ≡ entry (row_in t c) n → entry (kept_in next c) n ≡ entry (row_in t c) n
+  put_kept n l old has is = ap (λ r. entry r n) row_there ∙ has.put ∙ is
+
+  -- and remains where the rules have that lead
+  pub put_remains : (n : ℕ) (l : Lead) (old : List Lead) → old ≡ kept_in t c → HasPut old n l (leads_of row.items) → l ≡ entry (row_in t c) n → Remains t next
+  put_remains n l old was has is = record {
+    rules = refl;
+    end = refl;
+    rounds = refl;
+    kept = λ k m h. on k m (k == c) refl (m == n) refl h;
+    sound = record { counted = length-set t.rows.items c row ∙ sound.counted; entries = λ k m. go k m (k == c) refl (m == n) refl };
+  }
+    where
+      right : {x : Lead} → (x ≡ Stuck) ⊎ (x ≡ entry (row_in t c) n) → x ≢ Stuck → x ≡ entry (row_in t c) n
+      right (inl e) h = absurd (h e)
+      right (inr e) h = e
+
+      here : (m : ℕ) (v : Bool) → (m == n) ≡ v → (entry (kept_in next c) m ≡ Stuck) ⊎ (entry (kept_in next c) m ≡ entry (row_in t c) m)
+      here m true e = inr (ap (λ r. entry r m) row_there ∙ ap (entry (leads_of row.items)) (eqb-true m n e) ∙ has.put ∙ is ∙ ap (entry (row_in t c)) (sym (eqb-true m n e)))
+      here m false e =
+          subst (λ (x : Lead). (x ≡ Stuck) ⊎ (x ≡ entry (row_in t c) m)) (sym (ap (λ r. entry r m) row_there ∙ has.others m (eqb-false m n e) ∙ ap (λ r. entry r m) was)) (sound.entries c m)
+
+      on : (k m : ℕ) (v : Bool) → (k == c) ≡ v → (w : Bool) → (m == n) ≡ w → entry (kept_in t k) m ≢ Stuck → entry (kept_in next k) m ≡ entry (kept_in t k) m
+      on k m true e true f h =
+          ap (λ r. entry r m) (ap (kept_in next) (eqb-true k c e) ∙ row_there) ∙ ap (entry (leads_of row.items)) (eqb-true m n f) ∙ has.put ∙ is
+          ∙ sym (ap (λ j. entry (kept_in t j) m) (eqb-true k c e) ∙ ap (entry (kept_in t c)) (eqb-true m n f) ∙ right (sound.entries c n) (λ s. h (ap (λ j. entry (kept_in t j) m) (eqb-true k c e) ∙ ap (entry (kept_in t c)) (eqb-true m n f) ∙ s)))
+      on k m true e false f h =
+          ap (λ r. entry r m) (ap (kept_in next) (eqb-true k c e) ∙ row_there) ∙ has.others m (eqb-false m n f) ∙ ap (λ r. entry r m) was
+          ∙ sym (ap (λ j. entry (kept_in t j) m) (eqb-true k c e))
+      on k m false e w f h = ap (λ r. entry r m) (row_elsewhere k (eqb-false k c e))
+
+      go : (k m : ℕ) (v : Bool) → (k == c) ≡ v → (w : Bool) → (m == n) ≡ w → (entry (kept_in next k) m ≡ Stuck) ⊎ (entry (kept_in next k) m ≡ entry (row_in t k) m)
+      go k m true e w f = subst (λ (j : ℕ). (entry (kept_in next j) m ≡ Stuck) ⊎ (entry (kept_in next j) m ≡ entry (row_in t j) m)) (sym (eqb-true k c e)) (here m w f)
+      go k m false e w f = subst (λ (r : List Lead). (entry r m ≡ Stuck) ⊎ (entry r m ≡ entry (row_in t k) m)) (sym (row_elsewhere k (eqb-false k c e))) (sound.entries k m)

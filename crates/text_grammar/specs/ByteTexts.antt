@@ -129,13 +129,13 @@ abbrev pub signed : Numeral → ℤ
 signed m = if m.negative then neg_ℤ (pos m.number) else pos m.number
 
 -- a value is at most so large, in absolute value
-abbrev pub value_limit : ℕ
-value_limit = 2 ^ 63 - 1
+abbrev pub line_value_limit : ℕ
+line_value_limit = 2 ^ 63 - 1
 
 -- each value is at most 2^63-1 in absolute value
 abbrev pub AreSmall : List ℤ → Type 0
 AreSmall [] = ⊤
-AreSmall (v ∷ vs) = (unsigned_abs v ≤ value_limit) × AreSmall vs
+AreSmall (v ∷ vs) = (unsigned_abs v ≤ line_value_limit) × AreSmall vs
 
 -- each value has at most 64 digits, as all of 128 bits have
 abbrev pub AreShort : List ℤ → Type 0
@@ -230,8 +230,8 @@ module _ {S T K : Type 0} (x : ByteText S T K) where
   -- what stands against a number: against a natural one, or against a value that is too large
   abbrev pub against_in : Within → S → ℕ → Option K
   against_in InNatural s n = x.against_natural s n
-  against_in InLine s n = when (nat_lt value_limit n) x.too_large
-  against_in Words s n = when (nat_lt value_limit n) x.too_large
+  against_in InLine s n = when (nat_lt line_value_limit n) x.too_large
+  against_in Words s n = when (nat_lt line_value_limit n) x.too_large
 
   abbrev pub against_number : Spelling S → ℕ → Option K
   against_number s n = against_in s.within s.own n

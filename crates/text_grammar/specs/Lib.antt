@@ -1,5 +1,6 @@
 -- what the contracts of this crate, and of those above it, cite
 pub mod Grammars
+pub mod Spelled
 pub mod Leads
 pub mod Sounding
 pub mod Texts

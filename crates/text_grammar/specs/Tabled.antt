@@ -1,15 +1,45 @@
--- Which grammar a table is of.
-use Rattle.std.specs.Prelude.{◌≡◌, ℕ, ◌+◌, List}
+-- Which grammar a table is of, and what of it is kept.
+use Rattle.std.specs.Prelude.{◌≡◌, ◌≢◌, ℕ, ◌+◌, ◌⊎◌, List, [], map, length, slice_index_or}
 use Rattle.text_grammar.specs.declared.symbol.Symbol.{Symbol}
 use Rattle.text_grammar.specs.declared.tables.Tables.{Tables}
 use Rattle.text_grammar.specs.Grammars.{Grammar}
-use Rattle.text_grammar.specs.Views.{HasRows}
+use Rattle.text_grammar.specs.Leads.{Lead, Stuck, entry, row_after}
+use Rattle.text_grammar.specs.Views.{leads_of, rules_view}
 
--- there is a row for each class and one for the end of the text, each after so many rounds
+-- the row of a class, by the rules of a table
+abbrev pub row_in : Tables → ℕ → List Lead
+row_in t c = row_after (rules_view t.rules.items) c t.rounds
+
+-- what is kept of the row of a class
+abbrev pub kept_in : Tables → ℕ → List Lead
+kept_in t c = slice_index_or (map (λ row. leads_of row.items) t.rows.items) c []
+
+-- there is a row for each class and one for the end of the text, and what is kept in them is as the rules have it
+pub record IsSound (t : Tables) : Type 0 where
+  pub counted : length t.rows.items ≡ t.end + 1
+  pub entries : (c n : ℕ) → (entry (kept_in t c) n ≡ Stuck) ⊎ (entry (kept_in t c) n ≡ entry (row_in t c) n)
+
+-- a table, and then one of the same rules, classes and rounds, which has what the first keeps, and all that it keeps is as
+-- the rules have it
+pub record Remains (s t : Tables) : Type 0 where
+  pub rules : t.rules ≡ s.rules
+  pub end : t.end ≡ s.end
+  pub rounds : t.rounds ≡ s.rounds
+  pub kept : (c n : ℕ) → entry (kept_in s c) n ≢ Stuck → entry (kept_in t c) n ≡ entry (kept_in s c) n
+  pub sound : IsSound t
+
+-- the table is one of these rules, for so many classes, after so many rounds, and what it keeps is as they have it
 pub record IsTable (t : Tables) (rules : List (List (List Symbol))) (classes rounds : ℕ) : Type 0 where
-  pub rows : HasRows t.rows.items rules rounds (classes + 1)
+  pub rules_kept : rules_view t.rules.items ≡ rules
   pub end_class : t.end ≡ classes
+  pub last_round : t.rounds ≡ rounds
+  pub sound : IsSound t
 
 -- the table is the grammar's
 abbrev pub IsTableOf : {P : Type 0} → Tables → Grammar P → Type 0
 IsTableOf t g = IsTable t g.rules g.classes g.rounds
+
+-- a row, and then one that has this lead at a place, and elsewhere what the first has
+pub record HasPut (row : List Lead) (n : ℕ) (l : Lead) (next : List Lead) : Type 0 where
+  pub put : entry next n ≡ l
+  pub others : (k : ℕ) → k ≢ n → entry next k ≡ entry row k

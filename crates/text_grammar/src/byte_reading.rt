@@ -17,7 +17,7 @@ use crate::token::Refusal;
 use std::alloc::Global;
 
 /// Reads bytes as a text of which nothing has been read yet, by the grammar that these items spell for so many classes,
-/// with a table that is whole after so many rounds.
+/// by entries of its table as they are after so many rounds.
 ///
 /// # Errors
 ///
@@ -43,7 +43,7 @@ pub fn read_bytes<X: ByteText + Drop>(
     let cut = Cut::new(Bytes, OneMode::Plain, bytes);
     read(
         alloc,
-        &tables,
+        tables,
         Spelling::new(alloc, text),
         cut,
         bytes.len() as u64,

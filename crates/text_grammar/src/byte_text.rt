@@ -12,7 +12,8 @@ ghost use Rattle.text_grammar.specs.Marks.{fault_of, token_of};
 ghost use Rattle.text_grammar.specs.Texts.{first_shown};
 
 use crate::bytes::{
-    LINE_BEGINS, LINE_READ, NATURAL_BEGINS, NATURAL_READ, VALUE_BEGINS, VALUE_LIMIT, VALUE_READ,
+    LINE_BEGINS, LINE_READ, LINE_VALUE_LIMIT, NATURAL_BEGINS, NATURAL_READ, VALUE_BEGINS,
+    VALUE_READ,
 };
 use crate::numeral::{Numeral, Within};
 use crate::text::Text;
@@ -22,7 +23,7 @@ use std::mem::replace;
 
 /// A text in bytes: what it remembers of natural numbers, lines of values and marks of its own, what stands against
 /// them and against a byte, and what it makes of them all. Values come to it in lines alone, and the limit of each is
-/// `VALUE_LIMIT`; at the line feed of such a line `against_line` is asked, and `against_byte` isn't.
+/// `LINE_VALUE_LIMIT`; at the line feed of such a line `against_line` is asked, and `against_byte` isn't.
 pub trait ByteText {
     type Kind: Copy;
 
@@ -137,7 +138,7 @@ impl<X: ByteText> Spelling<X> {
     {
         match self.within {
             Within::Natural => self.text.against_natural(number),
-            _ if number > VALUE_LIMIT => Some(self.text.too_large()),
+            _ if number > LINE_VALUE_LIMIT => Some(self.text.too_large()),
             _ => None,
         }
     }

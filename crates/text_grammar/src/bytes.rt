@@ -53,7 +53,7 @@ pub const LINE_BEGINS: u32 = 4;
 pub const LINE_READ: u32 = 5;
 
 /// A value is at most so large, in absolute value, whatever the text.
-pub const VALUE_LIMIT: u128 = (1 << 63) - 1;
+pub const LINE_VALUE_LIMIT: u128 = (1 << 63) - 1;
 
 const CAP: u128 = 1 << 64;
 

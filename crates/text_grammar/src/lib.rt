@@ -9,6 +9,7 @@ mod bytes;
 mod cut;
 mod entry;
 mod law;
+mod leading;
 mod numeral;
 mod reading;
 mod rules;
@@ -21,9 +22,9 @@ mod token;
 pub use byte_reading::read_bytes;
 pub use byte_text::{ByteText, Spelling};
 pub use bytes::{
-    BLANK, Bytes, DIGITS, LINE, LINE_BEGINS, LINE_FEED, LINE_READ, MINUS, MORE, NATURAL,
-    NATURAL_BEGINS, NATURAL_READ, NUMBER, ONE, POSITIVE, VALUE, VALUE_BEGINS, VALUE_LIMIT,
-    VALUE_READ, VALUES, ZERO, class_of,
+    BLANK, Bytes, DIGITS, LINE, LINE_BEGINS, LINE_FEED, LINE_READ, LINE_VALUE_LIMIT, MINUS, MORE,
+    NATURAL, NATURAL_BEGINS, NATURAL_READ, NUMBER, ONE, POSITIVE, VALUE, VALUE_BEGINS, VALUE_READ,
+    VALUES, ZERO, class_of,
 };
 pub use cut::{Cut, Lexeme, Lexer, OneMode};
 pub use law::{lawful_texts_are_read, worked_grammars_hold};

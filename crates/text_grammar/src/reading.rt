@@ -1,17 +1,15 @@
 //! The reader of a grammar: tokens are pulled one by one, and none is kept.
 
-ghost use Rattle.std.specs.Prelude.{◌≡◌, ◌∷◌, [], ◌+◌, ◌<◌, ◌≤◌, List, ℕ, IfOk, IfSome, OnOk, Some, None, MatchOption};
+ghost use Rattle.std.specs.Prelude.{◌≡◌, [], ◌<◌, ◌≤◌, List, IfOk, IfSome, OnOk, Some, None, MatchOption};
 ghost use Rattle.text_core.specs.Readers.{onto};
 ghost use Rattle.text_core.specs.Tokens.{AreInOrder};
 ghost use Rattle.text_core.specs.Reading.{answer, ended as answered, first_of as first_at};
 ghost use Rattle.text_grammar.specs.Grammars.{Event};
 ghost use Rattle.text_grammar.specs.Texts.{IsLawful, did as did_marks, lead_at, reader};
 ghost use Rattle.text_grammar.specs.Marks.{token_of, refusal_of, fault_of};
-ghost use Rattle.text_grammar.specs.Views.{HasRows};
 ghost use Rattle.text_grammar.specs.Tabled.{IsTableOf};
 ghost use Rattle.text_grammar.specs.Following.{Follows, Says, first_of_two as first_at_two};
 
-use crate::entry::Entry;
 use crate::stack::{Meeting, meet};
 use crate::symbol::Symbol;
 use crate::tables::Tables;
@@ -101,13 +99,13 @@ fn follow<X: Text>(
     text: &mut X,
     expected: &mut Vec<Symbol>,
     marks: &mut Vec<u32>,
-    rows: &[Vec<Entry>],
+    tables: &mut Tables<'_>,
     token: Token<X::Piece>,
 ) -> Result<Followed<X::Kind>, AllocError>
     requires lawful { IsLawful (X.text_of text.old) }
-    requires tabled { HasRows rows.now (X.text_of text.old).grammar.rules (X.text_of text.old).grammar.rounds
-        ((X.text_of text.old).grammar.classes + 1) }
+    requires tabled { IsTableOf tables.old (X.text_of text.old).grammar }
     ensures same { X.text_of text.new ≡ X.text_of text.old }
+    ensures tabled { OnOk result (IsTableOf tables.new (X.text_of text.old).grammar) }
     ensures follows { IfOk result (λ f. (es : List (Event X.Piece)) → X.Knows text.old es
         → Follows (X.text_of text.old) (X.Knows text.new) es (token_of token)
         (lead_at (X.text_of text.old) (record { events = es; expected = onto expected.old.items [] }) token.piece)
@@ -115,7 +113,7 @@ fn follow<X: Text>(
 {
     let class = text.class(token.piece);
     marks.clear();
-    match meet(expected, marks, &rows[class as usize], class)? {
+    match meet(expected, marks, tables, class)? {
         Meeting::Matched => {
             do_all(text, marks)?;
             Ok(Followed::Led(text.take(token)?))
@@ -124,7 +122,8 @@ fn follow<X: Text>(
     }
 }
 
-/// Reads a text of so many bytes from its tokens, one after the other, by the table of its grammar.
+/// Reads a text of so many bytes from its tokens, one after the other, by the table of its grammar, of which it works out
+/// the entries that it meets.
 ///
 /// # Errors
 ///
@@ -132,17 +131,18 @@ fn follow<X: Text>(
 /// nothing that is still to come can stand before the refusal so far.
 pub fn read<X: Text + Drop, L: Tokens<Piece = X::Piece> + Drop>(
     alloc: Global,
-    tables: &Tables,
+    tables: Tables<'_>,
     text: X,
     tokens: L,
     len: u64,
 ) -> Result<X::Made, Refusal<X::Kind>>
     requires lawful { IsLawful (X.text_of text) }
-    requires tabled { IsTableOf tables.now (X.text_of text).grammar }
+    requires tabled { IsTableOf tables (X.text_of text).grammar }
     requires begins { X.Knows text [] }
     requires ordered { AreInOrder 0 (L.left tokens) len }
     ensures { Says X.Makes (answer (reader (X.text_of text)) len (L.left tokens)) result }
 {
+    let mut tables = tables;
     let mut text = text;
     let mut tokens = tokens;
     let mut expected = Vec::new(alloc);
@@ -153,37 +153,38 @@ pub fn read<X: Text + Drop, L: Tokens<Piece = X::Piece> + Drop>(
         if let Some(fault) = settled(&text, best, token.at) {
             return Err(Refusal::Refuses(fault));
         }
-        match follow(&mut text, &mut expected, &mut marks, &tables.rows, token)? {
+        match follow(&mut text, &mut expected, &mut marks, &mut tables, token)? {
             Followed::Led(shown) => best = first_of_two(&text, best, shown),
             Followed::Off => {
                 return Err(Refusal::Refuses(off(&text, best, Some(token.piece), token.at)));
             }
         }
     }
-    ended(text, expected, marks, tables, best, len)
+    ended(text, tables, expected, marks, best, len)
 }
 
 // What comes of a text that ends here.
 fn ended<X: Text + Drop>(
     text: X,
+    tables: Tables<'_>,
     expected: Vec<Symbol>,
     marks: Vec<u32>,
-    tables: &Tables,
     best: Option<Fault<X::Kind>>,
     len: u64,
 ) -> Result<X::Made, Refusal<X::Kind>>
-    requires { IsTableOf tables.now (X.text_of text).grammar }
+    requires { IsTableOf tables (X.text_of text).grammar }
     ensures { (es : List (Event X.Piece)) → X.Knows text es → Says X.Makes
         (answered (reader (X.text_of text)) (fault_of best)
         ((reader (X.text_of text)).finish (record { events = es; expected = onto expected.items [] }))
         (record { kind = (X.text_of text).off None; at = len })) result }
 {
     let mut text = text;
+    let mut tables = tables;
     let mut expected = expected;
     let mut marks = marks;
     marks.clear();
     let end = tables.end;
-    match meet(&mut expected, &mut marks, &tables.rows[end as usize], end)? {
+    match meet(&mut expected, &mut marks, &mut tables, end)? {
         Meeting::Passed => {
             do_all(&mut text, &marks)?;
             match best {

@@ -1,13 +1,15 @@
 //! Symbols that are expected, as a stack: the next one is the last.
 
-ghost use Rattle.std.specs.Prelude.{◌≡◌, [], IfOk, length};
+ghost use Rattle.std.specs.Prelude.{◌≡◌, ◌≤◌, [], IfOk, OnOk};
 ghost use Rattle.text_core.specs.Readers.{onto};
 ghost use Rattle.text_grammar.specs.Leads.{behind, lead};
-ghost use Rattle.text_grammar.specs.Views.{leads_of, met};
+ghost use Rattle.text_grammar.specs.Tabled.{IsSound, Remains, row_in};
+ghost use Rattle.text_grammar.specs.Views.{met};
 
 use crate::entry::Entry;
 use crate::symbol::Symbol;
-use std::alloc::{AllocError, Global};
+use crate::tables::Tables;
+use std::alloc::AllocError;
 
 /// How a class met a stack.
 #[derive(Clone, Copy, Debug, PartialEq, Eq)]
@@ -20,8 +22,8 @@ pub enum Meeting {
     Refused,
 }
 
-/// Meets what is expected with a class of pieces, by the row of the class: marks are noted up to where a piece of the
-/// class is matched.
+/// Meets what is expected with a class of pieces, by the table of a grammar, which keeps the entries that are met: marks
+/// are noted up to where a piece of the class is matched.
 ///
 /// # Errors
 ///
@@ -29,11 +31,14 @@ pub enum Meeting {
 pub fn meet(
     expected: &mut Vec<Symbol>,
     marks: &mut Vec<u32>,
-    row: &[Entry],
+    tables: &mut Tables<'_>,
     class: u32,
 ) -> Result<Meeting, AllocError>
-    ensures { IfOk result (λ m. met m marks.new.items expected.new.items
-        ≡ behind marks.old.items (lead class (leads_of row.now) (onto expected.old.items []))) }
+    requires sound { IsSound tables.old }
+    requires class { class ≤ tables.old.end }
+    ensures remains { OnOk result (Remains tables.old tables.new) }
+    ensures meets { IfOk result (λ m. met m marks.new.items expected.new.items
+        ≡ behind marks.old.items (lead class (row_in tables.old class) (onto expected.old.items []))) }
 {
     while let Some(symbol) = expected.pop() {
         match symbol {
@@ -46,14 +51,11 @@ pub fn meet(
             }
             Symbol::Mark(mark) => marks.push(mark)?,
             Symbol::Made(number) => {
-                let number = number as usize;
-                if number >= row.len() {
-                    return Ok(Meeting::Refused);
-                }
-                match &row[number] {
-                    Entry::Stuck => return Ok(Meeting::Refused),
-                    Entry::Passes { marks: more } => marks.extend_from_slice(more)?,
-                    Entry::Matches { marks: more, rest } => {
+                tables.keep(class, number)?;
+                match tables.row(class).get(number as usize) {
+                    None | Some(Entry::Stuck) => return Ok(Meeting::Refused),
+                    Some(Entry::Passes { marks: more }) => marks.extend_from_slice(more)?,
+                    Some(Entry::Matches { marks: more, rest }) => {
                         marks.extend_from_slice(more)?;
                         expected.extend_from_slice(rest)?;
                         return Ok(Meeting::Matched);
@@ -63,21 +65,4 @@ pub fn meet(
         }
     }
     Ok(Meeting::Passed)
-}
-
-/// A list of symbols as a stack.
-///
-/// # Errors
-///
-/// `AllocError` where an allocation fails.
-pub fn stack_of(alloc: Global, symbols: &[Symbol]) -> Result<Vec<Symbol>, AllocError>
-    ensures { IfOk result (λ stack. onto stack.items [] ≡ symbols.now) }
-{
-    let mut stack = Vec::new(alloc);
-    let mut rest = symbols;
-    while let Some((last, before)) = rest.split_last() {
-        stack.push(*last)?;
-        rest = before;
-    }
-    Ok(stack)
 }

@@ -1,151 +1,118 @@
-//! The table of a grammar, a row for each class of pieces and one for the end of the text.
+//! The table of a grammar: what each nonterminal leads to at each class of pieces, and at the end of the text.
 
-ghost use Rattle.std.specs.Prelude.{◌≡◌, ◌+◌, ◌<◌, ◌≤◌, ◌^◌, map, IfOk, IsTrue};
-ghost use Rattle.text_grammar.specs.Leads.{Stuck, better, entry, lead, lead_among, row_after};
+ghost use Rattle.std.specs.Prelude.{◌≡◌, ◌≢◌, ◌<◌, ◌≤◌, ◌^◌, ℕ, length, IfOk, OnOk, IsTrue, IsFalse};
+ghost use Rattle.text_grammar.specs.Leads.{Stuck, entry as lead_at};
 ghost use Rattle.text_grammar.specs.Grammars.{rules_of as rules_spelled};
-ghost use Rattle.text_grammar.specs.Tabled.{IsTable};
-ghost use Rattle.text_grammar.specs.Views.{lead_of, leads_of, bodies_view, rules_view};
+ghost use Rattle.text_grammar.specs.Tabled.{IsTable, IsSound, Remains, HasPut, kept_in, row_in};
+ghost use Rattle.text_grammar.specs.Views.{lead_of, leads_of};
 
 use crate::entry::Entry;
+use crate::leading::lead_of_nonterminal;
 use crate::rules::rules_of;
-use crate::stack::{Meeting, meet, stack_of};
-use crate::symbol::{Item, Symbol};
+use crate::symbol::Item;
 use std::alloc::{AllocError, Global};
 
-/// The table of a grammar.
+/// The table of a grammar. An entry is worked out where it is asked for first, and is kept then, so that a short text pays
+/// for few; where none is kept a row has `Stuck`, or ends before it.
 #[derive(Drop)]
-pub struct Tables {
-    pub(crate) rows: Vec<Vec<Entry>>,
+pub struct Tables<'a> {
+    alloc: Global,
+    rules: Vec<&'a [Item]>,
+    rows: Vec<Vec<Entry>>,
+    rounds: u32,
     pub(crate) end: u32,
 }
 
-impl Tables {
-    /// The table of the rules that items spell, for so many classes of pieces, made in so many rounds.
+impl<'a> Tables<'a> {
+    /// The table of the rules that items spell, for so many classes of pieces, with entries as they are after so many
+    /// rounds, of which none is kept yet.
     ///
     /// # Errors
     ///
     /// `AllocError` where an allocation fails.
     pub fn new(
         alloc: Global,
-        items: &[Item],
+        items: &'a [Item],
         classes: u32,
         rounds: u32,
-    ) -> Result<Tables, AllocError>
+    ) -> Result<Tables<'a>, AllocError>
         requires { classes < 2 ^ 31 }
         ensures { IfOk result (λ t. IsTable t (rules_spelled items.now) classes rounds) }
     {
         let rules = rules_of(alloc, items)?;
         let mut rows = Vec::new(alloc);
-        for class in 0..classes + 1 {
-            rows.push(row_of(alloc, &rules, class, rounds)?)?;
+        for _ in 0..classes + 1 {
+            rows.push(Vec::new(alloc))?;
         }
-        Ok(Tables { rows, end: classes })
+        Ok(Tables {
+            alloc,
+            rules,
+            rows,
+            rounds,
+            end: classes,
+        })
+    }
+
+    /// Keeps the entry of a nonterminal at a class, if it isn't kept yet. One that is stuck isn't kept.
+    ///
+    /// # Errors
+    ///
+    /// `AllocError` where an allocation fails.
+    pub(crate) fn keep(&mut self, class: u32, number: u32) -> Result<(), AllocError>
+        requires sound { IsSound self.old }
+        requires class { class ≤ self.old.end }
+        ensures remains { OnOk result (Remains self.old self.new) }
+        ensures kept { OnOk result (lead_at (kept_in self.new class) number ≡ lead_at (row_in self.old class) number) }
+    {
+        if is_kept(&self.rows[class as usize], number) {
+            return Ok(());
+        }
+        match lead_of_nonterminal(self.alloc, &self.rules, class, number, self.rounds)? {
+            Entry::Stuck => {}
+            made => put(&mut self.rows[class as usize], number, made)?,
+        }
+        Ok(())
+    }
+
+    /// What is kept of the row of a class.
+    pub(crate) fn row(&self, class: u32) -> &[Entry]
+        requires class { class ≤ self.now.end }
+        requires sound { IsSound self.now }
+        ensures { leads_of result.now ≡ kept_in self.now class }
+    {
+        &self.rows[class as usize]
     }
 }
 
-// Whether a nonterminal can't begin with a piece of the class of a row, nor derive marks alone.
-fn is_stuck(row: &[Entry], number: u32) -> bool
-    ensures { IsTrue result → entry (leads_of row.now) number ≡ Stuck }
+// Whether a row has an entry other than `Stuck` for a nonterminal.
+fn is_kept(row: &[Entry], number: u32) -> bool
+    ensures kept { IsTrue result → lead_at (leads_of row.now) number ≢ Stuck }
+    ensures none { IsFalse result → lead_at (leads_of row.now) number ≡ Stuck }
 {
     match row.get(number as usize) {
-        Some(Entry::Stuck) => true,
-        Some(Entry::Passes { .. }) | Some(Entry::Matches { .. }) => false,
-        None => true,
+        Some(Entry::Passes { .. }) | Some(Entry::Matches { .. }) => true,
+        Some(Entry::Stuck) | None => false,
     }
 }
 
-// Whether what comes first in a body, but for marks, is a piece of another class or a nonterminal that is stuck. No
-// piece of the class can follow then; most bodies are told so, without memory.
-fn is_refused_at_once(row: &[Entry], class: u32, body: &[Symbol]) -> bool
-    ensures { IsTrue result → lead class (leads_of row.now) body.now ≡ Stuck }
+// Puts an entry at its place in a row.
+fn put(row: &mut Vec<Entry>, number: u32, made: Entry) -> Result<(), AllocError>
+    ensures { OnOk result (HasPut (leads_of row.old.items) number (lead_of made) (leads_of row.new.items)) }
 {
-    for symbol in body {
-        match symbol {
-            Symbol::Piece(other) => return *other != class,
-            Symbol::Mark(_) => {}
-            Symbol::Made(number) => return is_stuck(row, *number),
-        }
-    }
-    false
+    let number = number as usize;
+    lengthen(row, number + 1)?;
+    row[number] = made;
+    Ok(())
 }
 
-// What a body leads to.
-fn lead_of_body(
-    alloc: Global,
-    row: &[Entry],
-    class: u32,
-    body: &[Symbol],
-) -> Result<Entry, AllocError>
-    ensures { IfOk result (λ e. lead_of e ≡ lead class (leads_of row.now) body.now) }
+// Makes a row have so many places, if it has fewer.
+fn lengthen(row: &mut Vec<Entry>, places: usize) -> Result<(), AllocError>
+    ensures same { OnOk result ((n : ℕ) → lead_at (leads_of row.new.items) n ≡ lead_at (leads_of row.old.items) n) }
+    ensures long { OnOk result (places ≤ length row.new.items) }
 {
-    let mut rest = stack_of(alloc, body)?;
-    let mut marks = Vec::new(alloc);
-    Ok(match meet(&mut rest, &mut marks, row, class)? {
-        Meeting::Matched => Entry::Matches { marks, rest },
-        Meeting::Passed => Entry::Passes { marks },
-        Meeting::Refused => Entry::Stuck,
-    })
-}
-
-// Of two entries the one that matches, else the one that passes, the first one before the second.
-fn better_of(first: Entry, second: Entry) -> Entry
-    ensures { lead_of result ≡ better (lead_of first) (lead_of second) }
-{
-    match (first, second) {
-        (Entry::Matches { marks, rest }, _) => Entry::Matches { marks, rest },
-        (Entry::Passes { .. }, Entry::Matches { marks, rest }) => Entry::Matches { marks, rest },
-        (Entry::Passes { marks }, _) => Entry::Passes { marks },
-        (Entry::Stuck, second) => second,
+    row.reserve(places.saturating_sub(row.len()))?;
+    while row.len() < places {
+        row.push(Entry::Stuck)?;
     }
-}
-
-// What a nonterminal with these alternatives leads to.
-fn lead_of_bodies(
-    alloc: Global,
-    row: &[Entry],
-    class: u32,
-    bodies: &[Vec<Symbol>],
-) -> Result<Entry, AllocError>
-    ensures { IfOk result (λ e. lead_of e ≡ lead_among class (leads_of row.now) (bodies_view bodies.now)) }
-{
-    let mut found = Entry::Stuck;
-    for body in bodies {
-        if !is_refused_at_once(row, class, body) {
-            found = better_of(found, lead_of_body(alloc, row, class, body)?);
-        }
-    }
-    Ok(found)
-}
-
-// The row of a class after one round more.
-fn next_row(
-    alloc: Global,
-    rules: &[Vec<Vec<Symbol>>],
-    class: u32,
-    row: &[Entry],
-) -> Result<Vec<Entry>, AllocError>
-    ensures { IfOk result (λ next.
-        leads_of next.items ≡ map (lead_among class (leads_of row.now)) (rules_view rules.now)) }
-{
-    let mut next = Vec::new(alloc);
-    for bodies in rules {
-        next.push(lead_of_bodies(alloc, row, class, bodies)?)?;
-    }
-    Ok(next)
-}
-
-// The row of a class after some rounds.
-fn row_of(
-    alloc: Global,
-    rules: &[Vec<Vec<Symbol>>],
-    class: u32,
-    rounds: u32,
-) -> Result<Vec<Entry>, AllocError>
-    ensures { IfOk result (λ row. leads_of row.items ≡ row_after (rules_view rules.now) class rounds) }
-{
-    let mut row = Vec::new(alloc);
-    for round in 0..rounds {
-        row = next_row(alloc, rules, class, &row)?;
-    }
-    Ok(row)
+    Ok(())
 }

@@ -4,7 +4,7 @@ use Rattle.guard_prep.proofs.StepLaws.{few-places}
 use Rattle.proof_tree.specs.proof_setting.RankedSets.{forms_at}
 use Rattle.proof_tree.specs.AnswerViews.{gap_of}
 use Rattle.gap_checks.specs.GapBalances.{program}
-use Rattle.gap_checks.specs.GapTests.{value_limit}
+use Rattle.gap_checks.specs.GapTests.{near_value_limit}
 use Rattle.gap_checks.specs.declared.touching.Way.TheVariants.{Leaves}
 use Rattle.gap_checks.specs.declared.touching.Touch.{Touch}
 use Rattle.gap_checks.proofs.GapFaults.{shape-short}
@@ -35,7 +35,7 @@ add_touch-requires-clause-room c =
     let i = c.loop-index.index in
     let count = touch-count (forms_at p) g.set.items c.args.touches.now c.requires.touches in
     let few : length g.set.items ≤ 1000 = shape-short p c.requires.valid (gap_of g) c.requires.shape in
-    sums-weaker c.loop-index.sums (i * value_limit) (1999 * value_limit)
+    sums-weaker c.loop-index.sums (i * near_value_limit) (1999 * near_value_limit)
     (omega (arith, c.loop-index-test.true, c.requires.group.bound, count, few)) c.loop-index.invariant.sums
 
 pub loop-index-preserved : goal.loop-index-preserved

@@ -1,7 +1,7 @@
 use Rattle.std.proofs.Common.{ℕ, All, length, subst}
 use Rattle.std.proofs.lemmas.List.{length-map}
 use Rattle.its_model.specs.Views.{name_of, program_of}
-use Rattle.proof_text.specs.Listed.{IsListed}
+use Rattle.proof_text.specs.OverFirst.{IsOverFirst}
 use Rattle.proof_tree.specs.Views.{proof_of}
 use Rattle.proved_files.proofs.ProvedFiles.{proved-accepted}
 use Rattle.koat_cli.proofs.ProofFiles.{proof_said}
@@ -10,7 +10,7 @@ use Rattle.koat_cli.proofs.proving.proved.Goals as goal
 pub print-requires : goal.print-requires
 print-requires c =
     let names = c.args.program.now.start_names.items in
-    subst (λ (n : ℕ). All (λ lemma. IsListed n (proof_of lemma)) c.in_ok-found.found.lemmas.items) (length-map names name_of)
+    subst (λ (n : ℕ). All (λ lemma. IsOverFirst n (proof_of lemma)) c.in_ok-found.found.lemmas.items) (length-map names name_of)
     (proved-accepted.listed (program_of c.args.program.now) c.args.pivots c.in_ok-found.found c.requires
     (record { found = c.in_ok-found.ensures.found; lemmas = c.in_ok-found.ensures.lemmas }))
 

@@ -1,12 +1,12 @@
 use Rattle.std.proofs.Common.{arith, ◌∙◌, subst, sym, List, Bool}
 use Rattle.its_model.specs.Views.{program_of}
 use Rattle.location_facts.specs.declared.fact.LocFact.{LocFact}
-use Rattle.location_facts.specs.Due.{AreDue, AllStand}
+use Rattle.location_facts.specs.Due.{AreDue, AreShownEarlier}
 use Rattle.location_facts.specs.Faults.{proofs_of}
 use Rattle.location_facts.specs.Implied.{AreInOrder, AreProofsUnder}
 use Rattle.location_facts.specs.Kept.{IsImpliedByAll, IsNext, EndsWith, GoesOn}
 use Rattle.location_facts.specs.Pointed.{ArePointed}
-use Rattle.location_facts.proofs.DueRules.{all-due, stands-next}
+use Rattle.location_facts.proofs.DueRules.{all-due, shown-next}
 use Rattle.location_facts.proofs.KeptLists.{those-most}
 use Rattle.location_facts.proofs.NextFacts.{first-ordered, ends-here, proved-here}
 use Rattle.location_facts.proofs.PointRules.{pointed-none, pointed-next}
@@ -18,8 +18,8 @@ next_facts-requires-clause-ordered c =
     first-ordered (program_of c.args.p.now) c.deref-2.result.now
     (c.deref-2.ensures.value ∙ c.in_ok-candidates.ensures {u = tt})
 
-pub next_facts-requires-clause-stand : goal.next_facts-requires-clause-stand
-next_facts-requires-clause-stand c =
+pub next_facts-requires-clause-shown : goal.next_facts-requires-clause-shown
+next_facts-requires-clause-shown c =
     all-due (program_of c.args.p.now) c.args.pivots _ _ _ _
     (c.deref-3.ensures.value ∙ c.in_ok-all.ensures.items_if_clones_equal (λ y h. h))
 
@@ -50,18 +50,18 @@ next_facts-requires-in-loop-search-clause-ordered c =
     (program_of c.args.p.now) 0 c.loop-search.kept.items c.loop-search.found.kept.items c.loop-search.invariant.next
     c.loop-search.invariant.ordered)
 
-pub next_facts-requires-in-loop-search-clause-stand : goal.next_facts-requires-in-loop-search-clause-stand
-next_facts-requires-in-loop-search-clause-stand c =
+pub next_facts-requires-in-loop-search-clause-shown : goal.next_facts-requires-in-loop-search-clause-shown
+next_facts-requires-in-loop-search-clause-shown c =
     let p = program_of c.args.p.now in
     let from-old = subst (λ (fs : List LocFact). AreDue p fs c.deref-in-loop-search-2.result.now c.in_ok-due.due.items)
     c.deref-in-loop-search.ensures.value (c.in_ok-due.ensures {u = tt}) in
     let is = subst (λ (fs : List LocFact). AreDue p c.loop-search.kept.items fs c.in_ok-due.due.items)
     c.deref-in-loop-search-2.ensures.value from-old in
-    subst (λ (ds : List Bool). AllStand p c.args.pivots ds c.deref-in-loop-search-3.result.now
+    subst (λ (ds : List Bool). AreShownEarlier p c.args.pivots ds c.deref-in-loop-search-3.result.now
     (proofs_of c.loop-search.found)) (sym c.deref-in-loop-search-4.ensures.value)
-    (subst (λ (fs : List LocFact). AllStand p c.args.pivots c.in_ok-due.due.items fs (proofs_of c.loop-search.found))
+    (subst (λ (fs : List LocFact). AreShownEarlier p c.args.pivots c.in_ok-due.due.items fs (proofs_of c.loop-search.found))
     (sym c.deref-in-loop-search-3.ensures.value)
-    (stands-next p c.args.pivots c.loop-search.kept.items c.loop-search.found.kept.items (proofs_of c.loop-search.found)
+    (shown-next p c.args.pivots c.loop-search.kept.items c.loop-search.found.kept.items (proofs_of c.loop-search.found)
     c.in_ok-due.due.items c.loop-search.invariant.next c.loop-search.invariant.proofs is))
 
 pub next_facts-requires-in-loop-search-clause-points : goal.next_facts-requires-in-loop-search-clause-points

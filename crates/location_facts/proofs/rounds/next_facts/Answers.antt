@@ -6,7 +6,7 @@ use Rattle.std.proofs.lemmas.Option.{slice_get-get_or}
 use Rattle.its_model.specs.Views.{program_of}
 use Rattle.location_facts.specs.declared.fact.FactProof.{FactProof}
 use Rattle.location_facts.specs.declared.fact.LocFact.{LocFact}
-use Rattle.location_facts.specs.Due.{AreUnder, Stands, proofs_in, elements_in}
+use Rattle.location_facts.specs.Due.{AreUnder, IsShownEarlier, proofs_in, elements_in}
 use Rattle.location_facts.specs.Elements.{IsMeasured, IsElement, AreElements}
 use Rattle.location_facts.proofs.DueRules.{listed-same, rest-same}
 use Rattle.location_facts.proofs.ElementRules.{begun-all}
@@ -34,9 +34,9 @@ loop-i-preserved c =
     let elements = subst (AreElements p pivots kept) (sym c.begin_symbol.ensures)
     (begun-all (IsElement p pivots kept) _ c.loop-i.elements.items c.loop-i.invariant.elements) in
     let on = subst (AreElements p pivots kept) (sym c.deref-in-loop-i.ensures.value) elements in
-    let stand = subst (λ (ps : List FactProof). Stands p pivots c.args.due.now kept f ps)
+    let stand = subst (λ (ps : List FactProof). IsShownEarlier p pivots c.args.due.now kept f ps)
     (sym (c.taken_proofs-before.ensures.taken ∙ listed-same c.loop-i.standing.items c.args.listed.proofs.items c.loop-i.i
-    (c.loop-i.invariant.standing c.loop-i.i (omega arith)))) (c.requires.stand.each c.loop-i.i f there) in
+    (c.loop-i.invariant.standing c.loop-i.i (omega arith)))) (c.requires.shown.each c.loop-i.i f there) in
     let told = c.in_ok-told.ensures.told c.args.due.now kept are on stand in
     let pushed = c.in_ok-push_told.ensures.facts in
     record {

@@ -2,7 +2,7 @@ use Rattle.std.proofs.Common.{◌≡◌, ◌≤◌, ℕ, List, length, Bool}
 use Rattle.std.specs.Prelude.{slice_get}
 use Rattle.its_model.specs.Views.{program_of}
 use Rattle.location_facts.specs.declared.fact.LocFact.{LocFact}
-use Rattle.location_facts.specs.Due.{AreUnder, Stands}
+use Rattle.location_facts.specs.Due.{AreUnder, IsShownEarlier}
 use Rattle.location_facts.specs.Implied.{AreImplied}
 use Rattle.location_facts.proofs.shown.proofs_by.Given as goal
 
@@ -13,6 +13,6 @@ invariant-loop-k l = record {
   same : (j : ℕ) → l.k ≤ j → slice_get l.standing.items j ≡ slice_get l.fn.earlier.proofs.items j;
   implied : (due : List Bool) (kept : List LocFact)
       → AreUnder (program_of l.search.program.now) l.search.pivots due kept l.unders
-      → Stands (program_of l.search.program.now) l.search.pivots due kept l.fn.earlier.fact l.fn.earlier.proofs.items
+      → IsShownEarlier (program_of l.search.program.now) l.search.pivots due kept l.fn.earlier.fact l.fn.earlier.proofs.items
       → AreImplied (program_of l.search.program.now) l.search.pivots kept l.fn.earlier.fact l.proofs.items l.k;
 }

@@ -2,11 +2,11 @@ use Rattle.std.proofs.Common.{◌≡◌, ◌++◌, map, drop, codes}
 use Rattle.its_model.specs.Views.{program_of}
 use Rattle.proof_tree.specs.AnswerViews.{shut_of}
 use Rattle.proof_text.specs.Lists.{each_behind}
-use Rattle.proof_text.specs.Texts.{place_text}
+use Rattle.proof_text.specs.Texts.{symbol_place_text}
 use Rattle.proof_text.proofs.gaps.push_more_places.Given as goal
 
 -- what is written and what is left make the whole
 abbrev pub invariant-loop-place : goal.invariant-loop-place
 invariant-loop-place l =
-    l.text.items ++ each_behind (codes " ") (map (place_text (program_of l.p)) (map shut_of (drop l.place-index l.places)))
-    ≡ l.initial.text.items ++ each_behind (codes " ") (map (place_text (program_of l.p)) (map shut_of l.places))
+    l.text.items ++ each_behind (codes " ") (map (symbol_place_text (program_of l.p)) (map shut_of (drop l.place-index l.places)))
+    ≡ l.initial.text.items ++ each_behind (codes " ") (map (symbol_place_text (program_of l.p)) (map shut_of l.places))

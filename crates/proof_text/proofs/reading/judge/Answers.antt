@@ -36,8 +36,8 @@ returns-in-Ok c =
     (c.new-cut.ensures
     ∙ ap (λ (x : Lexer Piece Mode). tokens_in x mode.Beginning 0 0 bytes) c.in_ok-lexer.ensures) c.in-Ok.ensures)
 
-pub returns : goal.returns
-returns c =
+pub returns-in-Err : goal.returns-in-Err
+returns-in-Err c =
     let p = program_of c.args.p.now in
     let bytes = c.args.bytes.now in
     tells_error file_of refused_in refusal_in (answer (reader (proofs_of p)) (length bytes) (tokens p bytes))

@@ -1,7 +1,7 @@
 use Rattle.std.proofs.Common.{◌≡◌, ◌++◌, length, map, drop, codes}
 use Rattle.its_model.specs.Views.{program_of}
 use Rattle.proof_tree.specs.Views.{proof_of, uses_of}
-use Rattle.proof_text.specs.Listed.{AreListed}
+use Rattle.proof_text.specs.OverFirst.{AreOverFirst}
 use Rattle.proof_text.specs.Texts.{uses_text, more_uses_text}
 use Rattle.proof_text.proofs.trees.+write_proof.Given as goal
 
@@ -10,4 +10,4 @@ abbrev pub invariant-push_uses-loop-proof : goal.invariant-push_uses-loop-proof
 invariant-push_uses-loop-proof l =
     (l.text.items ++ (more_uses_text (program_of l.p) (uses_of (map proof_of (drop l.proof-index l.others))) ++ codes "}")
     ≡ l.fn.text.items ++ uses_text (program_of l.p) (uses_of (map proof_of l.uses)))
-    × AreListed (length l.p.start_names.items) (uses_of (map proof_of (drop l.proof-index l.others)))
+    × AreOverFirst (length l.p.start_names.items) (uses_of (map proof_of (drop l.proof-index l.others)))

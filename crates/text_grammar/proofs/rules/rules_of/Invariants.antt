@@ -1,10 +1,17 @@
-use Rattle.std.proofs.Common.{◌≡◌, ◌++◌, [], drop}
-use Rattle.text_grammar.specs.Grammars.{rules_behind}
-use Rattle.text_grammar.specs.Views.{bodies_view, rules_view}
+use Rattle.std.proofs.Common.{◌≡◌, ◌++◌, length}
+use Rattle.text_grammar.specs.Grammars.{rules_of}
+use Rattle.text_grammar.specs.Views.{rules_view}
+use Rattle.text_grammar.proofs.RuleLaws.{has_end, after_end}
 use Rattle.text_grammar.proofs.rules.rules_of.Given as goal
 
--- the rules so far, and those that the items left spell behind what has been read of the next one, are all
+-- the rules so far, and those that the items from the next one on spell, are all; and no rule ends in what of these has
+-- been seen
 abbrev pub invariant-loop-item : goal.invariant-loop-item
-invariant-loop-item l =
-    rules_view l.rules.items ++ rules_behind (bodies_view l.bodies.items) l.body.items (drop l.item-index l.items)
-    ≡ rules_behind [] [] l.items
+invariant-loop-item l = record {
+  all : rules_view l.rules.items ++ rules_of l.rule ≡ rules_of l.fn.items;
+  ends : has_end l.rule ≡ has_end l.left;
+  after : after_end l.rule ≡ after_end l.left;
+}
+
+abbrev pub decreases-loop-item : goal.decreases-loop-item
+decreases-loop-item l = length l.left

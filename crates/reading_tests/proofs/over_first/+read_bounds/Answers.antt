@@ -3,7 +3,7 @@ use Rattle.bound_expr.specs.declared.bound.Bound.{Bound}
 use Rattle.bound_expr.specs.Numbers.{ReadsBelow, AllReadBelow}
 use Rattle.bound_expr.specs.Views.{bound_of, bounds_of, parts_of}
 use Rattle.bound_expr.proofs.Views.{bound_of-Sum, bound_of-Prod, bound_of-Max}
-use Rattle.reading_tests.proofs.listed.+read_bounds.Goals as goal
+use Rattle.reading_tests.proofs.over_first.+read_bounds.Goals as goal
 
 pub reads_below-returns-in-Sum : goal.reads_below-returns-in-Sum
 reads_below-returns-in-Sum t c =

@@ -5,7 +5,7 @@ ghost use Rattle.std.specs.List.{All};
 ghost use Rattle.bound_expr.specs.Numbers.{ReadsBelow, AllReadBelow};
 ghost use Rattle.bound_expr.specs.Views.{bound_of, bounds_of, parts_of};
 ghost use Rattle.proof_tree.specs.Views.{proof_of, uses_of};
-ghost use Rattle.proof_text.specs.Listed.{AreListed, IsListed};
+ghost use Rattle.proof_text.specs.OverFirst.{AreOverFirst, IsOverFirst};
 
 use bound_expr::Bound;
 use proof_tree::Proof;
@@ -39,29 +39,29 @@ fn all_read_below(n: usize, parts: &[Bound]) -> bool
 }
 
 // Whether the bounds of a proof are over the first n start arguments.
-#[cycle(list_proofs)]
-fn is_listed(n: usize, proof: &Proof) -> bool
-    ensures { result ≡ true → IsListed n (proof_of proof.now) }
+#[cycle(over_first)]
+fn is_over_first(n: usize, proof: &Proof) -> bool
+    ensures { result ≡ true → IsOverFirst n (proof_of proof.now) }
 {
     match proof {
         Proof::Cite(_) | Proof::Start | Proof::Empty(_) => true,
-        Proof::Unreached(node) => uses_are_listed(n, &node.uses),
-        Proof::Never(child) => is_listed(n, child),
-        Proof::Rank(node) => uses_are_listed(n, &node.uses),
-        Proof::Spread(node) => uses_are_listed(n, &node.uses),
-        Proof::Cycle(node) => uses_are_listed(n, &node.uses),
-        Proof::Weaken(child, bound) => is_listed(n, child) && reads_below(n, bound),
-        Proof::Cost(node) => uses_are_listed(n, &node.uses),
+        Proof::Unreached(node) => uses_are_over_first(n, &node.uses),
+        Proof::Never(child) => is_over_first(n, child),
+        Proof::Rank(node) => uses_are_over_first(n, &node.uses),
+        Proof::Spread(node) => uses_are_over_first(n, &node.uses),
+        Proof::Cycle(node) => uses_are_over_first(n, &node.uses),
+        Proof::Weaken(child, bound) => is_over_first(n, child) && reads_below(n, bound),
+        Proof::Cost(node) => uses_are_over_first(n, &node.uses),
     }
 }
 
 // Whether those of each use are.
-#[cycle(list_proofs)]
-fn uses_are_listed(n: usize, uses: &[Proof]) -> bool
-    ensures { result ≡ true → AreListed n (uses_of (map proof_of uses.now)) }
+#[cycle(over_first)]
+fn uses_are_over_first(n: usize, uses: &[Proof]) -> bool
+    ensures { result ≡ true → AreOverFirst n (uses_of (map proof_of uses.now)) }
 {
     for proof in uses {
-        if !is_listed(n, proof) {
+        if !is_over_first(n, proof) {
             return false;
         }
     }
@@ -69,11 +69,11 @@ fn uses_are_listed(n: usize, uses: &[Proof]) -> bool
 }
 
 /// Whether those of each lemma are.
-pub(crate) fn are_listed(n: usize, lemmas: &[Proof]) -> bool
-    ensures { result ≡ true → All (λ lemma. IsListed n (proof_of lemma)) lemmas.now }
+pub(crate) fn are_over_first(n: usize, lemmas: &[Proof]) -> bool
+    ensures { result ≡ true → All (λ lemma. IsOverFirst n (proof_of lemma)) lemmas.now }
 {
     for lemma in lemmas {
-        if !is_listed(n, lemma) {
+        if !is_over_first(n, lemma) {
             return false;
         }
     }

@@ -1,7 +1,7 @@
 use Rattle.std.proofs.Common.{ℕ, drop}
 use Rattle.bound_expr.specs.Numbers.{AllReadBelow}
 use Rattle.bound_expr.specs.Views.{bounds_of, parts_of}
-use Rattle.reading_tests.proofs.listed.+read_bounds.Given as goal
+use Rattle.reading_tests.proofs.over_first.+read_bounds.Given as goal
 
 -- where what is left is below n, all is
 abbrev pub invariant-all_read_below-loop-part : goal.invariant-all_read_below-loop-part

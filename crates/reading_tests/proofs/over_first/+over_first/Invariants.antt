@@ -1,0 +1,9 @@
+use Rattle.std.proofs.Common.{ℕ, map, drop}
+use Rattle.proof_tree.specs.Views.{proof_of, uses_of}
+use Rattle.proof_text.specs.OverFirst.{AreOverFirst}
+use Rattle.reading_tests.proofs.over_first.+over_first.Given as goal
+
+-- where what is left is so, all is
+abbrev pub invariant-uses_are_over_first-loop-proof : goal.invariant-uses_are_over_first-loop-proof
+invariant-uses_are_over_first-loop-proof l =
+    AreOverFirst l.n (uses_of (map proof_of (drop l.proof-index l.uses))) → AreOverFirst l.n (uses_of (map proof_of l.uses))

@@ -1,0 +1,11 @@
+use Rattle.std.proofs.Common.{ℕ, drop}
+use Rattle.std.specs.List.{All}
+use Rattle.proof_tree.specs.Views.{proof_of}
+use Rattle.proof_text.specs.OverFirst.{IsOverFirst}
+use Rattle.reading_tests.proofs.over_first.are_over_first.Given as goal
+
+-- where what is left is so, all is
+abbrev pub invariant-loop-lemma : goal.invariant-loop-lemma
+invariant-loop-lemma l =
+    All (λ lemma. IsOverFirst l.n (proof_of lemma)) (drop l.lemma-index l.lemmas)
+    → All (λ lemma. IsOverFirst l.n (proof_of lemma)) l.lemmas
