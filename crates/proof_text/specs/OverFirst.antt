@@ -1,4 +1,4 @@
--- Proofs whose bounds are over the start arguments alone.
+-- Proofs whose bounds are over the first n start arguments alone.
 use Rattle.std.specs.Prelude.{ℕ, ⊤}
 use Rattle.proof_tree.specs.bound_expr.Numbers.{ReadsBelow}
 use Rattle.proof_tree.specs.proof_nodes.Nodes.{Proof, Cite, Start, Empty, Unreached, Never, Rank, Spread, Cycle}

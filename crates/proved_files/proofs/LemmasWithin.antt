@@ -81,33 +81,33 @@ unfolding AcceptsLemmas
 lemmas-within s valid fs h = lemmas-from s valid (number_in fs) [] fs h
 
 -- citing writes no bound
-cites-listed : (n : ℕ) (ns : List ℕ) → AreOverFirst n (cites ns)
-cites-listed n [] = tt
-cites-listed n (m ∷ ns) = (tt, cites-listed n ns)
+cites-over_first : (n : ℕ) (ns : List ℕ) → AreOverFirst n (cites ns)
+cites-over_first n [] = tt
+cites-over_first n (m ∷ ns) = (tt, cites-over_first n ns)
 
-uses-listed : (n : ℕ) (ns : List ℕ) → AreOverFirst n (uses_from ns)
-uses-listed n ns = go (is_in 0 ns)
+uses-over_first : (n : ℕ) (ns : List ℕ) → AreOverFirst n (uses_from ns)
+uses-over_first n ns = go (is_in 0 ns)
   where
     go : (v : Bool) → AreOverFirst n
         (cond v (AndProof Start (cites (once (filter (λ m. not (m == 0)) ns)))) (cites (once (filter (λ m. not (m == 0)) ns))))
-    go true = (tt, cites-listed n (once (filter (λ m. not (m == 0)) ns)))
-    go false = cites-listed n (once (filter (λ m. not (m == 0)) ns))
+    go true = (tt, cites-over_first n (once (filter (λ m. not (m == 0)) ns)))
+    go false = cites-over_first n (once (filter (λ m. not (m == 0)) ns))
 
 -- nor does the lemma of a find
-lemma-listed : (n : ℕ) (number : ℕ → ℕ → ℕ) (node : Node) (needs : List Spot) → IsOverFirst n (lemma_by number node needs)
-lemma-listed n number (EmptyBy t multipliers) needs = tt
-lemma-listed n number (UnreachedBy t) needs = uses-listed n (map (λ k. number k.rule k.place) needs)
-lemma-listed n number (NeverBy t) needs = tt
-lemma-listed n number (RankBy node) needs = uses-listed n (map (λ k. number k.rule k.place) needs)
-lemma-listed n number (SpreadBy m) needs = uses-listed n (map (λ k. number k.rule k.place) needs)
-lemma-listed n number (CycleBy members) needs = uses-listed n (map (λ k. number k.rule k.place) needs)
+lemma-over_first : (n : ℕ) (number : ℕ → ℕ → ℕ) (node : Node) (needs : List Spot) → IsOverFirst n (lemma_by number node needs)
+lemma-over_first n number (EmptyBy t multipliers) needs = tt
+lemma-over_first n number (UnreachedBy t) needs = uses-over_first n (map (λ k. number k.rule k.place) needs)
+lemma-over_first n number (NeverBy t) needs = tt
+lemma-over_first n number (RankBy node) needs = uses-over_first n (map (λ k. number k.rule k.place) needs)
+lemma-over_first n number (SpreadBy m) needs = uses-over_first n (map (λ k. number k.rule k.place) needs)
+lemma-over_first n number (CycleBy members) needs = uses-over_first n (map (λ k. number k.rule k.place) needs)
 
-each-listed : (n : ℕ) (number : ℕ → ℕ → ℕ) (fs : List Find)
+each-over_first : (n : ℕ) (number : ℕ → ℕ → ℕ) (fs : List Find)
     → All (IsOverFirst n) (map (λ f. lemma_by number f.node f.needs) fs)
-each-listed n number [] = All-nil (IsOverFirst n)
-each-listed n number (f ∷ fs) =
+each-over_first n number [] = All-nil (IsOverFirst n)
+each-over_first n number (f ∷ fs) =
     All-cons (IsOverFirst n) (lemma_by number f.node f.needs) (map (λ g. lemma_by number g.node g.needs) fs)
-    (lemma-listed n number f.node f.needs) (each-listed n number fs)
+    (lemma-over_first n number f.node f.needs) (each-over_first n number fs)
 
-pub lemmas-listed : (n : ℕ) (fs : List Find) → All (IsOverFirst n) (lemmas_of fs)
-lemmas-listed n fs = each-listed n (number_in fs) fs
+pub lemmas-over_first : (n : ℕ) (fs : List Find) → All (IsOverFirst n) (lemmas_of fs)
+lemmas-over_first n fs = each-over_first n (number_in fs) fs

@@ -25,7 +25,7 @@ use Rattle.time_bounds.proofs.RightSizings.{program_searches_right}
 use Rattle.proved_files.specs.ProvedFiles.{IsOutcomeOf, file_of_outcome, ProvedFilesAreAccepted}
 use Rattle.proved_files.proofs.FewFinds.{made-few}
 use Rattle.proved_files.proofs.GapsWithin.{gap-within}
-use Rattle.proved_files.proofs.LemmasWithin.{lemmas-within, lemmas-listed}
+use Rattle.proved_files.proofs.LemmasWithin.{lemmas-within, lemmas-over_first}
 use Rattle.proved_files.proofs.ShutPlaces.{HasItsPlaces, named-places, all-numbered, gaps-few}
 
 -- gaps that hold, each over its places
@@ -93,7 +93,7 @@ proved-accepted = record {
     gaps = All-map (GapHolds p (forms_at p)) gap_of o.gaps.items h.lemmas.gaps_hold;
   };
   within = λ p pivots o valid h. whole p pivots o valid h;
-  listed = λ p pivots o valid h.
+  over_first = λ p pivots o valid h.
       each-proof (IsOverFirst (length p.start_names)) o.lemmas.items
-      (subst (All (IsOverFirst (length p.start_names))) (sym h.lemmas.lemmas) (lemmas-listed (length p.start_names) h.lemmas.finds));
+      (subst (All (IsOverFirst (length p.start_names))) (sym h.lemmas.lemmas) (lemmas-over_first (length p.start_names) h.lemmas.finds));
 }

@@ -30,5 +30,5 @@ pub record ProvedFilesAreAccepted : Type 0 where
       → AcceptsFileFor p (file_of_outcome o)
   pub within : (p : Program) (pivots : ℕ) (o : Outcome) → IsValid p → IsOutcomeOf p pivots o
       → IsFileWithin p (file_of_outcome o)
-  pub listed : (p : Program) (pivots : ℕ) (o : Outcome) → IsValid p → IsOutcomeOf p pivots o
+  pub over_first : (p : Program) (pivots : ℕ) (o : Outcome) → IsValid p → IsOutcomeOf p pivots o
       → All (λ lemma. IsOverFirst (length p.start_names) (proof_of lemma)) o.lemmas.items

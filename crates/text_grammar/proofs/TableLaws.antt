@@ -12,7 +12,7 @@ use Rattle.text_grammar.specs.declared.entry.Entry as code
 use Rattle.text_grammar.specs.declared.tables.Tables.{Tables}
 use Rattle.text_grammar.specs.Grammars.{alternatives}
 use Rattle.text_grammar.specs.Leads.{Lead, Matches, Passes, Stuck, better, entry, lead_among, row_after}
-use Rattle.text_grammar.specs.Tabled.{IsSound, Remains, HasPut, kept_in, row_in}
+use Rattle.text_grammar.specs.Tabled.{IsSound, Remains, HasPut, kept_row, row_in}
 use Rattle.text_grammar.specs.Views.{lead_of, leads_of}
 
 -- of three leads the better one, either way
@@ -54,8 +54,8 @@ entry_set was entries n e same l = record {
 }
 
 -- what is kept of the row of a class stands in it
-pub row_kept : (t : Tables) (c : ℕ) (row : Vec code.Entry Global) → IsSound t → c ≤ t.end → row ≡ slice_index_or t.rows.items c row → leads_of row.items ≡ kept_in t c
-row_kept t c row sound is-class is =
+pub row_stands : (t : Tables) (c : ℕ) (row : Vec code.Entry Global) → IsSound t → c ≤ t.end → row ≡ slice_index_or t.rows.items c row → leads_of row.items ≡ kept_row t c
+row_stands t c row sound is-class is =
     ap (λ (r : Vec code.Entry Global). leads_of r.items) is
     ∙ sym (get_or-map (λ (r : Vec code.Entry Global). leads_of r.items) t.rows.items c row [] (let n = sound.counted in omega (arith, n, is-class)))
 
@@ -64,22 +64,22 @@ module _ (t : Tables) (c : ℕ) (row : Vec code.Entry Global) (sound : IsSound t
   abbrev next : Tables
   next = record t { rows = with_item t.rows c row }
 
-  row_there : kept_in next c ≡ leads_of row.items
+  row_there : kept_row next c ≡ leads_of row.items
   row_there =
       get_or-map (λ (r : Vec code.Entry Global). leads_of r.items) (slice_set t.rows.items c row) c row [] (let n = sound.counted in let m = length-set t.rows.items c row in omega (arith, n, m, is-class))
       ∙ ap (λ (r : Vec code.Entry Global). leads_of r.items) (get_or-set_same t.rows.items c row row (let n = sound.counted in omega (arith, n, is-class)))
 
-  row_elsewhere : (k : ℕ) → k ≢ c → kept_in next k ≡ kept_in t k
+  row_elsewhere : (k : ℕ) → k ≢ c → kept_row next k ≡ kept_row t k
   row_elsewhere k h =
       ap (λ rs. slice_index_or rs k []) (map-set (λ (r : Vec code.Entry Global). leads_of r.items) t.rows.items c row)
       ∙ get_or-set_other (map (λ (r : Vec code.Entry Global). leads_of r.items) t.rows.items) c k (leads_of row.items) [] h
 
   -- keeps the lead that is put in the row
-  pub put_kept : (n : ℕ) (l : Lead) (old : List Lead) → HasPut old n l (leads_of row.items) → l ≡ entry (row_in t c) n → entry (kept_in next c) n ≡ entry (row_in t c) n
+  pub put_kept : (n : ℕ) (l : Lead) (old : List Lead) → HasPut old n l (leads_of row.items) → l ≡ entry (row_in t c) n → entry (kept_row next c) n ≡ entry (row_in t c) n
   put_kept n l old has is = ap (λ r. entry r n) row_there ∙ has.put ∙ is
 
   -- and remains where the rules have that lead
-  pub put_remains : (n : ℕ) (l : Lead) (old : List Lead) → old ≡ kept_in t c → HasPut old n l (leads_of row.items) → l ≡ entry (row_in t c) n → Remains t next
+  pub put_remains : (n : ℕ) (l : Lead) (old : List Lead) → old ≡ kept_row t c → HasPut old n l (leads_of row.items) → l ≡ entry (row_in t c) n → Remains t next
   put_remains n l old was has is = record {
     rules = refl;
     end = refl;
@@ -92,20 +92,20 @@ module _ (t : Tables) (c : ℕ) (row : Vec code.Entry Global) (sound : IsSound t
       right (inl e) h = absurd (h e)
       right (inr e) h = e
 
-      here : (m : ℕ) (v : Bool) → (m == n) ≡ v → (entry (kept_in next c) m ≡ Stuck) ⊎ (entry (kept_in next c) m ≡ entry (row_in t c) m)
+      here : (m : ℕ) (v : Bool) → (m == n) ≡ v → (entry (kept_row next c) m ≡ Stuck) ⊎ (entry (kept_row next c) m ≡ entry (row_in t c) m)
       here m true e = inr (ap (λ r. entry r m) row_there ∙ ap (entry (leads_of row.items)) (eqb-true m n e) ∙ has.put ∙ is ∙ ap (entry (row_in t c)) (sym (eqb-true m n e)))
       here m false e =
           subst (λ (x : Lead). (x ≡ Stuck) ⊎ (x ≡ entry (row_in t c) m)) (sym (ap (λ r. entry r m) row_there ∙ has.others m (eqb-false m n e) ∙ ap (λ r. entry r m) was)) (sound.entries c m)
 
-      on : (k m : ℕ) (v : Bool) → (k == c) ≡ v → (w : Bool) → (m == n) ≡ w → entry (kept_in t k) m ≢ Stuck → entry (kept_in next k) m ≡ entry (kept_in t k) m
+      on : (k m : ℕ) (v : Bool) → (k == c) ≡ v → (w : Bool) → (m == n) ≡ w → entry (kept_row t k) m ≢ Stuck → entry (kept_row next k) m ≡ entry (kept_row t k) m
       on k m true e true f h =
-          ap (λ r. entry r m) (ap (kept_in next) (eqb-true k c e) ∙ row_there) ∙ ap (entry (leads_of row.items)) (eqb-true m n f) ∙ has.put ∙ is
-          ∙ sym (ap (λ j. entry (kept_in t j) m) (eqb-true k c e) ∙ ap (entry (kept_in t c)) (eqb-true m n f) ∙ right (sound.entries c n) (λ s. h (ap (λ j. entry (kept_in t j) m) (eqb-true k c e) ∙ ap (entry (kept_in t c)) (eqb-true m n f) ∙ s)))
+          ap (λ r. entry r m) (ap (kept_row next) (eqb-true k c e) ∙ row_there) ∙ ap (entry (leads_of row.items)) (eqb-true m n f) ∙ has.put ∙ is
+          ∙ sym (ap (λ j. entry (kept_row t j) m) (eqb-true k c e) ∙ ap (entry (kept_row t c)) (eqb-true m n f) ∙ right (sound.entries c n) (λ s. h (ap (λ j. entry (kept_row t j) m) (eqb-true k c e) ∙ ap (entry (kept_row t c)) (eqb-true m n f) ∙ s)))
       on k m true e false f h =
-          ap (λ r. entry r m) (ap (kept_in next) (eqb-true k c e) ∙ row_there) ∙ has.others m (eqb-false m n f) ∙ ap (λ r. entry r m) was
-          ∙ sym (ap (λ j. entry (kept_in t j) m) (eqb-true k c e))
+          ap (λ r. entry r m) (ap (kept_row next) (eqb-true k c e) ∙ row_there) ∙ has.others m (eqb-false m n f) ∙ ap (λ r. entry r m) was
+          ∙ sym (ap (λ j. entry (kept_row t j) m) (eqb-true k c e))
       on k m false e w f h = ap (λ r. entry r m) (row_elsewhere k (eqb-false k c e))
 
-      go : (k m : ℕ) (v : Bool) → (k == c) ≡ v → (w : Bool) → (m == n) ≡ w → (entry (kept_in next k) m ≡ Stuck) ⊎ (entry (kept_in next k) m ≡ entry (row_in t k) m)
-      go k m true e w f = subst (λ (j : ℕ). (entry (kept_in next j) m ≡ Stuck) ⊎ (entry (kept_in next j) m ≡ entry (row_in t j) m)) (sym (eqb-true k c e)) (here m w f)
+      go : (k m : ℕ) (v : Bool) → (k == c) ≡ v → (w : Bool) → (m == n) ≡ w → (entry (kept_row next k) m ≡ Stuck) ⊎ (entry (kept_row next k) m ≡ entry (row_in t k) m)
+      go k m true e w f = subst (λ (j : ℕ). (entry (kept_row next j) m ≡ Stuck) ⊎ (entry (kept_row next j) m ≡ entry (row_in t j) m)) (sym (eqb-true k c e)) (here m w f)
       go k m false e w f = subst (λ (r : List Lead). (entry r m ≡ Stuck) ⊎ (entry r m ≡ entry (row_in t k) m)) (sym (row_elsewhere k (eqb-false k c e))) (sound.entries k m)

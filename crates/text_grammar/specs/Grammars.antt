@@ -7,7 +7,7 @@ use Rattle.text_grammar.specs.declared.symbol.Item.{Item}
 use Rattle.text_grammar.specs.declared.symbol.Item.TheVariants.{APiece, AMade, AMark, Or, End}
 
 -- the alternatives of each nonterminal, of which number 0 is the text; which of so many classes a piece belongs to, and
--- a piece of each; and how often a table is made from the one before
+-- a piece of each; and after how many rounds the rows of its table are what they stay
 pub record Grammar (P : Type 0) : Type 0 where
   pub rules : List (List (List Symbol))
   pub classes : ℕ

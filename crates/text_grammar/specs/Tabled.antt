@@ -11,13 +11,14 @@ abbrev pub row_in : Tables → ℕ → List Lead
 row_in t c = row_after (rules_view t.rules.items) c t.rounds
 
 -- what is kept of the row of a class
-abbrev pub kept_in : Tables → ℕ → List Lead
-kept_in t c = slice_index_or (map (λ row. leads_of row.items) t.rows.items) c []
+abbrev pub kept_row : Tables → ℕ → List Lead
+kept_row t c = slice_index_or (map (λ row. leads_of row.items) t.rows.items) c []
 
--- there is a row for each class and one for the end of the text, and what is kept in them is as the rules have it
+-- there is a row for each class and one for the end of the text, and what is kept in them is as the rules have it; where
+-- nothing is kept it is `Stuck`
 pub record IsSound (t : Tables) : Type 0 where
   pub counted : length t.rows.items ≡ t.end + 1
-  pub entries : (c n : ℕ) → (entry (kept_in t c) n ≡ Stuck) ⊎ (entry (kept_in t c) n ≡ entry (row_in t c) n)
+  pub entries : (c n : ℕ) → (entry (kept_row t c) n ≡ Stuck) ⊎ (entry (kept_row t c) n ≡ entry (row_in t c) n)
 
 -- a table, and then one of the same rules, classes and rounds, which has what the first keeps, and all that it keeps is as
 -- the rules have it
@@ -25,14 +26,14 @@ pub record Remains (s t : Tables) : Type 0 where
   pub rules : t.rules ≡ s.rules
   pub end : t.end ≡ s.end
   pub rounds : t.rounds ≡ s.rounds
-  pub kept : (c n : ℕ) → entry (kept_in s c) n ≢ Stuck → entry (kept_in t c) n ≡ entry (kept_in s c) n
+  pub kept : (c n : ℕ) → entry (kept_row s c) n ≢ Stuck → entry (kept_row t c) n ≡ entry (kept_row s c) n
   pub sound : IsSound t
 
 -- the table is one of these rules, for so many classes, after so many rounds, and what it keeps is as they have it
 pub record IsTable (t : Tables) (rules : List (List (List Symbol))) (classes rounds : ℕ) : Type 0 where
-  pub rules_kept : rules_view t.rules.items ≡ rules
-  pub end_class : t.end ≡ classes
-  pub last_round : t.rounds ≡ rounds
+  pub of_rules : rules_view t.rules.items ≡ rules
+  pub of_classes : t.end ≡ classes
+  pub of_rounds : t.rounds ≡ rounds
   pub sound : IsSound t
 
 -- the table is the grammar's

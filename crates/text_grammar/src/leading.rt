@@ -17,7 +17,7 @@ use std::alloc::{AllocError, Global};
 ///
 /// `AllocError` where an allocation fails.
 #[cycle(lead)]
-pub fn lead_of_nonterminal(
+pub(crate) fn lead_of_nonterminal(
     alloc: Global,
     rules: &[&[Item]],
     class: u32,
@@ -50,7 +50,7 @@ fn lead_of_bodies(
     let mut found = Entry::Stuck;
     let mut next = Some(bodies);
     while let Some(body) = next {
-        if !is_of_another_class(class, body) {
+        if !begins_with_another(class, body) {
             found = better_of(found, lead_of_body(alloc, rules, class, body, rounds)?);
         }
         next = behind_or(body);
@@ -96,7 +96,7 @@ fn lead_of_body(
                     return Ok(Entry::Matches { marks, rest });
                 }
             },
-            Item::Or | Item::End => return Ok(Entry::Passes { marks }),
+            Item::Or | Item::End => break,
         }
     }
     Ok(Entry::Passes { marks })
@@ -104,7 +104,7 @@ fn lead_of_body(
 
 // Whether what comes first in the body that items begin with, but for marks, is a piece of another class. No piece of
 // the class can follow then; most bodies are told so, without memory. It may say no where it could say yes.
-fn is_of_another_class(class: u32, body: &[Item]) -> bool
+fn begins_with_another(class: u32, body: &[Item]) -> bool
     ensures { IsTrue result → (row : List Lead) → lead class row (body_of body.now) ≡ Stuck }
 {
     for item in body {

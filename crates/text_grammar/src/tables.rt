@@ -1,9 +1,9 @@
 //! The table of a grammar: what each nonterminal leads to at each class of pieces, and at the end of the text.
 
 ghost use Rattle.std.specs.Prelude.{◌≡◌, ◌≢◌, ◌<◌, ◌≤◌, ◌^◌, ℕ, length, IfOk, OnOk, IsTrue, IsFalse};
-ghost use Rattle.text_grammar.specs.Leads.{Stuck, entry as lead_at};
+ghost use Rattle.text_grammar.specs.Leads.{Stuck, entry};
 ghost use Rattle.text_grammar.specs.Grammars.{rules_of as rules_spelled};
-ghost use Rattle.text_grammar.specs.Tabled.{IsTable, IsSound, Remains, HasPut, kept_in, row_in};
+ghost use Rattle.text_grammar.specs.Tabled.{IsTable, IsSound, Remains, HasPut, kept_row, row_in};
 ghost use Rattle.text_grammar.specs.Views.{lead_of, leads_of};
 
 use crate::entry::Entry;
@@ -62,7 +62,7 @@ impl<'a> Tables<'a> {
         requires sound { IsSound self.old }
         requires class { class ≤ self.old.end }
         ensures remains { OnOk result (Remains self.old self.new) }
-        ensures kept { OnOk result (lead_at (kept_in self.new class) number ≡ lead_at (row_in self.old class) number) }
+        ensures kept { OnOk result (entry (kept_row self.new class) number ≡ entry (row_in self.old class) number) }
     {
         if is_kept(&self.rows[class as usize], number) {
             return Ok(());
@@ -78,7 +78,7 @@ impl<'a> Tables<'a> {
     pub(crate) fn row(&self, class: u32) -> &[Entry]
         requires class { class ≤ self.now.end }
         requires sound { IsSound self.now }
-        ensures { leads_of result.now ≡ kept_in self.now class }
+        ensures { leads_of result.now ≡ kept_row self.now class }
     {
         &self.rows[class as usize]
     }
@@ -86,8 +86,8 @@ impl<'a> Tables<'a> {
 
 // Whether a row has an entry other than `Stuck` for a nonterminal.
 fn is_kept(row: &[Entry], number: u32) -> bool
-    ensures kept { IsTrue result → lead_at (leads_of row.now) number ≢ Stuck }
-    ensures none { IsFalse result → lead_at (leads_of row.now) number ≡ Stuck }
+    ensures kept { IsTrue result → entry (leads_of row.now) number ≢ Stuck }
+    ensures none { IsFalse result → entry (leads_of row.now) number ≡ Stuck }
 {
     match row.get(number as usize) {
         Some(Entry::Passes { .. }) | Some(Entry::Matches { .. }) => true,
@@ -107,10 +107,9 @@ fn put(row: &mut Vec<Entry>, number: u32, made: Entry) -> Result<(), AllocError>
 
 // Makes a row have so many places, if it has fewer.
 fn lengthen(row: &mut Vec<Entry>, places: usize) -> Result<(), AllocError>
-    ensures same { OnOk result ((n : ℕ) → lead_at (leads_of row.new.items) n ≡ lead_at (leads_of row.old.items) n) }
+    ensures same { OnOk result ((n : ℕ) → entry (leads_of row.new.items) n ≡ entry (leads_of row.old.items) n) }
     ensures long { OnOk result (places ≤ length row.new.items) }
 {
-    row.reserve(places.saturating_sub(row.len()))?;
     while row.len() < places {
         row.push(Entry::Stuck)?;
     }

@@ -11,7 +11,7 @@ pub print-requires : goal.print-requires
 print-requires c =
     let names = c.args.program.now.start_names.items in
     subst (λ (n : ℕ). All (λ lemma. IsOverFirst n (proof_of lemma)) c.in_ok-found.found.lemmas.items) (length-map names name_of)
-    (proved-accepted.listed (program_of c.args.program.now) c.args.pivots c.in_ok-found.found c.requires
+    (proved-accepted.over_first (program_of c.args.program.now) c.args.pivots c.in_ok-found.found c.requires
     (record { found = c.in_ok-found.ensures.found; lemmas = c.in_ok-found.ensures.lemmas }))
 
 pub returns : goal.returns

@@ -5,7 +5,7 @@ use Rattle.proof_text.specs.OverFirst.{AreOverFirst}
 use Rattle.proof_text.specs.Texts.{uses_text, more_uses_text}
 use Rattle.proof_text.proofs.trees.+write_proof.Given as goal
 
--- what is written and what is left make the whole, and what is left is listed
+-- what is written and what is left make the whole, and what is left is over the first arguments
 abbrev pub invariant-push_uses-loop-proof : goal.invariant-push_uses-loop-proof
 invariant-push_uses-loop-proof l =
     (l.text.items ++ (more_uses_text (program_of l.p) (uses_of (map proof_of (drop l.proof-index l.others))) ++ codes "}")

@@ -2,7 +2,7 @@ use Rattle.std.proofs.Common.{◌≡◌, ◌∙◌, ap}
 use Rattle.text_grammar.specs.Leads.{entry, row_after}
 use Rattle.text_grammar.specs.Tabled.{row_in}
 use Rattle.text_grammar.specs.Views.{lead_of, leads_of, rules_view}
-use Rattle.text_grammar.proofs.TableLaws.{put_kept, put_remains, row_kept}
+use Rattle.text_grammar.proofs.TableLaws.{put_kept, put_remains, row_stands}
 use Rattle.text_grammar.proofs.tables.Tables.keep.Goals as goal
 
 -- what was worked out is as the rules have it
@@ -15,7 +15,7 @@ returns-in_ok-put-in_default-clause-remains c =
     let t = c.args.self.now in
     let was = c.index_mut.result.now in
     put_remains t c.args.class c.put.new.row c.requires.sound c.requires.class c.args.number (lead_of c.in_ok-made.made)
-    (leads_of was.items) (row_kept t c.args.class was c.requires.sound c.requires.class c.index_mut.ensures.value)
+    (leads_of was.items) (row_stands t c.args.class was c.requires.sound c.requires.class c.index_mut.ensures.value)
     c.in_ok-put-in_default.ensures (worked_out c)
 
 pub returns-in_ok-put-in_default-clause-kept : goal.returns-in_ok-put-in_default-clause-kept

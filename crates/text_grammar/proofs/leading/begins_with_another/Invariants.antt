@@ -1,7 +1,7 @@
 use Rattle.std.proofs.Common.{◌≡◌, List, drop}
 use Rattle.text_grammar.specs.Leads.{Lead, Stuck, lead}
 use Rattle.text_grammar.specs.Spelled.{body_of}
-use Rattle.text_grammar.proofs.leading.is_of_another_class.Given as goal
+use Rattle.text_grammar.proofs.leading.begins_with_another.Given as goal
 
 -- where what is left is stuck, all is: only marks stand before it
 abbrev pub invariant-loop-item : goal.invariant-loop-item
