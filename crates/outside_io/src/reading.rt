@@ -28,8 +28,9 @@ pub(crate) fn take_all<T: Read>(
 {
     *taken = 0;
     let mut bytes = Vec::new(alloc);
+    let mut chunk = [0; CHUNK];
     loop {
-        if take_some(reader, &mut bytes, limit)? == 0 {
+        if take_some(reader, &mut bytes, &mut chunk, limit)? == 0 {
             return Ok(bytes);
         }
         *taken = bytes.len() as u64;
@@ -40,8 +41,13 @@ pub(crate) fn take_all<T: Read>(
 }
 
 // One turn: takes at least one byte, unless the reader is at its end, and never more than one byte
-// past `limit` in all. What was taken and what is left make up what they made up before.
-fn take_some<T: Read>(reader: &mut T, bytes: &mut Vec<u8>, limit: u64) -> Result<usize, FetchError>
+// past `limit` in all. What was taken and what is left make up what they made up before. The chunk is where they pass.
+fn take_some<T: Read>(
+    reader: &mut T,
+    bytes: &mut Vec<u8>,
+    chunk: &mut [u8; CHUNK],
+    limit: u64,
+) -> Result<usize, FetchError>
     requires { length bytes.old.items ≤ limit }
     ensures count { IfOk result (λ count. length bytes.new.items ≡ length bytes.old.items + count) }
     ensures whole { OnOk result ((all : Option (List ℕ))
@@ -52,7 +58,6 @@ fn take_some<T: Read>(reader: &mut T, bytes: &mut Vec<u8>, limit: u64) -> Result
     ensures err { OnErr result (bytes.new.items ≡ bytes.old.items) }
     ensures not_too_long { ¬ (IsErrOf result FetchError.TooLong) }
 {
-    let mut chunk = [0; CHUNK];
     let room = limit - bytes.len() as u64;
     let wanted = if room < CHUNK as u64 {
         room as usize + 1

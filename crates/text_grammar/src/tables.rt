@@ -110,6 +110,8 @@ fn lengthen(row: &mut Vec<Entry>, places: usize) -> Result<(), AllocError>
     ensures same { OnOk result ((n : ℕ) → entry (leads_of row.new.items) n ≡ entry (leads_of row.old.items) n) }
     ensures long { OnOk result (places ≤ length row.new.items) }
 {
+    // One allocation a row, in most cases, and not one at each doubling.
+    row.reserve(places.saturating_sub(row.len()))?;
     while row.len() < places {
         row.push(Entry::Stuck)?;
     }
