@@ -62,7 +62,7 @@ def bent(rng, text, pieces):
             return text
         word, other = rng.choice(words), rng.choice(words)[0]
         if kind == 0 and rng.randrange(2):
-            other = b"%d" % rng.choice((0, 1, 2, 7, int(word[0]) + 1, 2**45, 2**55, 2**63 - 1))
+            other = b"%d" % rng.choice((0, 1, 2, 7, int(word[0]) + 1, 2**45, 2**56, 2**63 - 1))
         return text[:word.start()] + other + text[word.end():]
     lines = text.split(b"\n")
     one, other = rng.randrange(len(lines)), rng.randrange(len(lines))

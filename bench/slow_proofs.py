@@ -10,7 +10,7 @@ from typing import NamedTuple
 
 KINDS = ["Syntax", "NumberTooLarge", "TooDeep", "BadReference", "Limit"]
 LEMMAS, GAPS, LEVELS, BOUND_LEVELS, BOUND_NODES = 100000, 1000, 64, 200, 4096
-NUMBER, POINT, CONSTANT, BASE = 2**55, 2**45, 2**127 - 1, 2**64 - 1
+NUMBER, POINT, CONSTANT, BASE = 2**56, 2**45, 2**127 - 1, 2**64 - 1
 NAME = re.compile(r"[A-Za-z_$][A-Za-z0-9_$'.]*")
 DIGITS = re.compile(r"[0-9]+")
 
@@ -289,7 +289,7 @@ class Reading:
         if not (text.isascii() and text.isdigit()) or (text[0] == "0" and len(text) > 1):
             self.breaks_off()
         self.at += len(text)
-        if limit is not None and int(text) > limit:
+        if int(text) > limit:
             self.note("NumberTooLarge", at)
         return int(text), at
 
@@ -389,7 +389,7 @@ class Reading:
 
     def proof_cite(self, level):
         self.take(" ")
-        value, at = self.number(None)
+        value, at = self.number(NUMBER)
         if not 1 <= value <= self.lemmas:
             self.note("BadReference", at)
 

@@ -7,7 +7,7 @@ import tempfile
 from dataclasses import dataclass
 from typing import Optional
 
-from . import programs, reports, runs
+from . import calls, programs, reports, runs
 
 TOP = os.path.dirname(os.path.dirname(os.path.dirname(os.path.abspath(__file__))))
 
@@ -66,13 +66,28 @@ def read_file(name, most=MOST):
 
 def analyse(name, pivots=None, seconds=None, with_facts=False):
     """What koat says of the file; the text goes to its standard input, so that it is read once."""
-    data, command = read_file(name), "facts" if with_facts else "analyse"
+    return analysed(read_file(name), name, pivots, seconds, with_facts)
+
+
+def analysed(data, name, pivots=None, seconds=None, with_facts=False):
+    """What koat says of a text of this name."""
+    command = "facts" if with_facts else "analyse"
     ran = _ran([command, *([] if pivots is None else ["--pivots", str(pivots)]), "-"], data, seconds)
-    return _answer(ran.returncode, ran.stdout, data, name)
+    return answer_of(ran.returncode, ran.stdout, data, name)
+
+
+def version(seconds=None):
+    """What the program says of itself: its version, the checksum of its sources, and whether it is proved."""
+    ran = _ran(["--version"], b"", seconds)
+    lines = ran.stdout.decode("latin-1").splitlines() if ran.returncode == 0 else []
+    said = dict(it.partition(": ")[::2] for it in lines[1:])
+    program = said.get("program")
+    return {"version": lines[0].partition(" ")[2] if lines else None, "sources": said.get("sources"),
+            "is_proved": None if program is None or program.startswith("none") else program == "proved"}
 
 
 def replay(answer, run, seconds=None):
-    """What koat says of a run file beside the bounds of the program of an answer, and the run's start values."""
+    """What koat says of a run file beside the bounds of the program of an answer, and the run."""
     if run == "-":
         raise Stop(WORDS_FAULT, "the file of a run can't be standard input")
     data = read_file(run, MOST_OF_RUN)
@@ -82,7 +97,7 @@ def replay(answer, run, seconds=None):
         raise Stop(BAD_RUN, f"{run}: {said.splitlines()[0]}")
     try:
         if ran.returncode == 0:
-            return runs.read(said, [label for label, _, _ in answer.report.labelled()]), runs.start_of(data)
+            return runs.read(said, [label for label, _, _ in answer.report.labelled()]), runs.run_of(data)
     except (runs.ReplayError, ValueError, IndexError) as fault:
         raise Stop(KOAT_FAILED, f"koat's replay can't be read: {fault}") from fault
     raise Stop(KOAT_FAILED, f"koat ended with status {ran.returncode}" + (f": {said.splitlines()[0]}" if said else ""))
@@ -110,9 +125,15 @@ def check(answer, data, seconds=None):
     return said
 
 
+# How much memory a call may hold, in mebibytes; None is no limit.
+MEBIBYTES = None
+
+
 def _ran(words, data, seconds):
     """koat's call with these words and this standard input."""
     path = program_path()
+    if MEBIBYTES is not None:
+        return _ran_within(words, data, calls.Limits(seconds, MEBIBYTES))
     try:
         return subprocess.run([path, *words], input=data, stdout=subprocess.PIPE, timeout=seconds, check=False)
     except subprocess.TimeoutExpired as fault:
@@ -121,7 +142,16 @@ def _ran(words, data, seconds):
         raise Stop(NO_KOAT, f"{path} can't be run: {fault.strerror}") from fault
 
 
-def _answer(status, output, data, name):
+def _ran_within(words, data, limits):
+    """The same, with a limit on memory too."""
+    status, output, problem = calls.Calls(program_path(), limits).call(words, data)
+    if problem:
+        raise Stop(KOAT_FAILED, f"koat had no answer: {problem}")
+    return subprocess.CompletedProcess(words, status, output)
+
+
+def answer_of(status, output, data, name):
+    """The answer that koat gave of a text by its status and its output."""
     text = output.decode("latin-1")
     if status in (0, 1):
         try:

@@ -4,11 +4,13 @@ import argparse
 import io
 import json
 import math
+import os
 import random
 import re
 import sys
 
-from . import analyser, bounds, explain, growth, lint, page, picture, programs, proofs, reports, runs, sentences
+from . import analyser, answers, bounds, explain, growth, lint, making, many, page, picture, programs, proofs
+from . import refusals, runs, sentences, serve
 from .analyser import Stop
 
 HELP = """Shows what koat says of a program in other forms. It runs koat and changes nothing of what it says; what
@@ -17,11 +19,13 @@ stands beside it (hints, O-classes, values, pictures) is worked out here and isn
   explain FILE        a refusal with line, column and a hint; else each missing bound with its reason in plain words
   lint FILE           likely slips that koat takes silently: names, dead ends, rules that never occur, large constants,
                       costs
-  json FILE           the whole report as JSON, as docs/report.schema.json describes it
-  class FILE          the O-class of each bound, and a last line as the termination competition has it
+  json FILE           the whole answer as JSON, also a refusal, as docs/report.schema.json describes it
+  class FILE          a first line as the termination competition has it, and the O-class of each bound
   at FILE A=30 B=12   the value of each bound at these inputs
   run FILE A=30 B=12  a run made at random from these inputs, as a run file for `koat replay`
   proof FILE          the proof of the bounds in sentences, lemma by lemma; with --proof PROOF that of this file
+  many PATH..         files and folders at once: a line of JSON for each, and a table at the end
+  serve               an editor in the browser with koat's answers beside it, for this machine alone
   page FILE           a page for the browser: the graph, the rules with their bounds, fields for the inputs; with
                       --run RUN also how often each rule occurs in the run of that file, and how large values become"""
 
@@ -51,12 +55,19 @@ def counted(text):
 
 
 def parser():
-    top = argparse.ArgumentParser(prog="show", description=HELP, epilog=STATUSES,
-                                  formatter_class=argparse.RawDescriptionHelpFormatter)
+    called = os.path.basename(sys.argv[0])
+    top = argparse.ArgumentParser(prog=called if called in ("show", "koat-show") else "show", description=HELP,
+                                  epilog=STATUSES, formatter_class=argparse.RawDescriptionHelpFormatter)
     commands = top.add_subparsers(dest="command", metavar="COMMAND", required=True)
     for name in COMMANDS:
         one = commands.add_parser(name, description=COMMANDS[name].__doc__)
-        one.add_argument("file", metavar="FILE")
+        if name == "many":
+            _many_words(one)
+        elif name == "serve":
+            _serve_words(one)
+            continue
+        else:
+            one.add_argument("file", metavar="FILE")
         one.add_argument("--pivots", metavar="N", help="handed to koat")
         one.add_argument("--seconds", metavar="N", type=seconds, help="how long koat, and dot, may each take")
         one.add_argument("--facts", action="store_true", help="what `koat facts` says, in place of `koat analyse`")
@@ -71,6 +82,39 @@ def parser():
             one.add_argument("--without-picture", action="store_true", help="needs no dot")
             one.add_argument("--run", metavar="RUN", help="the file of a run, shown beside the bounds")
     return top
+
+
+def positive(text):
+    """A number from 1 to 1,000,000."""
+    number = counted(text)
+    if number < 1:
+        raise ValueError
+    return number
+
+
+def kth(text):
+    """K/N, which means every Nth file from the Kth on, K from 0."""
+    found = re.fullmatch("([0-9]{1,6})/([0-9]{1,6})", text)
+    if not found or not 0 <= int(found.group(1)) < int(found.group(2)):
+        raise ValueError
+    return int(found.group(1)), int(found.group(2))
+
+
+def _many_words(one):
+    one.add_argument("paths", nargs="*", metavar="PATH", help="files, and folders with files that end in .koat or .its")
+    one.add_argument("--jobs", metavar="N", type=positive, default=os.cpu_count() or 1, help="how many calls at once")
+    one.add_argument("--memory", metavar="MIB", type=positive, help="how much memory each call may hold")
+    one.add_argument("--resume", metavar="FILE", help="where the lines go; what stands there isn't asked again")
+    one.add_argument("--retry", action="store_true", help="ask again what had no answer")
+    one.add_argument("--html", metavar="FILE", help="a page with a row for each file")
+    one.add_argument("--part", metavar="K/N", type=kth, default=(0, 1),
+                     help="every Nth file, from the Kth on, K from 0")
+
+
+def _serve_words(one):
+    one.add_argument("--port", metavar="N", type=counted, default=0, help="the port; without it one that is free")
+    one.add_argument("--seconds", metavar="N", type=seconds, default=20, help="how long koat may take each time; 20")
+    one.add_argument("--memory", metavar="MIB", type=positive, default=2000, help="how much memory it may hold; 2000")
 
 
 def _asked(words):
@@ -88,6 +132,8 @@ def main(words, out=None):
     asked = _asked(words)
     said = io.StringIO()
     try:
+        if asked.command in AT_ONCE and not out:
+            return _at_once(asked)
         status = COMMANDS[asked.command](asked, said)
         _write(said.getvalue(), out)
         return status
@@ -97,6 +143,19 @@ def main(words, out=None):
         return stop.status
     except KeyboardInterrupt:
         return INTERRUPTED
+
+
+def _at_once(asked):
+    """The status of a command that writes its lines as they come; who reads may leave before the end."""
+    try:
+        status = COMMANDS[asked.command](asked, sys.stdout)
+        sys.stdout.flush()
+        return status
+    except BrokenPipeError:
+        os.dup2(os.open(os.devnull, os.O_WRONLY), 1)
+        return 0
+    except OSError as fault:
+        raise Stop(analyser.WRITE_FAULT, f"the output can't be written: {fault.strerror}") from fault
 
 
 def _write(text, out):
@@ -150,22 +209,24 @@ def _lint(asked, out):
 
 
 def _json(asked, out):
-    """Prints the whole report as JSON."""
-    answer = _reported(asked)
-    told = {"format": "koat report 1", "inputs": answer.program.inputs, **reports.as_json(answer.report)}
-    json.dump(told, out, indent=1, ensure_ascii=False)
+    """Prints the whole answer as JSON: the report, or the refusal."""
+    answer = _analysed(asked)
+    json.dump(answers.as_json(answer, analyser.version(asked.seconds)), out, indent=1, ensure_ascii=False)
     print(file=out)
-    return 0
+    return analyser.REFUSED if answer.refusal else 0
 
 
 def _class(asked, out):
-    """Prints the O-class of each bound, n being the greatest of the inputs' absolute values."""
-    answer = _reported(asked)
+    """Prints the answer as the termination competition has it, and then the O-class of each bound, n being the greatest
+    of the inputs' absolute values."""
+    answer = _analysed(asked)
+    print(answers.competition(answer), file=out)
+    if answer.refusal:
+        print(f"show: {answer.refusal.line} (`show explain {asked.file}` says more)", file=sys.stderr)
+        return analyser.REFUSED
     for label, _, bound in answer.report.labelled():
         print(f"{label}: {'unknown' if bound is None else growth.text(growth.growth(bound))}", file=out)
-    total = answer.report.total
     print("These classes are derived from koat's bounds, and not proved themselves.", file=out)
-    print(f"WORST_CASE(?, {growth.competition(None if total is None else growth.growth(total))})", file=out)
     return 0
 
 
@@ -220,6 +281,11 @@ def _run(asked, out):
 def _proof(asked, out):
     """Shows the proof of the bounds in sentences, which koat's checker accepted, or says what it doesn't accept."""
     answer = _reported(asked)
+    if asked.facts:
+        _print([f"fact {it}" for it in answer.report.facts], out)
+        answer = making.with_facts(answer, asked.pivots, asked.seconds)
+        print("`koat facts` found these facts. The proof is of the program with them in its guards:", file=out)
+        _print([f"  {line}" for line in answer.data.decode("latin-1").splitlines()], out)
     if asked.proof is None:
         data = analyser.prove(answer, asked.pivots, asked.seconds)
     else:
@@ -227,24 +293,44 @@ def _proof(asked, out):
     said = analyser.check(answer, data, asked.seconds)
     is_accepted = said[0] == "accepted"
     try:
-        facts = [it for it in said[1:] if not it.startswith("gap ")] if is_accepted else None
-        _print(sentences.lines(answer.program, proofs.read(data.decode("latin-1")), facts), out)
+        stated = [it for it in said[1:] if not it.startswith("gap ")] if is_accepted else None
+        proof = proofs.read(data.decode("latin-1"))
+        refused = None if is_accepted else refusals.named(said[0])
+        _print(sentences.lines(answer.program, proof, stated, refused), out)
+        print(f"koat's checker {'accepts this proof' if is_accepted else f'does not accept it: {said[0]}'}", file=out)
+        _print([] if is_accepted else [f"  {it}" for it in refusals.lines(answer.program, proof, said[0])], out)
     except (proofs.ProofError, sentences.FactsError, LookupError) as fault:
         raise Stop(analyser.KOAT_FAILED, f"the proof can't be read: {fault}") from fault
-    print(f"koat's checker {'accepts this proof' if is_accepted else f'does not accept it: {said[0]}'}", file=out)
     return 0 if is_accepted else analyser.BAD_PROOF
 
 
 def _page(asked, out):
     """Writes one page that needs nothing else: HTML with the picture, the styles and the script in it."""
     answer = _reported(asked)
-    replayed = analyser.replay(answer, asked.run, asked.seconds) if asked.run is not None else None
+    replayed = None if asked.run is None else analyser.replay(answer, asked.run, asked.seconds)
     drawn = "" if asked.without_picture else picture.draw(answer.program, answer.report, asked.seconds)
-    out.write(page.page(answer, drawn, replayed))
+    beside = making.beside(answer, asked.facts, asked.pivots, asked.seconds)
+    beside.drawn = drawn
+    if replayed:
+        beside.replay, beside.run = replayed
+    out.write(page.page(answer, beside))
     return 0
 
 
+def _many(asked, out):
+    """Asks koat of many files at once: a line of JSON for each, and a table at the end."""
+    if not asked.paths and not asked.resume:
+        raise Stop(analyser.WORDS_FAULT, "many needs files or folders, or --resume FILE with lines of earlier ones")
+    return many.run(asked, out)
+
+
+def _serve(asked, out):
+    """Serves an editor with koat's answers beside it, for this machine alone, until it is interrupted."""
+    return serve.run(asked, out)
+
+
 WITH_INPUTS = ("at", "run")
+AT_ONCE = ("many", "serve")
 
 COMMANDS = {"explain": _explain, "lint": _lint, "json": _json, "class": _class, "at": _at, "run": _run, "proof": _proof,
-            "page": _page}
+            "page": _page, "many": _many, "serve": _serve}

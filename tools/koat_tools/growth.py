@@ -34,10 +34,9 @@ def text(pair):
 
 
 def competition(pair):
-    """The class as the termination competition writes it; `?` where there is no bound, or one that is a tower."""
-    if pair is None:
-        return "?"
+    """The line of the termination competition for a class of all steps; `MAYBE` where it is a tower of powers."""
     height, degree = pair
     if height > 1:
-        return "?"
-    return "O(EXP)" if height else "O(1)" if degree == 0 else f"O(n^{degree})"
+        return "MAYBE"
+    upper = "O(EXP)" if height else "O(1)" if degree == 0 else f"O(n^{degree})"
+    return f"WORST_CASE(?, {upper})"

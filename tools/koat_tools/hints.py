@@ -2,11 +2,12 @@
 
 import re
 
-from . import programs
+from . import notations, programs
 
 TWO_RULES = "a guard has no `!=`: write the rule twice, once with `<` and once with `>`"
 NO_OR = "a guard has no `||`: write the rule twice, once with each side"
 ONE_TARGET = "a rule leads to one symbol: write `Com_1(..)`; what goes on in several calls can't be analysed"
+NO_TARGET = "a run ends at a symbol that no rule leaves: write `Com_1(stop())`"
 NO_DIVISION = "there is no division and no remainder: for Q = X/2 take a free Q with `2*Q <= X && X <= 2*Q + 1`"
 BRACKETS = "a symbol always has its brackets, also without arguments: `stop()`"
 AND = "comparisons are joined by `&&`"
@@ -89,6 +90,8 @@ SAID = {
 def hint(data, at, kind):
     """One sentence on what to write instead, or what is meant."""
     word, _, limit = kind.partition(" ")
+    if word == "ManyTargets" and re.match(rb"Com_0+\s*\(", data[at:]):
+        return NO_TARGET
     if word == "Limit" and limit in LIMITS:
         return f"koat takes {LIMITS[limit]}"
     if word in SAID:
@@ -99,6 +102,8 @@ def hint(data, at, kind):
 
 
 def _not_ascii(_, data, at):
+    if at < 2 and b"\0" in data[:8]:
+        return "the text is in UTF-16: save it as ASCII or UTF-8"
     character = data[at:at + 4].decode("utf-8", "ignore")[:1]
     if character in CHARACTERS:
         return CHARACTERS[character]
@@ -122,7 +127,7 @@ def _start_unknown(text, _, at):
         return f"no rule leaves `{start}`, but one leaves `{alike[0]}`: capitals count"
     if rules:
         return f"no rule leaves `{start}`; the first rule leaves `{rules[0]}`"
-    return f"no rule leaves `{start}`"
+    return f"no rule leaves `{start}`: RULES has none"
 
 
 def _arity(text, _, at):
@@ -160,7 +165,9 @@ def _arguments(found, opening):
 
 
 def _syntax(text, data, at):
-    for look in (_at_end, _at_cost, _at_sign, _at_section, _at_word, _at_pair):
+    if at < len(text) and not _around(text, at)[1]:
+        return "docs/format.md has the grammar"
+    for look in (_at_end, _at_cost, _at_notation, _at_sign, _at_section, _at_word, _at_pair):
         found = look(text, data, at)
         if found:
             return found
@@ -183,6 +190,10 @@ def _at_end(text, data, at):
     what = "the comment" if open_brackets[-1].kind == "comment" else "the bracket"
     also = f", and {more} before it" if more else ""
     return f"the text ends, and {what} of line {where.line}, column {where.column} isn't closed{also}"
+
+
+def _at_notation(text, data, at):
+    return notations.hint(text, data, at, *_around(text, at))
 
 
 def _around(text, at):

@@ -3,17 +3,19 @@ what is good to know, as costs."""
 
 from collections import namedtuple
 
-from . import programs
+from . import polynomials, programs
 
-LARGE = 2**29
+# Linear programs multiply and add numbers below 2^31. The product of two numbers from 46,341 on passes that.
+LARGE, SQUARE = 2**29, 46341
 
 # `is_slip` tells what is likely wrong from what is merely good to know.
 Finding = namedtuple("Finding", "at is_slip text")
 
 
 def findings(program, report):
-    found = _variables(program) + _symbols(program) + _times(program, report) + _constants(program)
-    found += _costs(program)
+    found = _variables(program) + _symbols(program) + _times(program, report)
+    found += _constants(program, report)
+    found += _costs(program) + _ignored(program)
     return sorted(found, key=lambda it: (it.at, it.text))
 
 
@@ -100,7 +102,24 @@ def _costs(program):
                     "costs yet") for rule in program.rules if rule.cost is not None]
 
 
-def _constants(program):
-    return [Finding(token.at, True, f"the number {token.text} is 2^29 or more: koat may lose every bound by numbers of "
-                    "this size; leave it out, or make it a start argument")
-            for token in program.constants if int(token.text.lstrip("0") or "0") >= LARGE]
+def _constants(program, report):
+    """Numbers that may take a linear program out of its range: a slip where one left it, or from 2^29 on."""
+    is_left = any(it.why and it.why.facts.get("limit") == "range" for it in report.entries())
+    found = []
+    for token in program.constants:
+        number = int(token.text.lstrip("0") or "0")
+        if number < SQUARE:
+            continue
+        which = "2^29 or more" if number >= LARGE else "46,341 or more, so that its square passes 2^31"
+        lost = "koat lost bounds by numbers of this size here" if is_left else \
+            "koat may lose bounds by numbers of this size"
+        found.append(Finding(token.at, is_left or number >= LARGE, f"the number {token.text} is {which}: {lost}; leave "
+                             "it out, or make it a start argument"))
+    return found
+
+
+def _ignored(program):
+    """Comparisons that koat doesn't look at: of what stands in a guard only degree 1 gives rows."""
+    return [Finding(rule.at, False, f"rule {rule.number}: `{it.text}` has degree {it.degree}, and koat's search looks "
+                    "at comparisons of degree 1 alone: its bounds hold without this one, too")
+            for rule in program.rules for it in polynomials.comparisons(rule.guard) if it.degree > 1]

@@ -48,6 +48,88 @@ document.addEventListener("input", (event) => {
   show();
 });
 
+// All that is folded is printed.
+let folded = [];
+addEventListener("beforeprint", () => {
+  folded = [...document.querySelectorAll("details:not([open])")];
+  for (const one of folded) one.open = true;
+});
+addEventListener("afterprint", () => {
+  for (const one of folded) one.open = false;
+});
+document.addEventListener("click", (event) => {
+  const fold = event.target.dataset.fold;
+  if (fold) for (const one of document.querySelectorAll(".rule details")) one.open = fold === "open";
+});
+// What a link leads to gets the focus, so that a screen reader goes on there.
+addEventListener("hashchange", () => {
+  const one = document.getElementById(location.hash.slice(1));
+  if (one && one.tabIndex === -1) one.focus({ preventScroll: true });
+});
+
+const run = document.getElementById("steps") ? JSON.parse(document.getElementById("steps").textContent) : null;
+const slider = document.getElementById("step");
+
+// How often each rule occurs in the first steps of the run.
+function counted(steps, count) {
+  const found = new Map();
+  for (const [rule] of steps.slice(0, count)) found.set(rule, (found.get(rule) ?? 0) + 1);
+  return found;
+}
+
+function named(symbol, values) {
+  return values.map((value, at) => `${run.names[symbol][at]} = ${value}`).join(", ");
+}
+
+// Shows the run after so many steps: where it is, and what is counted so far.
+function showStep(count) {
+  slider.value = count;
+  const [rule, symbol, values] = count ? run.steps[count - 1] : [null, run.start, run.values];
+  const by = rule === null ? "the start" : `by rule ${rule}`;
+  const place = values.length ? `${symbol}, ${named(symbol, values)}` : symbol;
+  document.getElementById("state").textContent = `step ${count} of ${run.steps.length}, ${by}: at ${place}`;
+  const found = counted(run.steps, count);
+  run.trees.forEach((_, at) => {
+    const row = document.getElementById(`step-rule-${at + 1}`);
+    row.querySelector(".uses").textContent = found.get(at + 1) ?? 0;
+    row.classList.toggle("now", at + 1 === rule);
+  });
+  document.querySelector("#step-total .uses").textContent = count;
+  for (const one of document.querySelectorAll(".picture .now")) one.classList.remove("now");
+  if (rule !== null) document.getElementById(`edge-${rule}`)?.classList.add("now");
+  for (const node of document.querySelectorAll(".picture .node")) {
+    if (node.querySelector("text")?.textContent === symbol) node.classList.add("now");
+  }
+}
+
+const wayTo = {
+  first: () => 0, back: (at) => Math.max(at - 1, 0), on: (at) => Math.min(at + 1, run.steps.length),
+  last: () => run.steps.length,
+};
+
+if (run) {
+  slider.max = run.steps.length;
+  const given = Object.fromEntries(Object.entries(run.inputs).map(([name, text]) => [name, BigInt(text)]));
+  const most = (tree) => (tree === null ? "unknown" : written(value(tree, given)));
+  run.trees.forEach((tree, at) => {
+    document.querySelector(`#step-rule-${at + 1} .most`).textContent = most(tree);
+  });
+  document.querySelector("#step-total .most").textContent = most(run.total);
+  slider.addEventListener("input", () => showStep(Number(slider.value)));
+  const section = document.querySelector(".run");
+  section.addEventListener("click", (event) => {
+    const way = wayTo[event.target.dataset.step];
+    if (way) showStep(way(Number(slider.value)));
+  });
+  section.addEventListener("keydown", (event) => {
+    const way = { ArrowLeft: "back", ArrowRight: "on", Home: "first", End: "last" }[event.key];
+    if (!way) return;
+    event.preventDefault();
+    showStep(wayTo[way](Number(slider.value)));
+  });
+  showStep(0);
+}
+
 const picture = document.querySelector(".picture");
 const fit = document.getElementById("fit");
 
@@ -72,7 +154,7 @@ if (picture) {
   addEventListener("resize", place);
   picture.addEventListener("click", (event) => {
     const edge = event.target.closest(".edge");
-    if (edge) location.hash = "rule-" + edge.id.slice("edge-".length);
+    if (edge && !event.target.closest("a")) location.hash = "rule-" + edge.id.slice("edge-".length);
   });
   place();
 }

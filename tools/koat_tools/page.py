@@ -4,23 +4,43 @@ import html
 import json
 import os
 import re
+from dataclasses import dataclass, field
+from typing import Dict, List, Optional
 
-from . import bounds, growth, programs, reasons
+from . import bounds, facts, growth, programs, reasons, runs, sentences
 
 FOLDER = os.path.dirname(os.path.abspath(__file__))
+# From so many sizes on those of a rule are folded.
+MANY_SIZES = 12
+# The run that is stepped through has at most so many steps.
+MOST_STEPS = 2000
 
 
-def page(answer, drawn, replayed=None):
-    """The page of what koat said of a program; with a replay and its start values the run's numbers stand beside."""
-    program, report = answer.program, answer.report
-    replay, start = replayed or (None, None)
+@dataclass
+class Beside:
+    """What stands beside the answer on its page: the picture, the replay of a run and the run itself, what shows each
+    bound, and what the program says of itself."""
+
+    drawn: str = ""
+    replay: Optional[runs.Replay] = None
+    run: Optional[runs.Run] = None
+    whys: Dict[str, List[str]] = field(default_factory=dict)
+    version: Dict = field(default_factory=dict)
+
+
+def page(answer, beside=None):
+    """The page of what koat said of a program."""
+    beside = beside or Beside()
+    program, report, replay = answer.program, answer.report, beside.replay
+    run = beside.run or runs.made(program, [10 - 3 * (at % 3) for at in range(len(program.inputs))], 200, 0)
     parts = {
         "title": html.escape(os.path.basename(answer.name)), "verdict": report.verdict,
         "style": _file("page.css"), "script": _file("page.js"), "said": _said(report), "about": _about(answer.data),
-        "total": _head(replay) + _bound_row(replay, "all rules", "total", report.total_text, report.total),
-        "inputs": _inputs(program, start), "counted": _counted(replay), "picture": _picture(drawn),
-        "rules": "\n".join(_rule(rule, report, replay) for rule in program.rules),
-        "missing": _missing(report, program), "report": html.escape(report.text),
+        "total": _table(replay, [_bound_row(replay, "all rules", "total", report.total_text, report.total)]),
+        "inputs": _inputs(program, run.start), "counted": _counted(replay), "picture": _picture(beside.drawn),
+        "rules": "\n".join(_rule(rule, answer, beside) for rule in program.rules), "facts": _facts(program, report),
+        "missing": _missing(report, program), "report": html.escape(report.text), "run": _run(program, report, run),
+        "version": _version(beside.version),
     }
     return re.sub(r"\{\{(\w+)\}\}", lambda match: parts[match.group(1)], _file("page.html"))
 
@@ -45,11 +65,21 @@ def _about(data):
     return "".join(f"<p class=\"about\">{html.escape(it)}</p>" for it in told if it)
 
 
+def _version(version):
+    """Which program answered."""
+    if not version.get("version"):
+        return "The program that answered doesn't say which it is, and whether it is proved."
+    sources = f", sources <code>{html.escape(version['sources'][:16])}</code>" if version.get("sources") else ""
+    kind = {True: "It is the proved program: the bounds hold on every run.",
+            False: "<strong>It was compiled without proof</strong>: <code>./prove</code> makes the proved one."}
+    return (f"Answered by koat {html.escape(version['version'])}{sources}. "
+            + kind.get(version.get("is_proved"), "Whether it is proved it doesn't say."))
+
+
 def _inputs(program, start):
     if not program.inputs:
         return "<p>This program has no inputs.</p>"
-    return "\n".join(_input(html.escape(name), value)
-                     for name, value in zip(program.inputs, start or [10] * len(program.inputs)))
+    return "\n".join(_input(html.escape(name), value) for name, value in zip(program.inputs, start))
 
 
 def _input(name, value):
@@ -62,59 +92,123 @@ def _counted(replay):
     """What the numbers of a run are."""
     if replay is None:
         return ""
-    return ('<p class="help">"in the run": of the run that was replayed, how often the rule occurs, how many steps there '
-            "are, and the greatest absolute value of the argument after the rule.</p>")
+    return ('<p class="help">"in the run": of the run that was replayed, how often the rule occurs, how many steps '
+            "there are, and the greatest absolute value of the argument after the rule.</p>")
 
 
 def _picture(drawn):
     if not drawn:
         return "<p>The page was made without a picture.</p>"
     return ('<label class="fit"><input type="checkbox" id="fit"> fit into the width</label>'
-            f'<div class="picture" tabindex="0">{drawn}</div>')
+            f'<div class="picture" tabindex="0" role="region" aria-label="graph, scrolls">{drawn}</div>')
+
+
+def _facts(program, report):
+    """The facts, at their symbols."""
+    if not report.facts:
+        return ""
+    found = {}
+    for it in report.facts:
+        symbol, fact = it.rsplit(": ", 1)
+        found.setdefault(symbol, []).append(facts.shown(program, symbol, fact))
+    rows = "".join(f"<dt>{html.escape(symbol)}</dt><dd>{html.escape(', '.join(told))}</dd>"
+                   for symbol, told in found.items())
+    return ('<section aria-labelledby="facts"><h2 id="facts">Facts</h2><p class="help">What holds whenever a run stands '
+            f"at a symbol; the rules that leave it are analysed with it in their guards.</p><dl>{rows}</dl></section>")
+
+
+def _table(replay, rows):
+    told = "" if replay is None else '<th scope="col">in the run</th>'
+    return ('<table><thead><tr><th scope="col">of</th><th scope="col">at most</th><th scope="col">at the inputs</th>'
+            f'<th scope="col">class</th>{told}</tr></thead><tbody>' + "\n".join(rows) + "</tbody></table>")
 
 
 def _bound_row(replay, label, key, text, bound, why=None):
-    told = "" if replay is None else f'<td class="counted">{replay.beside[key][0]:,}</td>'
+    """A row of a bound; `label` is HTML."""
+    told = "" if replay is None else f'<td class="counted" data-head="in the run">{replay.beside[key][0]:,}</td>'
     if bound is None:
         known = f'<a href="#{why}">unknown</a>' if why else "unknown"
-        return f'<tr class="unknown"><th>{label}</th><td class="bound">{known}</td><td></td><td></td>{told}</tr>'
-    return (f'<tr><th>{label}</th><td class="bound">{html.escape(text)}</td>'
-            f'<td class="value" data-tree="{html.escape(json.dumps(bounds.as_json(bound)))}"></td>'
-            f'<td class="growth">{growth.text(growth.growth(bound))}</td>{told}</tr>')
+        return (f'<tr class="unknown" data-label="{key}"><th scope="row">{label}</th>'
+                f'<td class="bound" data-head="at most">{known}'
+                f"</td><td></td><td></td>{told}</tr>")
+    return (f'<tr data-label="{key}"><th scope="row">{label}</th>'
+            f'<td class="bound" data-head="at most">{html.escape(text)}</td>'
+            f'<td class="value" data-head="here" data-tree="{html.escape(json.dumps(bounds.as_json(bound)))}"></td>'
+            f'<td class="growth" data-head="class">{growth.text(growth.growth(bound))}</td>{told}</tr>')
 
 
-def _rule(rule, report, replay):
+def _rule(rule, answer, beside):
+    """A rule with its bounds: its time, its sizes, which may be folded, and what shows them."""
+    report, replay = answer.report, beside.replay
     time = report.times[rule.number - 1]
-    rows = [("time", time.label, time.text, time.bound, _anchor(time))]
-    rows += [(it.label, it.label, it.text, it.bound, _anchor(it)) for it in report.sizes if it.rule == rule.number]
     kind = "missing" if time.text is None else "never" if time.text == "0" else "known"
     text = re.sub(r"\s*\n\s*", "\n    ", rule.text)
-    return (f'<article class="rule {kind}" id="rule-{rule.number}"><h3>Rule {rule.number}</h3>'
-            f"<pre>{html.escape(text)}</pre><table>{_head(replay)}"
-            + "\n".join(_bound_row(replay, *it) for it in rows) + "</table></article>")
+    sizes = [it for it in report.sizes if it.rule == rule.number]
+    names = sentences.names(answer.program, rule.target.text, len(sizes))
+    rows = [_bound_row(replay, f"<b>{html.escape(name)}</b> after rule {rule.number}", it.label, it.text, it.bound,
+                       _anchor(it))
+            for it, name in zip(sizes, names)]
+    is_open = "" if len(report.sizes) > MANY_SIZES else " open"
+    folded = (f"<details{is_open}><summary>{_count(len(rows), 'value')} after it</summary>{_table(replay, rows)}"
+              "</details>")
+    labels = [("how often", time.label)]
+    labels += [(f"{name} after rule {rule.number}", it.label) for name, it in zip(names, sizes)]
+    shown = "".join(_why_known(what, beside.whys.get(label)) for what, label in labels)
+    return (f'<article class="rule {kind}" id="rule-{rule.number}" tabindex="-1"><h3>Rule {rule.number}</h3>'
+            f"<pre>{html.escape(text)}</pre>"
+            + _table(replay, [_bound_row(replay, "how often", time.label, time.text, time.bound, _anchor(time))])
+            + (folded if rows else "")
+            + (f'<details class="whys"><summary>why</summary>{shown}</details>' if shown else "")
+            + "</article>")
 
 
-def _head(replay):
-    told = "" if replay is None else "<td>in the run</td>"
-    return f'<tr class="head"><th></th><td>at most</td><td>at the inputs</td><td>class</td>{told}</tr>'
+def _count(number, word):
+    return f"{number} {word}" + ("" if number == 1 else "s")
+
+
+def _why_known(what, told):
+    """What shows a bound that is known."""
+    if not told:
+        return ""
+    return (f"<details><summary>{html.escape(what)}</summary><ol>"
+            + "".join(f"<li>{html.escape(it)}</li>" for it in told) + "</ol></details>")
 
 
 def _missing(report, program):
     told = [it for it in report.entries() if it.why]
     if not told:
         return ""
-    return ("<section><h2>Why bounds are missing</h2>"
+    return ('<section aria-labelledby="missing"><h2 id="missing">Why bounds are missing</h2>'
             + "\n".join(_why(it, report, program) for it in told) + "</section>")
 
 
 def _why(entry, report, program):
-    sentences = reasons.words(report, entry, program)
+    told = reasons.words(report, entry, program)
     of_time, of_size = f"time of rule {entry.rule}", f"size of argument {entry.place} after rule {entry.rule}"
     what = of_time if entry.place is None else of_size
-    rest = "".join(f"<li>{html.escape(it)}</li>" for it in sentences[1:])
+    rest = "".join(f"<li>{html.escape(it)}</li>" for it in told[1:])
     return (f'<article class="why" id="{_anchor(entry)}"><h3>The {what}</h3>'
-            f"<p>{html.escape(sentences[0])}</p>" + (f"<ul>{rest}</ul>" if rest else "") + "</article>")
+            f"<p>{html.escape(told[0])}</p>" + (f"<ul>{rest}</ul>" if rest else "") + "</article>")
 
 
 def _anchor(entry):
     return "why-" + entry.label.replace(" ", "-")
+
+
+def _run(program, report, run):
+    """A run that is stepped through: its steps as data, for the script."""
+    steps = runs.states(program, run, MOST_STEPS)
+    if steps is None:
+        return ""
+    told = {
+        "inputs": dict(zip(program.inputs, [str(abs(it)) for it in run.start])), "start": program.start,
+        "values": [str(it) for it in run.start],
+        "names": {it: sentences.names(program, it, count) for it, count in programs.symbol_arities(program).items()},
+        "steps": [[rule, symbol, [str(it) for it in values]] for rule, symbol, values in steps],
+        "trees": [None if it.bound is None else bounds.as_json(it.bound) for it in report.times],
+        "total": None if report.total is None else bounds.as_json(report.total),
+    }
+    rows = "".join(f'<tr id="step-rule-{it.rule}"><th scope="row"><a href="#rule-{it.rule}">rule {it.rule}</a></th>'
+                   '<td class="uses" data-head="so far">0</td><td class="most" data-head="at most"></td></tr>'
+                   for it in report.times)
+    return _file("run.html").replace("{{rows}}", rows).replace("{{data}}", json.dumps(told).replace("<", "\\u003c"))

@@ -3,6 +3,7 @@
 import re
 import subprocess
 
+from . import facts
 from .analyser import NO_DOT, Stop
 
 LONGEST = 28
@@ -21,17 +22,22 @@ def source(program, report):
     for rule in program.rules:
         for token in (rule.source, rule.target):
             symbols.setdefault(token.text, "inner" if token.text in sources else "end")
+    of_symbols = _facts(program, report)
     for name, kind in symbols.items():
-        lines.append(f'"{name}" [class="{kind}"];')
+        label = "".join(f"\\n{shortened(it)}" for it in of_symbols.get(name, []))
+        lines.append(f'"{name}" [class="{kind}", label="{name}{label}"];')
     loops = {}
     for entry in report.times:
         rule = program.rule(entry.rule)
         side = _side(rule, loops)
         kind = "missing" if entry.text is None else "never" if entry.text == "0" else "known"
         style = {"missing": ", style=bold", "never": ", style=dashed"}.get(kind, "")
-        label = f"{entry.rule}: {shortened(entry.text or 'unknown')}"
-        lines.append(f'"{rule.source.text}"{side} -> "{rule.target.text}"{side} [label=" {label}   ", class="{kind}", '
-                     f'id="edge-{entry.rule}", tooltip="rule {entry.rule}: {entry.text or "unknown"}"{style}];')
+        label = f"{entry.rule}: {shortened(entry.text or 'unknown')}   "
+        guard = " ".join(rule.guard.split())
+        label += f"\\n {escaped(shortened(guard))}   " if guard else ""
+        lines.append(f'"{rule.source.text}"{side} -> "{rule.target.text}"{side} [label=" {label}", class="{kind}", '
+                     f'URL="#rule-{entry.rule}", id="edge-{entry.rule}", '
+                     f'tooltip="rule {entry.rule}: {entry.text or "unknown"}"{style}];')
     return "\n".join(lines + ["}\n"])
 
 
@@ -41,6 +47,20 @@ def _side(rule, loops):
         return ""
     loops[rule.source.text] = loops.get(rule.source.text, 0) + 1
     return ":e" if loops[rule.source.text] % 2 else ":w"
+
+
+def _facts(program, report):
+    """The facts of each symbol, as it is written there."""
+    found = {}
+    for it in report.facts:
+        symbol, fact = it.rsplit(": ", 1)
+        found.setdefault(symbol, []).append(facts.shown(program, symbol, fact))
+    return found
+
+
+def escaped(text):
+    """A text within quotes of dot, where a backslash stands for itself."""
+    return text.replace("\\", "\\\\")
 
 
 def shortened(text):

@@ -21,6 +21,7 @@ class Arm(NamedTuple):
 
     denominator: int
     form: Optional[Tuple]
+    multipliers: Tuple = ()
 
 
 class Member(NamedTuple):
@@ -53,6 +54,8 @@ class Node:
     bound: str = ""
     by: str = ""
     arm: Optional[Arm] = None
+    moves: List = field(default_factory=list)
+    multipliers: List = field(default_factory=list)
 
 
 @dataclass
@@ -152,7 +155,7 @@ class _Reader:
 
     def empty(self, node):
         node.rule = self.number(" ")
-        self.numbers(" ")
+        node.multipliers = self.numbers(" ")
 
     def unreached(self, node):
         node.rule = self.number(" ")
@@ -185,8 +188,8 @@ class _Reader:
         self.take(" forms ")
         node.forms = self.some(self.form, "; ")
         self.take(" moves ")
-        self.some(self.numbers, "; ")
-        self.numbers(" floor ")
+        node.moves = self.some(self.numbers, "; ")
+        node.multipliers = self.numbers(" floor ")
         self.uses(node)
 
     def arm(self):
@@ -194,8 +197,7 @@ class _Reader:
             return Arm(1, None)
         denominator = self.number("lin ")
         form = tuple(self.numbers(" "))
-        self.numbers(" ")
-        return Arm(denominator, form)
+        return Arm(denominator, form, tuple(self.numbers(" ")))
 
     def member(self):
         rule, place = self.number(), self.number(".")
@@ -221,7 +223,7 @@ class _Reader:
             node.by = "never"
         elif self.takes("empty"):
             node.by = "empty"
-            self.numbers(" ")
+            node.multipliers = self.numbers(" ")
         else:
             node.by, node.arm = "arm", self.arm()
         self.uses(node)
@@ -242,6 +244,11 @@ class _Reader:
         kept = self.some(self.numbers, "; ")
         points = [[_point(*it) for it in zip(rules, found)] for found in (moves, kept)]
         return Gap(rule, rules, shut, points[0], _point(rule, floor), points[1])
+
+
+def nodes(lemma):
+    """The nodes of a lemma as the checker numbers them: each behind those that it rests on."""
+    return [found for it in lemma.uses for found in nodes(it)] + [lemma]
 
 
 def _point(rule, numbers):

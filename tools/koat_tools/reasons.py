@@ -1,6 +1,6 @@
 """Why a bound is missing, in plain words, with the points that show it."""
 
-from . import programs
+from . import polynomials, programs
 
 QUESTIONS = {
     "rank": "the search for a ranking function of rule {rule}",
@@ -52,12 +52,25 @@ def _over(part, denominator):
 
 
 def _gap(report, entry, program):
-    return gap_words(entry.why.facts, entry.rule, program) + [ADVICE]
+    return gap_words(entry.why.facts, entry.rule, program) + _ignored(entry.why.facts["rules"], program) + [ADVICE]
 
 
-def gap_words(facts, rule, program):
-    """Why no function ranks a rule, by the facts of a gap: its rules, its shut places, its moves and its floor."""
-    return _no_function(rule, facts["rules"]) + _shut(facts["shut"]) + _moves(facts, rule, program)
+def _ignored(rules, program):
+    """The comparisons of these rules that the search doesn't look at."""
+    told = [f"`{it.text}` of rule {number}" for number in rules
+            for it in polynomials.comparisons(program.rule(number).guard) if it.degree > 1]
+    if not told:
+        return []
+    one = len(told) == 1
+    return [f"{', '.join(told)} {'has' if one else 'have'} degree 2 or more, and {'is' if one else 'are'} not looked "
+            "at: where a run ends by that, say it by a comparison of degree 1."]
+
+
+def gap_words(facts, rule, program, of_file=False):
+    """Why no function ranks a rule, by the facts of a gap: its rules, its shut places, its moves and its floor. A proof
+    file may shut places whose sizes are known."""
+    shut = [] if of_file else _shut(facts["shut"])
+    return _no_function(rule, facts["rules"]) + shut + _moves(facts, rule, program)
 
 
 ADVICE = ("Where no run gets there, a comparison of degree 1 is missing from the guard: add what holds of the "
@@ -89,8 +102,8 @@ def _moves(facts, rule, program):
     if not any(floor.parts):
         change = "together they change" if len(facts["rules"]) > 1 else "this changes"
         return [f"Consider {moves}: {change} nothing."]
-    return [f"Consider {moves}: this leads along {point(floor, program.rule(rule))}, where rule {rule} stays allowed "
-            "without end, so that what falls has no lower bound."]
+    return [f"Consider {moves}: this leads along {point(floor, program.rule(rule))}, where the comparisons of "
+            f"degree 1 of rule {rule} hold without end, so that what falls has no lower bound by them."]
 
 
 def _move(one, program):
@@ -137,7 +150,8 @@ def _bent(report, entry, program):
 
 
 def _untimed(report, entry, program):
-    return [f"It grows with each use of rule {entry.why.facts['rule']}, which has no time bound."]
+    return [f"Its bound is computed from how often rule {entry.why.facts['rule']} is used, and that rule has no time "
+            "bound. The value itself need not grow."]
 
 
 WORDS = {"no ranking function": _gap, "limit": _limit, "large": _large, "loose": _loose, "missing": _missing,

@@ -27,7 +27,7 @@ import re
 from dataclasses import dataclass, field
 from typing import List, Optional
 
-from . import bounds
+from . import bounds, growth
 
 
 class ReportError(ValueError):
@@ -256,7 +256,10 @@ def _fact_json(text):
 
 
 def _bound_json(text, bound):
-    return None if text is None else {"text": text, "tree": bounds.as_json(bound)}
+    """A bound with its O-class, n being the greatest of the inputs' absolute values."""
+    if text is None:
+        return None
+    return {"text": text, "class": growth.text(growth.growth(bound)), "tree": bounds.as_json(bound)}
 
 
 def _entry_json(entry):

@@ -51,6 +51,23 @@ def made(program, start, most, seed):
     return run
 
 
+def states(program, run, most):
+    """For each step of a run its rule, the symbol that it leads to and the values there; none where one isn't possible."""
+    rules, values, found = {it.number: it for it in map(_Rule, program.rules)}, list(run.start), []
+    for number, free in run.steps[:most]:
+        values = rules[number].after(values, free) if number in rules else None
+        if values is None:
+            return None
+        found.append((number, rules[number].target, values))
+    return found
+
+
+def run_of(data):
+    """The run of a run file that koat took."""
+    lines = [it.split() for it in data.decode("latin-1").splitlines()]
+    return Run([int(it) for it in lines[1][1:]], [(int(it[1]), [int(one) for one in it[2:]]) for it in lines[2:-1]])
+
+
 def _step(draws, rules, symbol, values):
     """A rule that can be used here, its free values and the values behind it; none where no draw gives one."""
     leaving = [rule for rule in rules if rule.source == symbol]
@@ -154,7 +171,7 @@ class ReplayError(ValueError):
 
 @dataclass
 class Replay:
-    """What `koat replay` writes: of each label of a bound the number of the run, and the value of the bound beside it."""
+    """What `koat replay` writes: of each label of a bound the number of the run, and the bound's value beside it."""
 
     steps: int
     beside: Dict[str, Tuple[int, str]]
@@ -173,8 +190,3 @@ def read(said, labels):
     if [it.group(1) for it in found] != labels:
         raise ReplayError("no line for each bound, in order")
     return Replay(int(first.group(1)), {it.group(1): (int(it.group(2)), it.group(3)) for it in found})
-
-
-def start_of(data):
-    """The start values of a run file that koat took."""
-    return [int(it) for it in data.split(b"\n", 2)[1].split()[1:]]

@@ -11,33 +11,45 @@ class FactsError(ValueError):
     """Lines that aren't the facts of the lemmas."""
 
 
-def lines(program, proof, facts):
-    """The sentences of a proof with the lines of its facts in order; without facts where it isn't accepted."""
+def lines(program, proof, facts, refused=None):
+    """The sentences of a proof with the lines of its facts in order; without facts where it isn't accepted. `refused`
+    is the lemma or the gap that the checker names then, such as `lemma 2`."""
     left, stated, told = list(facts or []), [], []
     for number, node in enumerate(proof.lemmas, 1):
-        stated.append(_places(program, node, stated))
+        stated.append(places(program, node, stated))
         if len(left) < len(stated[-1]) and facts is not None:
             raise FactsError("there are fewer facts than the lemmas state")
         own, left = (left[:len(stated[-1])], left[len(stated[-1]):]) if facts is not None else (stated[-1], [])
-        told.append(f"lemma {number}: {_joined([fact(it) for it in own])}")
-        told += [f"  {it}" for it in _shown(program, node)]
+        told.append(f"lemma {number}: {_joined([fact(it) for it in own])}" + _mark(f"lemma {number}", refused))
+        told += [f"  {it}" for it in shown(program, node)]
     for number, gap in enumerate(proof.gaps, 1):
-        told.append(f"gap {number}: rule {gap.rule} is ranked by no affine function")
+        told.append(f"gap {number}: {_gap(gap)}" + _mark(f"gap {number}", refused))
         facts_of_gap = {"rules": gap.rules, "shut": gap.shut, "moves": gap.moves, "floor": gap.floor}
-        told += [f"  {it}" for it in reasons.gap_words(facts_of_gap, gap.rule, program)]
+        told += [f"  {it}" for it in reasons.gap_words(facts_of_gap, gap.rule, program, of_file=True)]
     return told
 
 
-def _places(program, node, stated):
+def _mark(name, refused):
+    return "   <-- not accepted" if name == refused else ""
+
+
+def _gap(gap):
+    """What a gap says: the rule, its set, and the places that functions may not use."""
+    shut = _joined([f"argument {it['place']} of {it['symbol']}" for it in gap.shut])
+    without = f" that leaves out {shut}" if gap.shut else ""
+    return f"rule {gap.rule} is ranked by no affine function over {_rules(gap.rules)}{without}"
+
+
+def places(program, node, stated):
     """What a node states, in order, as the beginnings of lines of facts."""
     if node.kind == "cite":
         return stated[node.number - 1]
     if node.kind == "start":
         return ["time 0", *(f"size 0.{place}" for place in range(1, len(program.inputs) + 1))]
     if node.kind == "weaken":
-        return _places(program, node.uses[0], stated)
+        return places(program, node.uses[0], stated)
     if node.kind == "never":
-        found = FACT.match(_places(program, node.uses[0], stated)[0] + ": 0")
+        found = FACT.match(places(program, node.uses[0], stated)[0] + ": 0")
         rule = int(found.group(2))
         return [f"size {rule}.{place}" for place in range(1, len(program.rule(rule).updates) + 1)]
     if node.members:
@@ -86,19 +98,19 @@ def form_text(form, names, denominator=1):
     return told if denominator == 1 else f"({told})/{denominator}"
 
 
-def _names(program, symbol, count):
+def names(program, symbol, count):
     """The names of a symbol's arguments: those of the first rule that leaves it, else x1, x2 and so on."""
     found = (rule.left_names for rule in program.rules if rule.source.text == symbol)
     return next(found, [f"x{number}" for number in range(1, count + 1)])
 
 
-def _shown(program, node):
+def shown(program, node):
     """What shows a node, and then what shows those below it that are neither cited nor the start."""
     told = SHOWN[node.kind](program, node)
     below = [it for it in node.uses if it.kind not in ("cite", "start")]
     for it in below:
         told.append(f"By {NOUNS[it.kind]}, in which:")
-        told += [f"  {line}" for line in _shown(program, it)]
+        told += [f"  {line}" for line in shown(program, it)]
     if node.uses and not (below and len(node.uses) == 1):
         told.append(f"This rests on {_rests(node)}.")
     return told
@@ -120,7 +132,7 @@ def _of_rank(program, node):
     fall = f"{node.denominator}" if node.denominator > 1 else "1"
     told = [f"A function falls by at least {fall} with each use of rule {node.rule}, and is at least {fall} before it"
             + (f"; it never rises by {_rules(others, 'or')}." if others else ".")]
-    told.append("It is " + _joined([f"{form_text(form, _names(program, symbol, len(form) - 1))} at {symbol}"
+    told.append("It is " + _joined([f"{form_text(form, names(program, symbol, len(form) - 1))} at {symbol}"
                                     for symbol, form in node.forms]) + ".")
     sources = {program.rule(it).source.text for it in node.rules}
     entries = [it.number for it in program.rules if it.number not in node.rules and it.target.text in sources]

@@ -1,6 +1,6 @@
 """As much of JSON Schema as `docs/report.schema.json` uses."""
 
-TYPES = {"object": dict, "array": list, "string": str, "integer": int, "null": type(None)}
+TYPES = {"object": dict, "array": list, "string": str, "integer": int, "number": (int, float), "null": type(None)}
 
 
 def faults(root, schema, told, where="$"):

@@ -54,9 +54,11 @@ class Bounds(unittest.TestCase):
         self.assertEqual([bounds.value(power, {"A": it}) for it in (20, 126, 127)], [2**20, 2**126, bounds.CAP])
 
 
-CLASSES = [("7", "O(1)", "O(1)"), ("A", "O(n)", "O(n^1)"), ("2*A^2*B + A", "O(n^3)", "O(n^3)"),
-           ("max(A, B^2)*(A + 1)", "O(n^3)", "O(n^3)"), ("2*2^A*A", "2^O(n)", "O(EXP)"),
-           ("3^(A^2) + 2^B", "2^O(n^2)", "O(EXP)"), ("2^(2^A)", "2^2^O(n)", "?"), ("2^200", "O(1)", "O(1)")]
+CLASSES = [("7", "O(1)", "WORST_CASE(?, O(1))"), ("A", "O(n)", "WORST_CASE(?, O(n^1))"),
+           ("2*A^2*B + A", "O(n^3)", "WORST_CASE(?, O(n^3))"),
+           ("max(A, B^2)*(A + 1)", "O(n^3)", "WORST_CASE(?, O(n^3))"), ("2*2^A*A", "2^O(n)", "WORST_CASE(?, O(EXP))"),
+           ("3^(A^2) + 2^B", "2^O(n^2)", "WORST_CASE(?, O(EXP))"), ("2^(2^A)", "2^2^O(n)", "MAYBE"),
+           ("2^200", "O(1)", "WORST_CASE(?, O(1))")]
 
 
 class Classes(unittest.TestCase):

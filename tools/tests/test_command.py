@@ -10,6 +10,7 @@ import unittest
 from unittest import mock
 
 import examples
+import schema
 from koat_tools import command
 
 STAND_IN = os.path.join(examples.HERE, "stand_in")
@@ -62,15 +63,32 @@ class Commands(unittest.TestCase):
 
     def test_classes(self):
         _, out, _ = shown("class", examples.path("doubling"))
-        self.assertEqual(out.splitlines()[3:5] + out.splitlines()[-1:],
-                         ["time 4: 2^O(n)", "total: 2^O(n)", "WORST_CASE(?, O(EXP))"])
-        self.assertEqual(shown("class", examples.path("triangle"))[1].splitlines()[-1], "WORST_CASE(?, O(n^2))")
-        self.assertEqual(shown("class", examples.path("stay"))[1].splitlines()[-1], "WORST_CASE(?, ?)")
+        self.assertEqual(out.splitlines()[:1] + out.splitlines()[4:6],
+                         ["WORST_CASE(?, O(EXP))", "time 4: 2^O(n)", "total: 2^O(n)"])
+        self.assertEqual(shown("class", examples.path("triangle"))[1].splitlines()[0], "WORST_CASE(?, O(n^2))")
+        self.assertEqual(shown("class", examples.path("stay"))[1].splitlines()[0], "MAYBE")
+        status, out, error = shown("class", os.path.join(examples.HERE, "examples.py"))
+        self.assertEqual((status, out, error.count("\n")), (6, "MAYBE\n", 1))
 
     def test_json(self):
         _, out, _ = shown("json", examples.path("gcd"))
         told = json.loads(out)
         self.assertEqual((told["verdict"], told["inputs"], told["total"]["text"]), ("bounded", ["A", "B"], "A + B + 2"))
+        self.assertEqual((told["competition"], told["koat"]["version"], told["koat"]["is_proved"]),
+                         ("WORST_CASE(?, O(n^1))", "0.4.0", True))
+        second = told["rules"][1]
+        self.assertEqual((second["line"], second["source"], second["updates"], second["guard"]),
+                         (4, "loop", ["A - B", "B"], "A > B && B >= 1"))
+        self.assertEqual(told["times"][1]["bound"]["class"], "O(n)")
+
+    def test_json_of_a_refusal(self):
+        wanted = json.loads(examples.text("../docs/report.schema", ".json"))
+        status, out, _ = shown("json", os.path.join(examples.HERE, "examples.py"))
+        told = json.loads(out)
+        self.assertEqual((status, told["verdict"], told["competition"]), (6, "refused", "MAYBE"))
+        self.assertEqual((told["refusal"]["kind"], schema.faults(wanted, wanted, told)), ("Syntax", []))
+        _, out, _ = shown("json", examples.path("gcd"))
+        self.assertEqual(schema.faults(wanted, wanted, json.loads(out)), [])
 
     def test_explain(self):
         self.assertEqual(shown("explain", examples.path("gcd"))[:2], (0, "no bound is missing\n"))
@@ -111,7 +129,7 @@ class Faults(unittest.TestCase):
         self.fault(3, "can't be read", "json", examples.HERE)
 
     def test_refused(self):
-        self.fault(6, "program refused at [0-9]+: Syntax", "json", os.path.join(examples.HERE, "examples.py"))
+        self.fault(6, "program refused at [0-9]+: Syntax", "page", os.path.join(examples.HERE, "examples.py"))
 
     def test_koat(self):
         self.fault(10, "can't be run", "json", examples.path("gcd"), koat="/no/such/koat")

@@ -1,6 +1,10 @@
+import os
+import sys
+import time
 import unittest
 
 import examples
+import mistakes
 import refusals
 from koat_tools import analyser, explain, hints, programs, reports
 
@@ -17,6 +21,24 @@ class Refusals(unittest.TestCase):
             hint = hints.hint(text.encode(), at, kind)
             if not hint.startswith(wanted):
                 differ.append((text, at, hint))
+        self.assertEqual(differ, [])
+
+    def test_mistakes_by_habit(self):
+        differ = []
+        for text, at, kind, wanted in [(it[0].encode(), *it[1:]) for it in mistakes.MISTAKES] + mistakes.FILES:
+            hint = hints.hint(text, at, kind)
+            if not hint.startswith(wanted):
+                differ.append((text, at, hint))
+        self.assertEqual(differ, [])
+        self.assertGreaterEqual(len(mistakes.MISTAKES), 100)
+
+    def test_the_tables_name_the_refusal_of_a_slow_reading(self):
+        sys.path.insert(0, os.path.join(examples.TOP, "bench"))
+        from slow_reading import Reading
+        rows = [(it[0].encode(), *it[1:3]) for it in mistakes.MISTAKES + refusals.REFUSALS]
+        rows += [it[:3] for it in mistakes.FILES]
+        differ = [(text, at, kind) for text, at, kind in rows
+                  if Reading(text).verdict() != f"program refused at {at}: {kind}"]
         self.assertEqual(differ, [])
 
     def test_beginnings_of_a_text_get_a_hint(self):
@@ -62,5 +84,16 @@ class Reasons(unittest.TestCase):
 
     def test_points_are_named(self):
         lines = explain.report_lines(answer_of("two_phases", examples.text("two_phases", ".koat")))
-        self.assertIn("  Consider rule 2 at X = 1, Y = 1: this leads along X +1, Y -1, where rule 2 stays allowed "
-                      "without end, so that what falls has no lower bound.", lines)
+        self.assertIn("  Consider rule 2 at X = 1, Y = 1: this leads along X +1, Y -1, where the "
+                      "comparisons of degree 1 of rule 2 hold without end, so that what falls has no lower bound by "
+                      "them.", lines)
+
+
+class Long(unittest.TestCase):
+    def test_hints_of_long_texts_come_soon(self):
+        begun = time.monotonic()
+        for text in (b"(" * 20000, b"[" * 20000, b"(RULES " + b"f(A) -> f(A) " * 2000 + b"f", b"(COMMENT " + b"(" * 20000,
+                     b"(RULES f(A) -> f(" + b"(A+" * 5000):
+            for at in (0, len(text) - 1, len(text)):
+                self.assertTrue(hints.hint(text, at, "Syntax"))
+        self.assertLess(time.monotonic() - begun, 60)

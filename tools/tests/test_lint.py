@@ -57,8 +57,19 @@ class Lint(unittest.TestCase):
 
     def test_large_constants(self):
         text = HEAD + "start(A) -> start(A) :|: A <= {})"
-        numbers = (2**29 - 1, 2**29, 2147483647, "0" * 5000 + "7", "0" * 5000)
-        self.assertEqual([len(found(text.format(it))) for it in numbers], [0, 1, 1, 0, 0])
+        numbers = (46340, 46341, 2**29 - 1, 2**29, 2147483647, "0" * 5000 + "7", "0" * 5000)
+        self.assertEqual([[it.is_slip for it in found(text.format(it))] for it in numbers],
+                         [[], [False], [False], [True], [True], [], []])
+
+    def test_numbers_that_left_the_range(self):
+        program = programs.read((HEAD + "start(A) -> start(A+1) :|: A <= 46341)").encode())
+        report = reports.read("unknown\ntime 1: unknown\ntotal: unknown\nwhy time 1: rank 1 range at pivot 5\n")
+        self.assertEqual([it.is_slip for it in lint.findings(program, report)], [True])
+
+    def test_comparisons_that_are_not_looked_at(self):
+        self.assertEqual(texts(HEAD + "start(A) -> start(A) :|: A*A < 9 && A*A - A*A < 1 && TRUE)"), [
+            (False, "rule 1: `A*A < 9` has degree 2, and koat's search looks at comparisons of degree 1 alone: its bounds "
+             "hold without this one, too")])
 
     def test_which_names_are_near(self):
         near = [("loop", "lop"), ("Count", "count"), ("Ar_0", "Ar0"), ("first", "fisrt"), ("search", "seerch")]

@@ -3,7 +3,7 @@ import tempfile
 import unittest
 
 import examples
-from koat_tools import programs, proofs, sentences
+from koat_tools import facts, programs, proofs, refusals, sentences
 from test_command import shown
 
 COUNTER = b"""(STARTTERM (FUNCTIONSYMBOLS l0))
@@ -75,8 +75,9 @@ class Proofs(unittest.TestCase):
 
     def test_gaps_are_told(self):
         told = sentences.lines(programs.read(COUNTER), proofs.read(text([], GAP)), [])
-        self.assertEqual(told[0], "gap 1: rule 2 is ranked by no affine function")
-        self.assertTrue(told[2].startswith("  The function may not use argument 1 of l1"))
+        self.assertEqual(told[0], "gap 1: rule 2 is ranked by no affine function over rule 2 that leaves out argument 1 of "
+                                  "l1")
+        self.assertEqual([it for it in told if "no size bound" in it], [])
 
     def test_without_facts_nothing_is_said_of_bounds(self):
         told = sentences.lines(programs.read(COUNTER), proofs.read(text([START, LOOP])), None)
@@ -104,5 +105,55 @@ class Proofs(unittest.TestCase):
             with open(path, "w", encoding="utf-8") as file:
                 file.write("koat-proof 1\nlemma empty 1 []\nend\n")
             status, out, _ = shown("proof", examples.path("gcd"), "--proof", path)
-        self.assertEqual((status, out.splitlines()[0]), (15, "lemma 1: rule 1 has a time"))
-        self.assertEqual(out.splitlines()[-1], "koat's checker does not accept it: no lemma 1 node 1: shape")
+        lines = out.splitlines()
+        self.assertEqual((status, lines[0]), (15, "lemma 1: rule 1 has a time   <-- not accepted"))
+        self.assertEqual(lines[2:], [
+            "koat's checker does not accept it: no lemma 1 node 1: shape",
+            "  Node 1 of lemma 1 is a guard that contradicts itself of rule 1.",
+            "  A list has a wrong length or doesn't ascend, or a number is out of range."])
+
+
+class Refusals(unittest.TestCase):
+    def said(self, line, *lemmas, gaps=()):
+        return refusals.lines(programs.read(COUNTER), proofs.read(text(lemmas, *gaps)), line)
+
+    def test_goals_and_what_is_left_over(self):
+        wrong = FALLS.replace("forms [l0 [2 1]; l1 [2 1]]", "forms [l0 [2 1]; l1 [1 1]]")
+        self.assertEqual(self.said("no lemma 1 node 2: move 2", wrong), [
+            "Node 2 of lemma 1 is a ranking function of rule 2.",
+            "Its goal is that the function falls by at least 3 with rule 2: `-2 >= 0`.",
+            "Its multipliers take none of the guard's rows.",
+            "Left over is `-2`, which should be a number of at least 0: it is below 0."])
+        self.assertEqual(self.said("no lemma 1 node 2: floor", FALLS.replace("floor [1]", "floor [1 ]"[:-2] + "]"))[1:], [
+            "Its goal is that the function is at least its denominator before the rule: `2*A - 2 >= 0`.",
+            "Its multipliers take 1 times `A - 1 >= 0`.",
+            "Left over is `A - 1`, which should be a number of at least 0: variables are left."])
+
+    def test_arms(self):
+        self.assertEqual(self.said("no lemma 1 node 2: arm 2.1 up", LOOP.replace("{cite 3}", "{start}"))[1], (
+            "Its goal is that argument 1 after rule 2 is at most the form: `1 >= 0`."))
+
+    def test_what_is_missing(self):
+        self.assertEqual(self.said("no lemma 1 node 2: missing time 4", FALLS)[1], (
+            "It needs the time of rule 4 over the rules 1, 2, since runs come by rule 4; no node that it rests on states "
+            "that."))
+        self.assertIn("4,096", self.said("no lemma 1 node 2: large 5000", FALLS)[1])
+
+    def test_lengths(self):
+        self.assertEqual(self.said("no lemma 1 node 2: shape", FALLS.replace("[[]; [0]]", "[[]; [0 0]]"))[2], (
+            "Rule 2 has 1 rows (`A - 1 >= 0`), and 2 multipliers are given."))
+
+    def test_gaps(self):
+        self.assertEqual(self.said("no gap 1: kept 2", gaps=[GAP])[0], (
+            "The gap is of rule 2 over the rules 2, without the places: l1.1."))
+
+
+class WithFacts(unittest.TestCase):
+    def test_facts_stand_in_guards(self):
+        program = programs.read(examples.text("flag", ".koat").encode())
+        said = facts.with_facts(program, ["work: -x2 >= 0", "work: x1 - x2 >= 1"]).decode()
+        rule = next(it for it in programs.read(said.encode()).rules if it.source.text == "work")
+        names = rule.left_names
+        self.assertTrue(rule.guard.endswith(f"-{names[1]} >= 0 && {names[0]} - {names[1]} >= 1"))
+        self.assertEqual([it.updates for it in programs.read(said.encode()).rules],
+                         [[one.strip() for one in it.updates] for it in program.rules])

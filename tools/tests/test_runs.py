@@ -19,7 +19,7 @@ class Runs(unittest.TestCase):
     def test_a_loop_is_counted_down(self):
         run = runs.made(programs.read(LOOP), [3], 1000, 0)
         wanted = "koat-run 1\nstart 3\nstep 1\nstep 2\nstep 2\nstep 2\nend\n"
-        self.assertEqual((runs.text(run), runs.start_of(wanted.encode())), (wanted, [3]))
+        self.assertEqual((runs.text(run), runs.run_of(wanted.encode())), (wanted, run))
         self.assertEqual(runs.text(runs.made(programs.read(LOOP), [3], 2, 0)).count("step"), 2)
 
     def test_rules_are_computed(self):
@@ -101,9 +101,9 @@ class Replays(unittest.TestCase):
                 file.write("koat-run 1\nstart 30 -12\nend\n")
             status, out, _ = shown("page", examples.path("gcd"), "--without-picture", "--run", run, koat=koat)
         self.assertEqual(status, 0)
-        self.assertEqual(re.findall(r'<td class="counted">([^<]*)</td>', out)[:4], ["5", "1", "1,000", "2,000"])
+        self.assertEqual(re.findall(r'<td class="counted"[^>]*>([^<]*)</td>', out)[:4], ["5", "1", "1,000", "2,000"])
         self.assertEqual(re.findall(r'type="number" step="1" value="(-?\d+)"', out), ["30", "-12"])
-        self.assertEqual(out.count("<td>in the run</td>"), 5)
+        self.assertEqual(out.count('<th scope="col">in the run</th>'), 9)
         self.assertNotIn("in the run", shown("page", examples.path("gcd"), "--without-picture")[1].split("<body>")[1])
 
     def test_runs_that_are_refused(self):

@@ -1,17 +1,17 @@
 //! Times and sizes of programs that were worked out by hand, with the numbers of their lemmas.
 
 use bound_expr::Bound;
+use cert_types::{LimitCause, LimitHit, Question};
 use its_reader::read;
 use model::Memory;
 use outcome::{Outcome, SizeEntry, Stored, TimeEntry};
-use proof_tree::{Question, Trip, TripCause};
 use std::alloc::Global;
 use std::test::Fail;
 use time_bounds::analyse;
 
 const PIVOTS: u32 = 10_000;
 
-// What is found of a program over A and B with these rules, from l0.
+// The analysis of a program over A and B with these rules, from l0.
 fn found(alloc: Global, rules: &[u8], pivots: u32) -> Result<Outcome, Fail> {
     let mut text = b"(STARTTERM (FUNCTIONSYMBOLS l0))(RULES ".to_vec(alloc)?;
     text.extend_from_slice(rules)?;
@@ -98,7 +98,7 @@ fn each_part_of_a_function_is_rounded_up(rt: HostRuntime) -> Result<(), Fail> {
     Ok(())
 }
 
-// Of a loop that doesn't fall a gap is told, and of one that passes a limit the trip.
+// A loop that doesn't fall gets a gap, and one that exceeds a limit the trip.
 #[test]
 fn missing_times_have_reasons(rt: HostRuntime) -> Result<(), Fail> {
     let alloc = rt.alloc();
@@ -112,9 +112,9 @@ fn missing_times_have_reasons(rt: HostRuntime) -> Result<(), Fail> {
     assert_eq!(rt; whole.total, None);
     let short = found(alloc, rules, 0)?;
     let tripped = |rule: u32| {
-        TimeEntry::Tripped(Trip {
+        TimeEntry::OutOfLimits(LimitHit {
             question: Question::Rank { rule },
-            cause: TripCause::Budget { pivots: 0 },
+            cause: LimitCause::Budget { pivots: 0 },
         })
     };
     assert_eq!(rt; short.times, vec![in alloc; tripped(1), tripped(2)]?);

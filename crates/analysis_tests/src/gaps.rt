@@ -1,9 +1,9 @@
 //! The first faults of gaps that were made by hand.
 
 use crate::programs::{all_rows, program};
+use cert_types::{Gap, GapFault};
 use farkas_cert::Scaled;
 use gap_checks::gap_fault;
-use proof_tree::{Gap, GapFault};
 use std::alloc::Global;
 use std::test::Fail;
 
@@ -397,11 +397,11 @@ fn gap(alloc: Global, line: &Line) -> Result<Gap, Fail> {
 // The lines whose first fault is another one, by their positions.
 fn others(alloc: Global, rules: &str, lines: &[Line]) -> Result<Vec<usize>, Fail> {
     let p = program(alloc, rules)?;
-    let preps = all_rows(alloc, &p)?;
+    let prepared_rules = all_rows(alloc, &p)?;
     let mut found = Vec::new(alloc);
     for i in 0..lines.len() {
         let g = gap(alloc, &lines[i])?;
-        if gap_fault(&p, &preps, &g) != lines[i].5 {
+        if gap_fault(&p, &prepared_rules, &g) != lines[i].5 {
             found.push(i)?;
         }
     }

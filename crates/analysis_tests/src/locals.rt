@@ -7,13 +7,13 @@ ghost use Rattle.rank_search.specs.rule_questions.EmptyAnswers.{IsPrepared, Says
 
 use crate::places::{PLACES, TRIPS};
 use crate::programs::{all_rows, program};
+use cert_types::{GuardFeasibility, LimitCause, LimitHit, Question, ResultVariable, SideBound};
 use guard_prep::RuleRows;
 use its_model::Program;
 use local_size::{LocalAnswer, local};
 use model::Memory;
-use outcome::Loose;
-use proof_tree::{Arm, EmptyAnswer, Question, Spot, Trip, TripCause};
-use rank_search::find_empty;
+use outcome::UnboundedSide;
+use rank_search::guard_feasibility;
 use std::alloc::Global;
 use std::test::Fail;
 
@@ -23,59 +23,71 @@ const PIVOTS: u32 = 10_000;
 fn answer(
     alloc: Global,
     rules: &str,
-    spot: Spot,
+    result_variable: ResultVariable,
     pivots: u32,
-    known: Option<Trip>,
+    known: Option<LimitHit>,
 ) -> Result<String, Fail> {
     let p = program(alloc, rules)?;
-    Ok(answer_in(alloc, &p, spot, pivots, known)?)
+    Ok(answer_in(alloc, &p, result_variable, pivots, known)?)
 }
 
 // The answer for a place of a rule of a program.
 fn answer_in(
     alloc: Global,
     p: &Program,
-    spot: Spot,
+    result_variable: ResultVariable,
     pivots: u32,
-    known: Option<Trip>,
+    known: Option<LimitHit>,
 ) -> Result<String, Memory>
     requires { IsValid (program_of p.now) }
 {
-    let preps = all_rows(alloc, p)?;
-    answer_by(alloc, &preps, spot, pivots, known)
+    let prepared_rules = all_rows(alloc, p)?;
+    answer_by(alloc, &prepared_rules, result_variable, pivots, known)
 }
 
 // The answer for a place of a rule with these rows.
 fn answer_by(
     alloc: Global,
-    preps: &[RuleRows],
-    spot: Spot,
+    prepared_rules: &[RuleRows],
+    result_variable: ResultVariable,
     pivots: u32,
-    known: Option<Trip>,
+    known: Option<LimitHit>,
 ) -> Result<String, Memory>
-    requires { All IsPrepared preps.now }
+    requires { All IsPrepared prepared_rules.now }
 {
-    if spot.rule == 0 {
+    if result_variable.rule == 0 {
         return String::from_str(alloc, "no rule");
     }
-    let wanted = spot.rule as usize - 1;
-    if wanted >= preps.len() {
+    let wanted = result_variable.rule as usize - 1;
+    if wanted >= prepared_rules.len() {
         return String::from_str(alloc, "no rule");
     }
-    let prep = &preps[wanted];
+    let prepared_rule = &prepared_rules[wanted];
     match known {
-        Some(trip) => asked(alloc, prep, spot, pivots, &EmptyAnswer::Tripped(trip)),
-        None => match find_empty(alloc, prep, spot.rule, pivots)? {
-            EmptyAnswer::Empty(_) => String::from_str(alloc, "empty"),
-            EmptyAnswer::Point(point) => asked(
+        Some(limit_hit) => asked(
+            alloc,
+            prepared_rule,
+            result_variable,
+            pivots,
+            &GuardFeasibility::OutOfLimits(limit_hit),
+        ),
+        None => match guard_feasibility(alloc, prepared_rule, result_variable.rule, pivots)? {
+            GuardFeasibility::Empty(_) => String::from_str(alloc, "empty"),
+            GuardFeasibility::Point(point) => asked(
                 alloc,
-                prep,
-                spot,
+                prepared_rule,
+                result_variable,
                 pivots,
-                &EmptyAnswer::Point(point),
+                &GuardFeasibility::Point(point),
             ),
-            EmptyAnswer::Tripped(trip) => {
-                asked(alloc, prep, spot, pivots, &EmptyAnswer::Tripped(trip))
+            GuardFeasibility::OutOfLimits(limit_hit) => {
+                asked(
+                    alloc,
+                    prepared_rule,
+                    result_variable,
+                    pivots,
+                    &GuardFeasibility::OutOfLimits(limit_hit),
+                )
             }
         },
     }
@@ -84,21 +96,24 @@ fn answer_by(
 // The answer for a place, as text.
 fn asked(
     alloc: Global,
-    prep: &RuleRows,
-    spot: Spot,
+    prepared_rule: &RuleRows,
+    result_variable: ResultVariable,
     pivots: u32,
-    empty: &EmptyAnswer,
+    empty: &GuardFeasibility,
 ) -> Result<String, Memory>
-    requires prepared { IsPrepared prep.now }
+    requires prepared { IsPrepared prepared_rule.now }
     requires may_run { ¬ SaysEmpty empty.now }
 {
-    if spot.place == 0 {
+    if result_variable.place == 0 {
         return String::from_str(alloc, "no place");
     }
-    if spot.place as usize > prep.news.len() {
+    if result_variable.place as usize > prepared_rule.new_values.len() {
         return String::from_str(alloc, "no place");
     }
-    shown(alloc, &local(alloc, prep, spot, empty, pivots)?)
+    shown(
+        alloc,
+        &local(alloc, prepared_rule, result_variable, empty, pivots)?,
+    )
 }
 
 // An answer as text.
@@ -107,20 +122,20 @@ fn shown(alloc: Global, answer: &LocalAnswer) -> Result<String, Memory> {
     match answer {
         LocalAnswer::Bound(bound) => {
             text.push_str("up ")?;
-            push_arm(alloc, &mut text, &bound.up)?;
+            push_side_bound(alloc, &mut text, &bound.up)?;
             text.push_str(" low ")?;
-            push_arm(alloc, &mut text, &bound.low)?;
+            push_side_bound(alloc, &mut text, &bound.low)?;
         }
-        LocalAnswer::Loose(loose) => push_loose(alloc, &mut text, loose)?,
-        LocalAnswer::Tripped(trip) => push_trip(alloc, &mut text, trip)?,
+        LocalAnswer::UnboundedSide(unbounded) => push_unbounded(alloc, &mut text, unbounded)?,
+        LocalAnswer::OutOfLimits(limit_hit) => push_limit_hit(alloc, &mut text, limit_hit)?,
     }
     Ok(text)
 }
 
-fn push_arm(alloc: Global, text: &mut String, arm: &Arm) -> Result<(), Memory> {
-    match arm {
-        Arm::Poly => text.push_str("poly"),
-        Arm::Linear {
+fn push_side_bound(alloc: Global, text: &mut String, side_bound: &SideBound) -> Result<(), Memory> {
+    match side_bound {
+        SideBound::Poly => text.push_str("poly"),
+        SideBound::Linear {
             den,
             coefs,
             constant,
@@ -149,57 +164,68 @@ fn push_numbers(alloc: Global, text: &mut String, numbers: &[i64]) -> Result<(),
     text.push_str(")")
 }
 
-fn push_loose(alloc: Global, text: &mut String, loose: &Loose) -> Result<(), Memory> {
-    text.push_str(if loose.up { "loose up " } else { "loose low " })?;
-    push_numbers(alloc, text, &loose.ray)?;
+fn push_unbounded(
+    alloc: Global,
+    text: &mut String,
+    unbounded: &UnboundedSide,
+) -> Result<(), Memory> {
+    text.push_str(if unbounded.up {
+        "loose up "
+    } else {
+        "loose low "
+    })?;
+    push_numbers(alloc, text, &unbounded.ray)?;
     text.push_str(" ")?;
-    push_numbers(alloc, text, &loose.kept.parts)?;
-    let den = loose.kept.den;
+    push_numbers(alloc, text, &unbounded.kept.parts)?;
+    let den = unbounded.kept.den;
     text.push_str(&format!(in alloc; " / {den}")?)
 }
 
-fn push_trip(alloc: Global, text: &mut String, trip: &Trip) -> Result<(), Memory> {
-    match trip.question {
+fn push_limit_hit(alloc: Global, text: &mut String, limit_hit: &LimitHit) -> Result<(), Memory> {
+    match limit_hit.question {
         Question::Empty { rule } => text.push_str(&format!(in alloc; "empty {rule} ")?)?,
         Question::Rank { rule } => text.push_str(&format!(in alloc; "rank {rule} ")?)?,
         Question::Local { rule, place } => {
             text.push_str(&format!(in alloc; "local {rule}.{place} ")?)?;
         }
+        Question::Cost { rule } => text.push_str(&format!(in alloc; "cost {rule} ")?)?,
     }
-    match trip.cause {
-        TripCause::Range { pivot } => text.push_str(&format!(in alloc; "range at pivot {pivot}")?),
-        TripCause::Budget { pivots } => {
+    match limit_hit.cause {
+        LimitCause::Range { pivot } => text.push_str(&format!(in alloc; "range at pivot {pivot}")?),
+        LimitCause::Budget { pivots } => {
             text.push_str(&format!(in alloc; "budget after {pivots} pivots")?)
         }
-        TripCause::Wide { entries } => text.push_str(&format!(in alloc; "wide {entries} entries")?),
-        TripCause::Scale => text.push_str("scale"),
+        LimitCause::Wide { entries } => text.push_str(&format!(in alloc;
+            "wide {entries} entries"
+        )?),
+        LimitCause::Scale => text.push_str("scale"),
     }
 }
 
 #[test]
-fn places_have_their_first_arms_or_are_loose(rt: HostRuntime) -> Result<(), Fail> {
+fn places_have_their_first_side_bounds_or_are_unbounded(rt: HostRuntime) -> Result<(), Fail> {
     let alloc = rt.alloc();
     for (what, rules, rule, place, want) in PLACES {
-        let spot = Spot {
+        let result_variable = ResultVariable {
             rule: *rule,
             place: *place,
         };
-        let found = answer(alloc, rules, spot, PIVOTS, None)?;
+        let found = answer(alloc, rules, result_variable, PIVOTS, None)?;
         assert_eq!(rt; found.as_str(), *want, "at {what}");
     }
     Ok(())
 }
 
-// Few pivots are told of where they don't do.
+// Too few pivots are reported.
 #[test]
 fn a_place_trips_where_a_question_does(rt: HostRuntime) -> Result<(), Fail> {
     let alloc = rt.alloc();
     for (rules, place, pivots, want) in TRIPS {
-        let spot = Spot {
+        let result_variable = ResultVariable {
             rule: 1,
             place: *place,
         };
-        let found = answer(alloc, rules, spot, *pivots, None)?;
+        let found = answer(alloc, rules, result_variable, *pivots, None)?;
         assert_eq!(rt; found.as_str(), *want, "at {rules}");
     }
     Ok(())
@@ -208,7 +234,7 @@ fn a_place_trips_where_a_question_does(rt: HostRuntime) -> Result<(), Fail> {
 // A place without a form on some side is tripped where the question whether the rows have a point was, and one with
 // arms isn't.
 #[test]
-fn the_trip_of_the_emptiness_question_counts_where_no_form_is_found(
+fn the_limit_hit_of_the_emptiness_question_counts_where_no_form_is_found(
     rt: HostRuntime,
 ) -> Result<(), Fail> {
     let alloc = rt.alloc();
@@ -224,12 +250,12 @@ fn the_trip_of_the_emptiness_question_counts_where_no_form_is_found(
         ),
     ];
     for (rules, want) in table {
-        let tripped = Trip {
+        let tripped = LimitHit {
             question: Question::Empty { rule: 1 },
-            cause: TripCause::Budget { pivots: 3 },
+            cause: LimitCause::Budget { pivots: 3 },
         };
-        let spot = Spot { rule: 1, place: 1 };
-        let found = answer(alloc, rules, spot, PIVOTS, Some(tripped))?;
+        let result_variable = ResultVariable { rule: 1, place: 1 };
+        let found = answer(alloc, rules, result_variable, PIVOTS, Some(tripped))?;
         assert_eq!(rt; found.as_str(), want, "at {rules}");
     }
     Ok(())

@@ -6,7 +6,7 @@ ghost use Rattle.model.specs.Programs.{Program as PlainProgram};
 ghost use Rattle.its_graph.specs.Graphs.{IsGraphOf};
 ghost use Rattle.its_model.specs.Valid.{IsValid};
 ghost use Rattle.its_model.specs.Views.{program_of};
-ghost use Rattle.proof_tree.specs.Composing.{AreRowsOf};
+ghost use Rattle.cert_types.specs.Composing.{AreRowsOf};
 ghost use Rattle.rank_search.specs.rule_questions.EmptyAnswers.{IsPrepared};
 
 use crate::members::locals_after;
@@ -21,20 +21,20 @@ use std::alloc::Global;
 use std::process::Abort;
 use std::test::Fail;
 
-// What is answered of each place of each rule, in order.
+// The answer for each place of each rule, in order.
 fn all_locals(
     rt: &impl Abort,
     alloc: Global,
-    preps: &[RuleRows],
+    prepared_rules: &[RuleRows],
 ) -> Result<Vec<Vec<LocalAnswer>>, Memory>
-    requires { All IsPrepared preps.now }
+    requires { All IsPrepared prepared_rules.now }
     ensures { IfOk result (λ locals. map (λ l. length l.items) locals.items
-        ≡ map (λ m. length m.news.items) preps.now) }
+        ≡ map (λ m. length m.new_values.items) prepared_rules.now) }
 {
-    assert!(rt; preps.len() <= 32);
+    assert!(rt; prepared_rules.len() <= 32);
     let mut locals = Vec::new(alloc);
-    for (position, prep) in preps.iter().enumerate() {
-        locals.push(locals_after(rt, alloc, prep, position as u32 + 1)?)?;
+    for (position, prepared_rule) in prepared_rules.iter().enumerate() {
+        locals.push(locals_after(rt, alloc, prepared_rule, position as u32 + 1)?)?;
     }
     Ok(locals)
 }
@@ -44,14 +44,14 @@ fn components_by(
     rt: &impl Abort,
     alloc: Global,
     g: &Graph,
-    preps: &[RuleRows],
+    prepared_rules: &[RuleRows],
     live: &[bool],
 ) -> Result<Vec<Component>, Memory>
-    requires { (p : PlainProgram) × (IsValid p × (IsGraphOf g.now p × (AreRowsOf preps.now p
+    requires { (p : PlainProgram) × (IsValid p × (IsGraphOf g.now p × (AreRowsOf prepared_rules.now p
         × (length live.now ≡ length p.rules)))) }
 {
-    let locals = all_locals(rt, alloc, preps)?;
-    components(alloc, g, preps, &locals, live)
+    let locals = all_locals(rt, alloc, prepared_rules)?;
+    components(alloc, g, prepared_rules, &locals, live)
 }
 
 // The components of a program of which these rules are live.
@@ -65,16 +65,19 @@ fn components_of(
 {
     assert!(rt; live.len() == p.rules.len());
     let graph = Graph::new(alloc, p)?;
-    let preps = all_rows(alloc, p)?;
-    components_by(rt, alloc, &graph, &preps, live)
+    let prepared_rules = all_rows(alloc, p)?;
+    components_by(rt, alloc, &graph, &prepared_rules, live)
 }
 
 // Components as text: the members of each, and whether it loops.
 fn shown(alloc: Global, found: &[Component]) -> Result<String, Memory> {
     let mut text = String::new(alloc);
     for component in found {
-        for spot in &component.members {
-            text.push_str(&format!(in alloc; "{}.{} ", spot.rule, spot.place)?)?;
+        for result_variable in &component.members {
+            text.push_str(&format!(in alloc;
+                "{}.{} ",
+                result_variable.rule, result_variable.place
+            )?)?;
         }
         text.push_str(if component.looping { "loops; " } else { "; " })?;
     }

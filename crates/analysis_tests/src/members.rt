@@ -4,78 +4,97 @@ ghost use Rattle.std.specs.Prelude.{◌≡◌, true, length, map, IfOk, IfSome, 
 ghost use Rattle.std.specs.List.{All};
 ghost use Rattle.model.specs.Programs.{Program as PlainProgram};
 ghost use Rattle.its_model.specs.Valid.{IsValid};
-ghost use Rattle.proof_tree.specs.proof_nodes.AcceptsSizes.{AreAscending, ComesBefore};
-ghost use Rattle.proof_tree.specs.Composing.{AreRowsOf};
-ghost use Rattle.proof_tree.specs.Views.{member_of, spot_of};
+ghost use Rattle.cert_types.specs.cert_rules.AcceptsSizes.{AreAscending, ComesBefore};
+ghost use Rattle.cert_types.specs.Composing.{AreRowsOf};
+ghost use Rattle.cert_types.specs.Views.{member_of, result_variable_of};
 ghost use Rattle.rank_search.specs.rule_questions.EmptyAnswers.{IsPrepared, SaysEmpty};
 ghost use Rattle.time_bounds.specs.Candidates.{IsAccepted};
 
+use cert_types::{GuardFeasibility, LimitCause, LimitHit, Member, Question, ResultVariable};
 use guard_prep::RuleRows;
 use local_size::{LocalAnswer, local};
 use model::Memory;
-use proof_tree::{EmptyAnswer, Member, Question, Spot, Trip, TripCause};
 use std::alloc::Global;
 use std::process::Abort;
 
 const PIVOTS: u32 = 10_000;
 
 // That it isn't known whether the rows of a rule have a point. No arm depends on it.
-fn unknown(rule: u32) -> EmptyAnswer
+fn unknown(rule: u32) -> GuardFeasibility
     ensures { ¬ SaysEmpty result }
 {
-    EmptyAnswer::Tripped(Trip {
+    GuardFeasibility::OutOfLimits(LimitHit {
         question: Question::Empty { rule },
-        cause: TripCause::Budget { pivots: 0 },
+        cause: LimitCause::Budget { pivots: 0 },
     })
 }
 
-// What is answered of each place of a rule.
+// The answer for each place of a rule.
 pub(crate) fn locals_after(
     rt: &impl Abort,
     alloc: Global,
-    prep: &RuleRows,
+    prepared_rule: &RuleRows,
     rule: u32,
 ) -> Result<Vec<LocalAnswer>, Memory>
-    requires { IsPrepared prep.now }
-    ensures { IfOk result (λ answers. length answers.items ≡ length prep.now.news.items) }
+    requires { IsPrepared prepared_rule.now }
+    ensures { IfOk result (λ answers. length answers.items ≡ length prepared_rule.now.new_values.items) }
 {
-    let places = prep.news.len();
+    let places = prepared_rule.new_values.len();
     assert!(rt; places <= 32);
     let mut answers = Vec::new(alloc);
     for position in 0..places as u32 {
-        let spot = Spot {
+        let result_variable = ResultVariable {
             rule,
             place: position + 1,
         };
-        answers.push(local(alloc, prep, spot, &unknown(rule), PIVOTS)?)?;
+        answers.push(local(
+            alloc,
+            prepared_rule,
+            result_variable,
+            &unknown(rule),
+            PIVOTS,
+        )?)?;
     }
     Ok(answers)
 }
 
 // A place of a rule with its local bound, where it has one.
-fn member_at(alloc: Global, preps: &[RuleRows], spot: Spot) -> Result<Option<Member>, Memory>
-    requires { (p : PlainProgram) × (IsValid p × AreRowsOf preps.now p) }
-    ensures { IfOk result (λ o. (p : PlainProgram) → IsValid p → AreRowsOf preps.now p
+fn member_at(
+    alloc: Global,
+    prepared_rules: &[RuleRows],
+    result_variable: ResultVariable,
+) -> Result<Option<Member>, Memory>
+    requires { (p : PlainProgram) × (IsValid p × AreRowsOf prepared_rules.now p) }
+    ensures { IfOk result (λ o. (p : PlainProgram) → IsValid p → AreRowsOf prepared_rules.now p
         → IfSome o (λ m. IsAccepted p (member_of m))) }
 {
-    if spot.rule == 0 {
+    if result_variable.rule == 0 {
         return Ok(None);
     }
-    let wanted = spot.rule as usize - 1;
-    if wanted >= preps.len() {
+    let wanted = result_variable.rule as usize - 1;
+    if wanted >= prepared_rules.len() {
         return Ok(None);
     }
-    let prep = &preps[wanted];
-    if spot.place == 0 {
+    let prepared_rule = &prepared_rules[wanted];
+    if result_variable.place == 0 {
         return Ok(None);
     }
-    if spot.place as usize > prep.news.len() {
+    if result_variable.place as usize > prepared_rule.new_values.len() {
         return Ok(None);
     }
-    match local(alloc, prep, spot, &unknown(spot.rule), PIVOTS)? {
-        LocalAnswer::Bound(local) => Ok(Some(Member { spot, local })),
-        LocalAnswer::Loose(_) => Ok(None),
-        LocalAnswer::Tripped(_) => Ok(None),
+    match local(
+        alloc,
+        prepared_rule,
+        result_variable,
+        &unknown(result_variable.rule),
+        PIVOTS,
+    )? {
+        LocalAnswer::Bound(local) => Ok(Some(Member {
+            result_variable,
+            local,
+        })),
+        LocalAnswer::UnboundedSide(_) => Ok(None),
+        LocalAnswer::OutOfLimits(_) => Ok(None),
     }
 }
 
@@ -83,14 +102,14 @@ fn member_at(alloc: Global, preps: &[RuleRows], spot: Spot) -> Result<Option<Mem
 fn push_member(
     alloc: Global,
     members: &mut Vec<Member>,
-    preps: &[RuleRows],
-    spot: Spot,
+    prepared_rules: &[RuleRows],
+    result_variable: ResultVariable,
 ) -> Result<(), Memory>
-    requires { (p : PlainProgram) × (IsValid p × AreRowsOf preps.now p) }
-    ensures { OnOk result ((p : PlainProgram) → IsValid p → AreRowsOf preps.now p
+    requires { (p : PlainProgram) × (IsValid p × AreRowsOf prepared_rules.now p) }
+    ensures { OnOk result ((p : PlainProgram) → IsValid p → AreRowsOf prepared_rules.now p
         → All (IsAccepted p) (map member_of members.old.items) → All (IsAccepted p) (map member_of members.new.items)) }
 {
-    if let Some(member) = member_at(alloc, preps, spot)? {
+    if let Some(member) = member_at(alloc, prepared_rules, result_variable)? {
         members.push(member)?;
     }
     Ok(())
@@ -99,27 +118,27 @@ fn push_member(
 // Those of these places, by rule and place, that have local bounds, with these.
 pub(crate) fn members_at(
     alloc: Global,
-    preps: &[RuleRows],
-    spots: &[(u32, u32)],
+    prepared_rules: &[RuleRows],
+    result_variables: &[(u32, u32)],
 ) -> Result<Vec<Member>, Memory>
-    requires { (p : PlainProgram) × (IsValid p × AreRowsOf preps.now p) }
-    ensures { IfOk result (λ members. (p : PlainProgram) → IsValid p → AreRowsOf preps.now p
+    requires { (p : PlainProgram) × (IsValid p × AreRowsOf prepared_rules.now p) }
+    ensures { IfOk result (λ members. (p : PlainProgram) → IsValid p → AreRowsOf prepared_rules.now p
         → All (IsAccepted p) (map member_of members.items)) }
 {
     let mut members = Vec::new(alloc);
-    for (rule, place) in spots {
-        let spot = Spot {
+    for (rule, place) in result_variables {
+        let result_variable = ResultVariable {
             rule: *rule,
             place: *place,
         };
-        push_member(alloc, &mut members, preps, spot)?;
+        push_member(alloc, &mut members, prepared_rules, result_variable)?;
     }
     Ok(members)
 }
 
 // Whether one place comes before another: by rule, and then by place.
-fn comes_before(one: Spot, other: Spot) -> bool
-    ensures { result ≡ true → ComesBefore (spot_of one) (spot_of other) }
+fn comes_before(one: ResultVariable, other: ResultVariable) -> bool
+    ensures { result ≡ true → ComesBefore (result_variable_of one) (result_variable_of other) }
 {
     one.rule < other.rule || one.rule == other.rule && one.place < other.place
 }
@@ -134,7 +153,7 @@ pub(crate) fn ascend(members: &[Member]) -> bool
     let Some((next, _)) = others.split_first() else {
         return true;
     };
-    if !comes_before(first.spot, next.spot) {
+    if !comes_before(first.result_variable, next.result_variable) {
         return false;
     }
     ascend(others)

@@ -1,6 +1,6 @@
 //! Places with the answers that are wanted of them.
 
-// What is shown, rules, the rule and place that are asked of, and the answer, within many pivots.
+// What is shown, rules, the rule and place of the question, and the answer, within many pivots.
 pub(crate) const PLACES: &[(&str, &str, u32, u32, &str)] = &[
     (
         "a decrement",

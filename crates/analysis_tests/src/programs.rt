@@ -3,7 +3,7 @@
 ghost use Rattle.std.specs.Prelude.{IfOk};
 ghost use Rattle.its_model.specs.Valid.{IsValid};
 ghost use Rattle.its_model.specs.Views.{program_of};
-ghost use Rattle.proof_tree.specs.Composing.{AreRowsOf};
+ghost use Rattle.cert_types.specs.Composing.{AreRowsOf};
 
 use guard_prep::{RuleRows, rows};
 use its_model::Program;
@@ -25,11 +25,11 @@ pub(crate) fn program(alloc: Global, rules: &str) -> Result<Program, Fail>
 // The rows of each rule, in order.
 pub(crate) fn all_rows(alloc: Global, p: &Program) -> Result<Vec<RuleRows>, Memory>
     requires { IsValid (program_of p.now) }
-    ensures { IfOk result (λ preps. AreRowsOf preps.items (program_of p.now)) }
+    ensures { IfOk result (λ prepared_rules. AreRowsOf prepared_rules.items (program_of p.now)) }
 {
-    let mut preps = Vec::new(alloc);
+    let mut prepared_rules = Vec::new(alloc);
     for rule in &p.rules {
-        preps.push(rows(alloc, rule)?)?;
+        prepared_rules.push(rows(alloc, rule)?)?;
     }
-    Ok(preps)
+    Ok(prepared_rules)
 }

@@ -1,7 +1,7 @@
 //! Sizes of places and of loops as text.
 
+use cert_types::{Fact, Member, Proof};
 use model::Memory;
-use proof_tree::{Fact, Member, Proof};
 use size_bounds::SizeAnswer;
 use std::alloc::Global;
 
@@ -13,8 +13,16 @@ pub(crate) fn shown_answer(
 ) -> Result<String, Memory> {
     match answer {
         SizeAnswer::Found { node, facts } => shown_node(alloc, node, facts, members),
-        SizeAnswer::Missing(spot) => { format!(in alloc; "missing {}.{}", spot.rule, spot.place) }
-        SizeAnswer::Bent(spot) => format!(in alloc; "bent {}.{}", spot.rule, spot.place),
+        SizeAnswer::Missing(result_variable) => {
+            format!(in alloc;
+                "missing {}.{}",
+                result_variable.rule, result_variable.place
+            )
+        }
+        SizeAnswer::Nonlinear(result_variable) => format!(in alloc;
+            "bent {}.{}",
+            result_variable.rule, result_variable.place
+        ),
         SizeAnswer::Untimed { rule } => format!(in alloc; "untimed {rule}"),
         SizeAnswer::Large { nodes } => format!(in alloc; "large {nodes}"),
     }
@@ -30,7 +38,7 @@ fn shown_node(
     match node {
         Proof::Spread(spread) => {
             let is_same =
-                matches!(members, [only] if only.spot == spread.spot && only.local == spread.local);
+                matches!(members, [only] if only.result_variable == spread.result_variable && only.local == spread.local);
             let kind = if is_same {
                 "spread"
             } else {

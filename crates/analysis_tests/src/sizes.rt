@@ -6,9 +6,9 @@ ghost use Rattle.model.specs.Programs.{Program as PlainProgram};
 ghost use Rattle.its_graph.specs.Graphs.{IsGraphOf};
 ghost use Rattle.its_model.specs.Valid.{IsValid};
 ghost use Rattle.its_model.specs.Views.{program_of};
-ghost use Rattle.proof_tree.specs.proof_nodes.AcceptsSizes.{AreAscending};
-ghost use Rattle.proof_tree.specs.Composing.{AreRowsOf};
-ghost use Rattle.proof_tree.specs.Views.{member_of};
+ghost use Rattle.cert_types.specs.cert_rules.AcceptsSizes.{AreAscending};
+ghost use Rattle.cert_types.specs.Composing.{AreRowsOf};
+ghost use Rattle.cert_types.specs.Views.{member_of};
 ghost use Rattle.time_bounds.specs.Candidates.{IsAccepted};
 
 use crate::members::{ascend, members_at};
@@ -16,17 +16,17 @@ use crate::programs::{all_rows, program};
 use crate::shown::shown_answer;
 use crate::tables::Told::{C, V, Wide};
 use crate::tables::{Entry, table};
+use cert_types::Member;
 use guard_prep::RuleRows;
 use its_graph::Graph;
 use its_model::Program;
 use model::Memory;
-use proof_tree::Member;
 use size_bounds::{SizeAnswer, Table, cycle, spread, uses_of_lemmas};
 use std::alloc::Global;
 use std::process::Abort;
 use std::test::Fail;
 
-// What is asked of members: the size of the only one, or that of all members of a loop.
+// The question about members: the size of the only one, or that of all members of a loop.
 #[derive(Clone, Copy)]
 enum Asked {
     Alone,
@@ -37,53 +37,53 @@ enum Asked {
 fn alone(
     alloc: Global,
     g: &Graph,
-    preps: &[RuleRows],
+    prepared_rules: &[RuleRows],
     t: &Table,
     members: &[Member],
 ) -> Result<SizeAnswer, Memory>
-    requires given { (p : PlainProgram) × (IsValid p × (IsGraphOf g.now p × (AreRowsOf preps.now p
+    requires given { (p : PlainProgram) × (IsValid p × (IsGraphOf g.now p × (AreRowsOf prepared_rules.now p
         × All (IsAccepted p) (map member_of members.now)))) }
     requires some { 0 < length members.now }
 {
-    spread(alloc, g, preps, t, &members[0])
+    spread(alloc, g, prepared_rules, t, &members[0])
 }
 
 // The answer for the members of a loop.
 fn together(
     alloc: Global,
     g: &Graph,
-    preps: &[RuleRows],
+    prepared_rules: &[RuleRows],
     t: &Table,
     members: &[Member],
 ) -> Result<SizeAnswer, Memory>
-    requires given { (p : PlainProgram) × (IsValid p × (IsGraphOf g.now p × (AreRowsOf preps.now p
+    requires given { (p : PlainProgram) × (IsValid p × (IsGraphOf g.now p × (AreRowsOf prepared_rules.now p
         × All (IsAccepted p) (map member_of members.now)))) }
     requires some { 0 < length members.now }
     requires ascending { AreAscending (map member_of members.now) }
 {
-    cycle(alloc, g, preps, t, members)
+    cycle(alloc, g, prepared_rules, t, members)
 }
 
-// What is asked of members.
+// Asks the question about members.
 fn asked_of(
     rt: &impl Abort,
     alloc: Global,
     g: &Graph,
-    preps: &[RuleRows],
+    prepared_rules: &[RuleRows],
     t: &Table,
     members: &[Member],
     asked: Asked,
 ) -> Result<SizeAnswer, Memory>
-    requires { (p : PlainProgram) × (IsValid p × (IsGraphOf g.now p × (AreRowsOf preps.now p
+    requires { (p : PlainProgram) × (IsValid p × (IsGraphOf g.now p × (AreRowsOf prepared_rules.now p
         × All (IsAccepted p) (map member_of members.now)))) }
 {
     assert!(rt; !members.is_empty());
     match asked {
-        Asked::Alone => alone(alloc, g, preps, t, members),
+        Asked::Alone => alone(alloc, g, prepared_rules, t, members),
         Asked::Looping => {
             let are_ascending = ascend(members);
             assert!(rt; are_ascending);
-            together(alloc, g, preps, t, members)
+            together(alloc, g, prepared_rules, t, members)
         }
     }
 }
@@ -93,15 +93,15 @@ fn answer_by(
     rt: &impl Abort,
     alloc: Global,
     g: &Graph,
-    preps: &[RuleRows],
+    prepared_rules: &[RuleRows],
     t: &Table,
     asked: Asked,
-    spots: &[(u32, u32)],
+    result_variables: &[(u32, u32)],
 ) -> Result<String, Memory>
-    requires { (p : PlainProgram) × (IsValid p × (IsGraphOf g.now p × AreRowsOf preps.now p)) }
+    requires { (p : PlainProgram) × (IsValid p × (IsGraphOf g.now p × AreRowsOf prepared_rules.now p)) }
 {
-    let members = members_at(alloc, preps, spots)?;
-    let found = asked_of(rt, alloc, g, preps, t, &members, asked)?;
+    let members = members_at(alloc, prepared_rules, result_variables)?;
+    let found = asked_of(rt, alloc, g, prepared_rules, t, &members, asked)?;
     shown_answer(alloc, &found, &members)
 }
 
@@ -112,13 +112,21 @@ fn answer(
     p: &Program,
     t: &Table,
     asked: Asked,
-    spots: &[(u32, u32)],
+    result_variables: &[(u32, u32)],
 ) -> Result<String, Memory>
     requires { IsValid (program_of p.now) }
 {
     let graph = Graph::new(alloc, p)?;
-    let preps = all_rows(alloc, p)?;
-    answer_by(rt, alloc, &graph, &preps, t, asked, spots)
+    let prepared_rules = all_rows(alloc, p)?;
+    answer_by(
+        rt,
+        alloc,
+        &graph,
+        &prepared_rules,
+        t,
+        asked,
+        result_variables,
+    )
 }
 
 // Rules, a place, what is known, and the answer for the place.
@@ -192,10 +200,10 @@ const SPREADS: &[Spread] = &[
 #[test]
 fn a_spread_is_over_the_sizes_that_come_before(rt: HostRuntime) -> Result<(), Fail> {
     let alloc = rt.alloc();
-    for (rules, spot, entries, want) in SPREADS {
+    for (rules, result_variable, entries, want) in SPREADS {
         let p = program(alloc, rules)?;
         let t = table(alloc, entries)?;
-        let found = answer(&rt, alloc, &p, &t, Asked::Alone, &[*spot])?;
+        let found = answer(&rt, alloc, &p, &t, Asked::Alone, &[*result_variable])?;
         assert_eq!(rt; found.as_str(), *want, "of {rules}");
     }
     Ok(())
@@ -337,10 +345,10 @@ const CYCLES: &[Cycle] = &[
 #[test]
 fn a_cycle_has_one_size_or_its_first_reason(rt: HostRuntime) -> Result<(), Fail> {
     let alloc = rt.alloc();
-    for (rules, spots, entries, want) in CYCLES {
+    for (rules, result_variables, entries, want) in CYCLES {
         let p = program(alloc, rules)?;
         let t = table(alloc, entries)?;
-        let found = answer(&rt, alloc, &p, &t, Asked::Looping, spots)?;
+        let found = answer(&rt, alloc, &p, &t, Asked::Looping, result_variables)?;
         assert_eq!(rt; found.as_str(), *want, "of {rules}");
     }
     Ok(())

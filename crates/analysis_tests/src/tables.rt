@@ -6,7 +6,7 @@ use outcome::Stored;
 use size_bounds::Table;
 use std::alloc::Global;
 
-// A bound of a table: a number, an input, or a sum of so many parts A.
+// A bound of a table: a number, an input, or a sum of this many parts A.
 #[derive(Clone, Copy)]
 pub(crate) enum Told {
     C(u128),
@@ -32,7 +32,7 @@ fn wide(alloc: Global, parts: u32) -> Result<Bound, Memory> {
     Ok(Bound::Sum(sum))
 }
 
-// What is known: rule and place, or rule and 0 for a time; the bound, and the number of its lemma.
+// A known bound: rule and place, or rule and 0 for a time; the bound, and the number of its lemma.
 pub(crate) type Entry = (u32, u32, Told, u32);
 
 fn entry(

@@ -15,13 +15,13 @@ mutual
   val-grows (MaximumOf bs) based m n below = val_maximum-grows bs based.1 m n below
   val-grows (PowerOf c e) based m n below = pow-le-pow_right based.0 (val-grows e based.1 m n below)
 
-  -- so does the sum of several such bounds
+  -- the same for the sum of several such bounds
   pub val_sum-grows : (bs : Parts) → AreBased bs → (m n : List ℕ) → IsBelow m n → val_sum bs m ≤ val_sum bs n
   val_sum-grows NoParts based m n below = omega arith
   val_sum-grows (Part b bs) based m n below =
       omega (arith, val-grows b based.0 m n below, val_sum-grows bs based.1 m n below)
 
-  -- so does their product
+  -- the same for their product
   pub val_product-grows : (bs : Parts) → AreBased bs → (m n : List ℕ) → IsBelow m n
       → val_product bs m ≤ val_product bs n
   val_product-grows NoParts based m n below = omega arith

@@ -107,7 +107,7 @@ pub inputs-of_numbers : (n : ℕ) → IsOfNumbers (IsInputBelow n)
 inputs-of_numbers n =
     record { zero = tt; sum = λ bs. tt; product = λ bs. tt; maximum = λ bs. tt; power = λ c e f has. has }
 
--- nothing is asked of a node
+-- the property that every node has
 abbrev pub IsAny : Bound → Type 0
 IsAny b = Unit {0}
 
@@ -126,7 +126,7 @@ mutual
   EachNodeOfAll-any NoParts = tt
   EachNodeOfAll-any (Part b bs) = (EachNode-any b, EachNodeOfAll-any bs)
 
--- a substitution keeps what is said of the numbers
+-- a substitution keeps the properties of the numbers (bases, constants and inputs)
 substituted-keeps : (b : Bound) (sizes : List Bound) → SubstitutionKeeps b sizes (substituted b sizes)
 substituted-keeps b sizes = record {
   bases = λ n has each.
@@ -142,7 +142,7 @@ substituted-keeps b sizes = record {
       (EachNode-any b);
 }
 
--- a substitution keeps what is said of the numbers, however its outcome is named
+-- a substitution keeps the properties of the numbers, for an outcome given by an equation
 pub substitution_keeps : (b : Bound) (sizes : List Bound) (outcome : Bound) → outcome ≡ substituted b sizes
     → SubstitutionKeeps b sizes outcome
 substitution_keeps b sizes outcome e = subst (SubstitutionKeeps b sizes) (sym e) (substituted-keeps b sizes)

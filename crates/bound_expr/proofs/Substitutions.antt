@@ -23,13 +23,13 @@ mutual
   val-substituted (MaximumOf bs) sizes m = val_maximum-substituted bs sizes m
   val-substituted (PowerOf c e) sizes m = ap (λ (v : ℕ). c ^ v) (val-substituted e sizes m)
 
-  -- so has a sum whose parts have sizes put for their inputs
+  -- the same for a sum whose parts have sizes put for their inputs
   pub val_sum-substituted : (bs : Parts) (sizes : List Bound) (m : List ℕ)
       → val_sum (all_substituted bs sizes) m ≡ val_sum bs (values_of sizes m)
   val_sum-substituted NoParts sizes m = refl
   val_sum-substituted (Part b bs) sizes m = omega (arith, val-substituted b sizes m, val_sum-substituted bs sizes m)
 
-  -- so has a product of such parts
+  -- the same for a product of such parts
   pub val_product-substituted : (bs : Parts) (sizes : List Bound) (m : List ℕ)
       → val_product (all_substituted bs sizes) m ≡ val_product bs (values_of sizes m)
   val_product-substituted NoParts sizes m = refl

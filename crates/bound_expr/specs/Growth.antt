@@ -1,4 +1,4 @@
--- Values grow with the inputs.
+-- Values grow weakly with the inputs.
 use Rattle.std.specs.Prelude.{ℕ, ◌≤◌, List, slice_index}
 use Rattle.model.specs.Bounds.{Bound, val, IsBased}
 

@@ -1,11 +1,11 @@
--- The limits of a bound, each by its one name.
+-- The limits of a bound, each under one name.
 use Rattle.std.specs.Prelude.{ℕ, ◌+◌, ◌-◌, ◌^◌}
 
 -- the maximum constant
 abbrev pub constant_limit : ℕ
 constant_limit = 2 ^ 127 - 1
 
--- the number behind it, which stands for every greater one where values are told up to a cap
+-- the number after it; where values are capped, it represents every greater number as well
 abbrev pub cap : ℕ
 cap = constant_limit + 1
 

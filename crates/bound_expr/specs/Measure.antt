@@ -1,4 +1,4 @@
--- How large a bound is.
+-- The size of a bound: nodes and levels.
 use Rattle.std.specs.Prelude.{ℕ, ◌+◌, ◌-◌, ◌^◌, max, min, nat_lt, ◌||◌, Bool}
 use Rattle.model.specs.Bounds.{Bound, Constant, Input, SumOf, ProductOf, MaximumOf, PowerOf, Parts, NoParts, Part}
 use Rattle.bound_expr.specs.Limits.{node_limit, depth_limit}
@@ -35,6 +35,6 @@ abbrev mutual
 abbrev pub is_large : Bound → Bool
 is_large b = nat_lt node_limit (node_count b) || nat_lt depth_limit (depth_of b)
 
--- the number of nodes as it is told: where there are more than its type holds, the maximum number of that
+-- the number of nodes as it is returned: where it doesn't fit its type, that type's maximum
 abbrev pub capped_node_count : Bound → ℕ
 capped_node_count b = min (node_count b) (2 ^ 64 - 1)

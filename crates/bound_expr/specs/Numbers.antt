@@ -1,4 +1,4 @@
--- What is said of the numbers in a bound, node by node: of bases, of constants and of inputs.
+-- Properties of the numbers in a bound, node by node: of bases, of constants and of inputs.
 use Rattle.std.specs.Prelude.{ℕ, ◌<◌, ◌≤◌, ⊤}
 use Rattle.model.specs.Bounds.{Bound, Constant, Input, PowerOf, Parts, EachNode, EachNodeOfAll, IsBasedFrom}
 use Rattle.bound_expr.specs.Limits.{constant_limit}

@@ -1,4 +1,4 @@
--- Bounds in place of the inputs of a bound.
+-- Substitution of bounds for the inputs of a bound.
 use Rattle.std.specs.Prelude.{◌≡◌, ℕ, List, slice_index_or, map}
 use Rattle.model.specs.Bounds.{Bound, Constant, Input, SumOf, ProductOf, MaximumOf, PowerOf, Parts, NoParts, Part, val}
 use Rattle.bound_expr.specs.Views.{parts_of}

@@ -1,4 +1,4 @@
--- What contracts see of a bound: the plain expression.
+-- Bounds of the code as plain expressions, which contracts speak of.
 use Rattle.std.specs.Prelude.{List, [], ◌∷◌, map}
 use Rattle.model.specs.Bounds as plain
 use Rattle.model.specs.Bounds.{Constant, Input, SumOf, ProductOf, MaximumOf, PowerOf, Parts, NoParts, Part}

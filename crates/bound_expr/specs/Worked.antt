@@ -1,4 +1,4 @@
--- Values of the definitions that were worked out by hand.
+-- Worked values of the definitions.
 use Rattle.std.specs.Prelude.{◌≡◌, ℕ, zero, suc, ◌^◌, true, false, [], ◌∷◌}
 use Rattle.model.specs.Bounds.{Bound, Constant, Input, SumOf, ProductOf, MaximumOf, PowerOf, Parts, NoParts, Part}
 use Rattle.model.specs.Bounds.{IsBased}
@@ -13,12 +13,12 @@ use Rattle.bound_expr.specs.Substitution.{substituted}
 abbrev pub small_sum : Bound
 small_sum = SumOf (two_parts (ProductOf (two_parts (Constant 2) (Input 0))) (PowerOf 2 (Input 1)))
 
--- so many copies of A
+-- this many copies of A
 abbrev pub copies : ℕ → Parts
 copies zero = NoParts
 copies (suc n) = Part (Input 0) (copies n)
 
--- 2^(2^(.. A)), with so many powers
+-- 2^(2^(.. A)), with this many powers
 abbrev pub tower : ℕ → Bound
 tower zero = Input 0
 tower (suc n) = PowerOf 2 (tower n)

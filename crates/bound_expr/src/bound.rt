@@ -1,3 +1,5 @@
+//! The type of bounds, and copies of them.
+
 ghost use Rattle.std.specs.Prelude.{◌≡◌, IfOk};
 ghost use Rattle.bound_expr.specs.Views.{bound_of, bounds_of};
 

@@ -1,3 +1,5 @@
+//! The value of a bound, capped at 2^127.
+
 ghost use Rattle.std.specs.Prelude.{◌≡◌, ◌*◌, ◌+◌, ◌%◌, ◌≤◌, ◌^◌, max, length};
 ghost use Rattle.model.specs.Bounds.{val_sum, val_product, val_maximum};
 ghost use Rattle.bound_expr.specs.Views.{bound_of, bounds_of, parts_of};
@@ -11,7 +13,7 @@ use crate::limits::CAP;
 impl Bound {
     /// The value of this bound where variable i is `at[i]`, or 2^127 where the value is greater.
     ///
-    /// Takes no memory, and no time that grows with the exponents.
+    /// It allocates no memory, and its time doesn't grow with the exponents.
     pub fn capped_value(&self, at: &[u128]) -> u128
         requires { ReadsBelow (length at.now) (bound_of self.now) }
         ensures { result ≡ capped_val (bound_of self.now) at.now }
@@ -87,7 +89,7 @@ pub fn capped_multiply(a: u128, b: u128) -> u128
 
 /// The power of a base, with exponent 0 giving 1, or 2^127 where it is greater.
 ///
-/// It takes as many turns as the exponent has bits.
+/// It takes as many iterations as the exponent has bits.
 pub fn capped_power(base: u128, exponent: u128) -> u128
     ensures { result ≡ capped (base ^ exponent) }
 {

@@ -1,6 +1,8 @@
-//! Bounds: expressions over the absolute values of the start arguments, with no subtraction, so that their value grows
-//! with each of them. Contracts see a bound as the plain expression `bound_of b`, whose value at m is `val (bound_of b)
-//! m`.
+//! Bounds: expressions over the absolute values of the start arguments, built from constants, sums, products, maxima
+//! and powers. There is no subtraction, so the value grows with each argument.
+//!
+//! Builds on `model`. Main guarantee: contracts read a bound as the plain expression `bound_of b`, whose value at m is
+//! `val (bound_of b) m`; substitution, capped values and measures agree with it.
 #![tactic(auto)]
 
 mod bound;

@@ -1,10 +1,12 @@
+//! The limits of bounds: their greatest constant, number of nodes and number of levels.
+
 ghost use Rattle.std.specs.Prelude.{◌≡◌};
 ghost use Rattle.bound_expr.specs.Limits.{constant_limit, cap, node_limit, depth_limit};
 
 /// The maximum constant of a bound: 2^127-1.
 pub const CONSTANT_LIMIT: u128 = 0x7fff_ffff_ffff_ffff_ffff_ffff_ffff_ffff;
 
-/// The number behind it, 2^127, which stands for every greater one where values are told up to a cap.
+/// The number after it, 2^127; where values are capped, it represents every greater number as well.
 pub const CAP: u128 = 0x8000_0000_0000_0000_0000_0000_0000_0000;
 
 /// The maximum number of nodes of a bound.

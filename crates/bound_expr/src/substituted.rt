@@ -1,3 +1,5 @@
+//! Substitution: a bound with other bounds in place of its variables.
+
 ghost use Rattle.std.specs.Prelude.{◌≡◌, length, IfOk};
 ghost use Rattle.bound_expr.specs.Views.{bound_of, bounds_of, parts_of};
 ghost use Rattle.bound_expr.specs.Numbers.{ReadsBelow, AllReadBelow};
@@ -9,8 +11,8 @@ use std::alloc::Global;
 
 /// The bound `b` with `sizes[i]` in place of each variable i.
 ///
-/// Its value is that of `b` at the values of the sizes. Bases that are at least n in `b` and in the sizes are at least
-/// n in it, constants stay at most 2^127-1, and it reads no other variables than the sizes do.
+/// Its value is that of `b` at the values of the sizes. If the bases of `b` and of the sizes are at least n, so are its
+/// bases; constants stay at most 2^127-1; and it reads no other variables than the sizes do.
 ///
 /// # Errors
 ///

@@ -1,8 +1,10 @@
+//! Worked values of measures, numbers, tidiness and substitution.
+
 ghost use Rattle.bound_expr.specs.Worked.{MeasuresAreWorkedOut, NumbersAreWorkedOut, TidyBoundsAreWorkedOut};
 ghost use Rattle.bound_expr.specs.Worked.{SubstitutionIsWorkedOut};
 
-/// The definitions give bounds what was worked out by hand: how large they are, what holds of their numbers, whether
-/// they are tidy, and what a substitution makes of them. Its contract is these values; it does nothing.
+/// Worked values of how large bounds are, what holds of their numbers, whether they are tidy, and the results of
+/// substitutions. Its contract is these values; it has no code.
 pub fn bounds_are_as_worked_out()
     ensures measures { MeasuresAreWorkedOut }
     ensures numbers { NumbersAreWorkedOut }

@@ -171,7 +171,7 @@ factor_below-agree n f g same p (MaximumOf qs) h =
     nest-agree n f g p (MaximumOf qs) same (λ _. omega (arith, factor_weight-ge p))
 factor_below-agree n f g same p q h = refl
 
--- so is a part
+-- the same for a part
 term_below-agree : (n : ℕ) (f g : Bound → Bound → Bool) → Agree n f g → AgreeOnFactors n (term_below f) (term_below g)
 term_below-agree n f g same p q h =
     let fs = factors_of p in

@@ -30,7 +30,7 @@ joined-comm AsSum a b = omega arith
 joined-comm AsProd a b = mul_comm a b
 joined-comm AsMax a b = omega arith
 
--- what nothing comes to changes nothing behind a number
+-- joining the unit of a kind to a number doesn't change it
 pub joined-unit : (k : Kind) (a : ℕ) → joined k a (unit_of k) ≡ a
 joined-unit AsSum a = omega arith
 joined-unit AsProd a = omega arith
@@ -53,7 +53,7 @@ val-whole AsSum ps m = val_sum-parts_of ps m
 val-whole AsProd ps m = val_product-parts_of ps m
 val-whole AsMax ps m = val_maximum-parts_of ps m
 
--- two lists of parts come to the two joined
+-- the value of two lists of parts is that of the two joined
 pub parts_at-append : (k : Kind) (ps qs : List Bound) (m : List ℕ)
     → parts_at k (ps ++ qs) m ≡ joined k (parts_at k ps m) (parts_at k qs m)
 parts_at-append k [] qs m = sym (unit-joined k (parts_at k qs m))
@@ -87,7 +87,7 @@ parts_at-constants k (p ∷ ps) m =
     ap (joined k (val p m)) (parts_at-constants k ps m)
     ∙ joined-swap k (val p m) (all_joined k (constants_in ps)) (parts_at k (without_constants ps) m)
 
--- one constant in place of all comes to it and the others
+-- with one constant in place of all, the value is that of the constant and the other parts
 parts_at-with_one_constant : (k : Kind) (c : ℕ) (ps : List Bound) (m : List ℕ) → 1 ≤ count_by is_constant ps
     → parts_at k (with_one_constant c ps) m ≡ joined k c (parts_at k (without_constants ps) m)
 parts_at-with_one_constant k c [] m some = absurd (omega arith)
@@ -130,7 +130,7 @@ parts_at-zero (p ∷ ps) m any = go (is_zero p) refl any (parts_at-zero ps m)
     go true is any ih = ap (λ (v : ℕ). v * parts_at AsProd ps m) (zero-val p is) ∙ omega arith
     go false is any ih = ap (λ (v : ℕ). val p m * v) (ih any) ∙ omega arith
 
--- so does making a product 0
+-- the same for making a product 0
 pub val-zeroed : (k : Kind) (ps : List Bound) (m : List ℕ) → val (zeroed k ps) m ≡ parts_at k ps m
 val-zeroed AsSum ps m = val-whole AsSum ps m
 val-zeroed AsMax ps m = val-whole AsMax ps m

@@ -26,7 +26,7 @@ product-split (MaximumOf qs ∷ ps) m has =
 product-split (PowerOf c e ∷ ps) m has =
     ap (λ (v : ℕ). val (PowerOf c e) m * v) (product-split ps m has) ∙ omega arith
 
--- factors as a product, or a single one, come to their product
+-- factors as a product, or a single one, have the value of their product
 val-product_or_single : (fs : List Bound) (m : List ℕ) → val (product_or_single fs) m ≡ product_at fs m
 val-product_or_single [] m = refl
 val-product_or_single (f ∷ []) m = omega arith

@@ -23,7 +23,7 @@ dominant_after-dropped ps i h lower =
     (λ b. cond b (dominant_after (take i ps) (drop (i + 1) ps)) (dominant_after (take i ps ++ slice_index_or ps i (Constant 0) ∷ []) (drop (i + 1) ps)))
     lower
 
--- a part that is kept stands in the prefix
+-- a part that is kept is in the prefix
 pub dominant_after-kept : (ps : List plain.Bound) (i : ℕ) → i < length ps → below_another ps i ≡ false
     → dominant_after (take i ps) (drop i ps) ≡ dominant_after (take (i + 1) ps) (drop (i + 1) ps)
 dominant_after-kept ps i h high =
@@ -33,7 +33,7 @@ dominant_after-kept ps i h high =
     high
     ∙ ap (λ (qs : List plain.Bound). dominant_after qs (drop (i + 1) ps)) (sym (take_more ps i (Constant 0) h))
 
--- a list without the part at a position: what stands before and behind
+-- a list without the part at a position: the parts before it and those behind it
 bounds_of-remove : (xs : List Bound) (i : ℕ)
     → bounds_of (remove xs i) ≡ take i (bounds_of xs) ++ drop (i + 1) (bounds_of xs)
 bounds_of-remove xs i =

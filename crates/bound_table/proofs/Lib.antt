@@ -1,3 +1,4 @@
+-- each case keeps values, tidiness and numbers; the order `below` is sound; and limits of rewriting
 pub mod Each
 pub mod Products
 pub mod BelowSound
@@ -29,3 +30,5 @@ pub mod NumberFacts
 pub mod TableInForce
 pub mod WithinLimits
 pub mod WorkedValues
+mod WorkedNodes
+mod WorkedLower

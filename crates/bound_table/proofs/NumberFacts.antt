@@ -1,4 +1,4 @@
--- What is said of the numbers of a bound, node by node, is said of those of its rewriting.
+-- Rewriting keeps the properties of a bound's numbers, node by node.
 use Rattle.std.proofs.Common.{◌≡◌, ℕ, zero, suc, ◌≤◌, Bool, true, false, cond, Option, Some, None}
 use Rattle.std.proofs.Common.{List, [], ◌∷◌, ◌++◌, refl, sym, ◌∙◌, subst, arith}
 use Rattle.std.specs.List.{list_any}
@@ -40,7 +40,7 @@ use Rattle.bound_table.proofs.PartFacts.{AreTogether, runs_of-good, Each-all_run
 use Rattle.bound_table.proofs.PartFacts.{Each-likes_joined, Each-dominant}
 use Rattle.bound_table.proofs.Passes.{passes, simplified-is}
 
--- what nothing comes to is a small constant
+-- the unit of a kind is a small constant
 pub unit-small : (k : Kind) → unit_of k ≤ constant_limit
 unit-small AsSum = omega arith
 unit-small AsProd = omega arith
@@ -128,7 +128,7 @@ module _ (F : Bound → Type 0) (of : IsOfNumbers F) (constant : (c : ℕ) → c
           whole-each AsProd (Constant v ∷ PowerOf n (exponent_left e) ∷ [])
           (constant v (number_taken-some n e v [] is).1, ((of.power n e (exponent_left e) each.0, left), tt))
 
-  -- what a case makes of a power
+  -- the result of a case at a power
   at_power-each : (c : Case) (n : ℕ) (e : Bound) → EachNode F (PowerOf n e) → EachNode F (at_power c n e)
   at_power-each Flat n e each = each
   at_power-each FoldConst n e each = each
@@ -210,7 +210,7 @@ module _ (F : Bound → Type 0) (of : IsOfNumbers F) (constant : (c : ℕ) → c
           (Each-parts_of_sum (EachNode F) (EachNode F) (λ qs all. Each-list_of F qs all.1) ps each))
       go false = whole-each AsProd ps each
 
-  -- what a case makes of parts
+  -- the result of a case at parts
   at_parts-each : (c : Case) (k : Kind) (ps : List Bound) → Each (EachNode F) ps → EachNode F (at_parts c k ps)
   at_parts-each Flat k ps each = whole-each k (spliced k ps) (Each-spliced k (EachNode F) ps (spread-each k) each)
   at_parts-each FoldConst k ps each = whole-each k (folded k ps) (Each-folded k (EachNode F) ps constant each)
@@ -226,7 +226,7 @@ module _ (F : Bound → Type 0) (of : IsOfNumbers F) (constant : (c : ℕ) → c
   at_parts-each Dominate k ps each = whole-each k (dominant k ps) (Each-dominant k (EachNode F) ps each)
   at_parts-each Few k ps each = simple-each k ps each
 
-  -- what a case makes of a node
+  -- the result of a case at a node
   at_node-each : (c : Case) (b : Bound) → EachNode F b → EachNode F (at_node c b)
   unfolding at_node
   at_node-each c (Constant n) each = each
@@ -236,12 +236,12 @@ module _ (F : Bound → Type 0) (of : IsOfNumbers F) (constant : (c : ℕ) → c
   at_node-each c (MaximumOf ps) each = at_parts-each c AsMax (list_of ps) (Each-list_of F ps each.1)
   at_node-each c (PowerOf n e) each = at_power-each c n e each
 
-  -- what all cases make of it
+  -- the result of all cases at a node
   at_node_all-each : (cs : List Case) (b : Bound) → EachNode F b → EachNode F (at_node_all cs b)
   at_node_all-each [] b each = each
   at_node_all-each (c ∷ cs) b each = at_node_all-each cs (at_node c b) (at_node-each c b each)
 
-  -- what a pass makes of the parts
+  -- the result of a pass at the parts
   mutual
     unfolding parts_passed
 
@@ -259,7 +259,7 @@ module _ (F : Bound → Type 0) (of : IsOfNumbers F) (constant : (c : ℕ) → c
     one_pass_each-each cs (Part p ps) each =
         (at_node_all-each cs (parts_passed cs p) (parts_passed-each cs p each.0), one_pass_each-each cs ps each.1)
 
-  -- what passes make of a bound
+  -- the result of passes at a bound
   passes-each : (n : ℕ) (cs : List Case) (b : Bound) → EachNode F b → EachNode F (passes n cs b)
   unfolding passes
   passes-each zero cs b each = each
@@ -289,7 +289,7 @@ simplified-reads cs b outcome is = record {
   each = λ n reads. simplified-each (IsInputBelow n) (inputs-of_numbers n) (λ c small. tt) cs b outcome is reads;
 }
 
--- and keeps what is said of bases and constants
+-- and keeps the properties of bases and constants
 pub simplified-numbers : (cs : List Case) (b outcome : Bound) → outcome ≡ simplified cs b → KeepsNumbers outcome b
 simplified-numbers cs b outcome is = record {
   bases = λ n has. simplified-each (IsBasedFrom n) (bases-of_numbers n) (λ c small. tt) cs b outcome is has;

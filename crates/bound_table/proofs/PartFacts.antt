@@ -43,7 +43,7 @@ Each-without_constants P (p ∷ ps) each = go (is_constant p) (Each-without_cons
     go true ih = ih
     go false ih = (each.0, ih)
 
--- so does one constant in place of all, of which it holds
+-- the same for one constant in place of all, of which it holds
 Each-with_one_constant : (P : Bound → Type 0) (c : ℕ) (ps : List Bound) → P (Constant c) → Each P ps
     → Each P (with_one_constant c ps)
 Each-with_one_constant P c [] here each = tt
@@ -70,7 +70,7 @@ Each-folded k P ps constant each = go (nat_le 2 (count_by is_constant ps)) (nat_
     go true false is = each
     go false small is = each
 
--- so does dropping what changes nothing
+-- the same for dropping what changes nothing
 pub Each-without_neutral : (k : Kind) (P : Bound → Type 0) (ps : List Bound) → Each P ps → Each P (without_neutral k ps)
 Each-without_neutral k P [] each = tt
 Each-without_neutral k P (p ∷ ps) each = go (is_neutral k p) (Each-without_neutral k P ps each.1)

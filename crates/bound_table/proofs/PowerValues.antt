@@ -81,7 +81,7 @@ first_power-taken c (PowerOf d e ∷ ps) v m is =
     let more = HasTaken-before c (PowerOf d e) ps v m (first_power-taken c ps v m is) in
     record { taken = more.0; is_power = more.1; small = more.2; sum = more.3 }
 
--- parts as a sum, or a single one, come to their sum
+-- parts as a sum, or a single one, have the value of their sum
 val-sum_or_single : (ps : List Bound) (m : List ℕ) → val (sum_or_single ps) m ≡ sum_at ps m
 val-sum_or_single [] m = refl
 val-sum_or_single (p ∷ []) m = omega arith

@@ -32,12 +32,12 @@ all_parts-runs_of t [] = refl
 all_parts-runs_of t (p ∷ ps) =
     all_parts-before t p (runs_of t ps) ∙ ap (λ (qs : List Bound). p ∷ qs) (all_parts-runs_of t ps)
 
--- nothing is asked of a part
+-- every part has the property that always holds
 each-always : (ps : List Bound) → Each (λ _. Unit {0}) ps
 each-always [] = tt
 each-always (p ∷ ps) = (tt, each-always ps)
 
--- joined runs come to what their parts come to
+-- joined runs have the value of their parts
 all_runs_joined-value : (k : Kind) (t : Bound → Bound → Bool) (join : List Bound → List Bound)
     → ((p : Bound) (ps : List Bound) (m : List ℕ) → AreTogether t p ps
     → parts_at k (join (p ∷ ps)) m ≡ parts_at k (p ∷ ps) m)

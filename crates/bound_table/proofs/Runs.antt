@@ -119,7 +119,8 @@ module _ (j : Joining) where
   last_belongs-at (y ∷ z ∷ xs) zero x q h e = absurd (omega arith)
   last_belongs-at (y ∷ z ∷ xs) (suc i) x q h e = last_belongs-at (z ∷ xs) i x q (omega arith) e
 
-  -- what stands of joined parts: done, a run, and what is left; and all of it is the joined whole
+  -- the state of joining parts: those that are done, a run, and the parts that are left; together they are the joined
+  -- whole
   pub record Stands (done run left all : List plain.Bound) : Type 0 where
     pub joined : done ++ joined_by_runs (run ++ left) ≡ joined_by_runs all
     pub chain : IsChain run

@@ -23,7 +23,7 @@ pub record ArePassed (seen left all : List plain.Bound) : Type 0 where
 pub ArePassed-none : (all : List plain.Bound) → ArePassed [] all all
 ArePassed-none all = record { before = refl; parts = refl; after = refl; has = refl }
 
--- a factor that is no sum stands before the first sum
+-- a factor that isn't a sum comes before the first sum
 before_sum-other : (p : plain.Bound) (ps : List plain.Bound) → is_sum p ≡ false
     → (before_sum (p ∷ ps) ≡ p ∷ before_sum ps) × (parts_of_sum (p ∷ ps) ≡ parts_of_sum ps) × (after_sum (p ∷ ps) ≡ after_sum ps) × (has_sum (p ∷ ps) ≡ has_sum ps)
 before_sum-other (Constant c) ps other = (refl, refl, refl, refl)
@@ -33,7 +33,7 @@ before_sum-other (ProductOf qs) ps other = (refl, refl, refl, refl)
 before_sum-other (MaximumOf qs) ps other = (refl, refl, refl, refl)
 before_sum-other (PowerOf c e) ps other = (refl, refl, refl, refl)
 
--- so it is seen
+-- so it is one of the factors that were passed
 pub ArePassed-more : (seen : List plain.Bound) (p : plain.Bound) (ps all : List plain.Bound) → is_sum p ≡ false
     → ArePassed seen (p ∷ ps) all
     → ArePassed (seen ++ p ∷ []) ps all

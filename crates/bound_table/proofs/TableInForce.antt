@@ -26,7 +26,7 @@ pub rewritten-value : (b : Bound) → IsBased b → HasValueOf (rewritten b) b
 unfolding rewritten
 rewritten-value b based = simplified-value cases_in_force b (rewritten b) refl based
 
--- and what is said of the numbers
+-- and the properties of the numbers
 pub rewritten-numbers : (b : Bound) → KeepsNumbers (rewritten b) b
 unfolding rewritten
 rewritten-numbers b = simplified-numbers cases_in_force b (rewritten b) refl

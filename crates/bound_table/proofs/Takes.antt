@@ -69,7 +69,7 @@ get_or-marked marks (t ∷ ts) i h =
     ∙ ap (λ v. v || list_any (is_same_input (Input i)) ts) (get_or-marked_one marks t i h)
     ∙ sym (or-swap (slice_index_or marks i false) (is_same_input (Input i) t) (list_any (is_same_input (Input i)) ts))
 
--- marks where none was before tell what is taken
+-- if nothing was marked before, the marks are exactly the inputs that are taken
 pub marked-IsMarked : (n : ℕ) (marks : List Bool) (ts : List Bound) → marks ≡ marked (replicate n false) ts
     → IsMarked marks ts
 marked-IsMarked n marks ts is = record {

@@ -52,7 +52,7 @@ zeroed-nearly AsProd ps each = go (list_any is_zero ps)
     go true = omega arith
     go false = whole-nearly AsProd ps each
 
--- what a case makes of tidy parts is nearly tidy
+-- the result of a case at tidy parts is nearly tidy
 at_parts-nearly : (c : Case) (k : Kind) (ps : List Bound) → Each (IsTidyPart k) ps → IsNearlyTidy (at_parts c k ps)
 at_parts-nearly Flat k ps each =
     whole-nearly k (spliced k ps) (Each-spliced k (IsTidyPart k) ps (no_kind-spread k) each)

@@ -40,7 +40,7 @@ alone-tidy (SumOf qs) tidy = tidy
 alone-tidy (MaximumOf qs) tidy = tidy
 alone-tidy (PowerOf c e) tidy = tidy
 
--- so it is among other factors
+-- the same among other factors
 in_place-tidy : (before after : List Bound) (p : Bound) → Each (IsTidyPart AsProd) before
     → Each (IsTidyPart AsProd) after → IsTidyPart AsSum p
     → IsTidyPart AsSum (in_place before after p)

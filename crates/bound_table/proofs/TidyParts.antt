@@ -1,4 +1,4 @@
--- Tidy parts of a node, and nodes that are tidy but for themselves.
+-- Tidy parts of a node, and nodes that are tidy except for themselves.
 use Rattle.std.proofs.Common.{ℕ, ◌≤◌, List, [], ◌∷◌, sym, subst, arith}
 use Rattle.bound_expr.specs.model.Bounds.{Bound, Constant, Input, SumOf, ProductOf, MaximumOf, PowerOf, Parts, NoParts}
 use Rattle.bound_expr.specs.model.Bounds.{Part}

@@ -78,7 +78,7 @@ evaluated-nearly n e near = go (number_of_power n e) refl
     go None is = near
     go (Some v) is = (number_of_power-some n e v [] is).1
 
--- so is a power that may have a number taken out
+-- the same for a power that may have a number taken out
 shifted-nearly : (n : ℕ) (e : Bound) → (2 ≤ n) × IsTidy e → IsNearlyTidy (shifted n e)
 shifted-nearly n e near = go (number_taken n e) refl
   where
@@ -87,7 +87,7 @@ shifted-nearly n e near = go (number_taken n e) refl
     go (Some v) is =
         (((number_taken-some n e v [] is).1, tt), (((near.0, exponent_left-tidy e near.1), tt), tt))
 
--- what a case makes of a tidy power is nearly tidy
+-- the result of a case at a tidy power is nearly tidy
 pub at_power-nearly : (c : Case) (n : ℕ) (e : Bound) → (2 ≤ n) × IsTidy e → IsNearlyTidy (at_power c n e)
 at_power-nearly Flat n e near = near
 at_power-nearly FoldConst n e near = near

@@ -133,11 +133,11 @@ compared-total =
 factors_compared-total : IsTotalOrder factors_compared
 factors_compared-total = then_total (on_total factor_rank nat_cmp_total) compared-total
 
--- so is an order by a count, greater first
+-- the same for an order by a count, greater first
 count-total : (c : Counted) → IsTotalOrder (flip_args (on (count_in c) nat_cmp))
 count-total c = back_total (on_total (count_in c) nat_cmp_total)
 
--- so is that of parts
+-- the same for that of parts
 parts_compared-total : IsTotalOrder parts_compared
 parts_compared-total =
     then_total (count-total Powers) (then_total (count-total Nests) (then_total (count-total Inputs)

@@ -30,7 +30,7 @@ use Rattle.bound_table.proofs.LikeValues.{parts_at-likes_joined, parts_at-domina
 use Rattle.bound_table.proofs.PowerValues.{val-evaluated, val-shifted, parts_at-powers_merged}
 use Rattle.bound_table.proofs.DistributionValues.{val-distributed}
 
--- each case keeps what the parts come to
+-- each case keeps the value of the parts
 at_parts-val : (c : Case) (k : Kind) (ps : List Bound) (m : List ℕ) → Each IsBased ps
     → val (at_parts c k ps) m ≡ parts_at k ps m
 at_parts-val Flat k ps m based = val-whole k (spliced k ps) m ∙ parts_at-spliced k ps m

@@ -4,7 +4,7 @@ use Rattle.bound_expr.specs.model.Bounds.{Bound}
 use Rattle.bound_expr.specs.Measure.{is_large}
 use Rattle.bound_table.specs.InForce.{rewritten}
 use Rattle.bound_expr.specs.Measure.{capped_node_count}
-use Rattle.bound_table.specs.Within.{Answer, Fits, TooLarge, unless_large, rewritten_within, WhereFits}
+use Rattle.bound_table.specs.RewriteResult.{Answer, Fits, TooLarge, unless_large, rewritten_within, WhereFits}
 
 -- a bound is a large one, or it fits
 unless_large-fits : (P : Bound → Type 0) (b : Bound) → (is_large b ≡ false → P b) → WhereFits (unless_large b) P

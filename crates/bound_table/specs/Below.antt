@@ -1,4 +1,4 @@
--- When one bound is below another, as a test on their structure.
+-- The test that one bound is below another, on their structure.
 use Rattle.std.specs.Prelude.{ℕ, zero, suc, ◌+◌, ◌≤◌, nat_le, ◌&&◌, ◌||◌, not, cond, Bool, true, false, List, [], ◌∷◌}
 use Rattle.std.specs.List.{list_any, list_all}
 use Rattle.bound_expr.specs.model.Bounds.{Bound, Constant, Input, SumOf, MaximumOf, PowerOf, val}

@@ -1,4 +1,4 @@
--- The sorts of bounds that are counted.
+-- The sorts of bounds that are counted in the order of parts.
 use Rattle.std.specs.Prelude.{Bool}
 use Rattle.bound_expr.specs.model.Bounds.{Bound}
 use Rattle.bound_expr.specs.Kinds.{is_constant, is_power, is_input}

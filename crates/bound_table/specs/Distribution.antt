@@ -71,7 +71,7 @@ abbrev pub is_multiplied_out : List Bound → Bool
 is_multiplied_out ps =
     has_sum ps && nat_le (all_widths ps) width_limit && nat_le (node_count (multiplied_out ps)) node_limit
 
--- a product multiplied out where it is; any other node as it stands
+-- a product multiplied out where it is one; any other node unchanged
 abbrev pub distributed : Kind → List Bound → Bound
 distributed AsProd ps = cond (is_multiplied_out ps) (multiplied_out ps) (whole AsProd ps)
 distributed k ps = whole k ps

@@ -1,4 +1,4 @@
--- Parts of a maximum that others make needless.
+-- The parts of a maximum that are needless because another part is above them.
 use Rattle.std.specs.Prelude.{ℕ, ◌+◌, slice_index_or, take, drop, cond, Bool, List, [], ◌∷◌, ◌++◌}
 use Rattle.std.specs.List.{list_any}
 use Rattle.bound_expr.specs.model.Bounds.{Bound, Constant}

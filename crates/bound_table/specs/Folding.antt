@@ -1,4 +1,4 @@
--- The cases that splice, fold and drop parts.
+-- The cases that flatten nodes, fold constants and drop parts.
 use Rattle.std.specs.Prelude.{ℕ, ◌==◌, nat_le, ◌&&◌, cond, Bool, false, List, [], ◌∷◌, ◌++◌}
 use Rattle.std.specs.List.{list_any, count_by}
 use Rattle.bound_expr.specs.model.Bounds.{Bound, Constant, SumOf, ProductOf, MaximumOf}
@@ -43,7 +43,7 @@ abbrev pub with_one_constant : ℕ → List Bound → List Bound
 with_one_constant c [] = []
 with_one_constant c (p ∷ ps) = cond (is_constant p) (Constant c ∷ without_constants ps) (p ∷ with_one_constant c ps)
 
--- two or more constants become one, where the first one stands, where what they make is at most 2^127 - 1
+-- two or more constants become one, at the position of the first, if the result is at most 2^127 - 1
 abbrev pub folded : Kind → List Bound → List Bound
 folded k ps =
     cond (nat_le 2 (count_by is_constant ps) && nat_le (all_joined k (constants_in ps)) constant_limit)
@@ -64,7 +64,7 @@ abbrev pub without_neutral : Kind → List Bound → List Bound
 without_neutral k [] = []
 without_neutral k (p ∷ ps) = cond (is_neutral k p) (without_neutral k ps) (p ∷ without_neutral k ps)
 
--- a node without parts becomes its constant, and a single part stands by itself
+-- a node without parts becomes its constant, and a node with a single part becomes that part
 abbrev pub simple : Kind → List Bound → Bound
 simple k [] = Constant (unit_of k)
 simple k (p ∷ []) = p

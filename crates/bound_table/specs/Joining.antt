@@ -1,4 +1,4 @@
--- Which neighbours are joined, and what a run of them becomes.
+-- Which neighbours are joined, and the result of joining a run of them.
 use Rattle.std.specs.Prelude.{Bool, List}
 use Rattle.bound_expr.specs.model.Bounds.{Bound}
 use Rattle.bound_table.specs.declared.kinds.Joining.{Joining}

@@ -1,4 +1,4 @@
--- Nodes with parts, whichever kind they are of.
+-- Nodes with parts, of any kind.
 use Rattle.std.specs.Prelude.{ℕ, zero, ◌+◌, ◌*◌, ◌==◌, max, ◌||◌, Bool, true, false, List, [], ◌∷◌}
 use Rattle.bound_expr.specs.model.Bounds.{Bound, Constant, Input, SumOf, ProductOf, MaximumOf}
 use Rattle.bound_expr.specs.Views.{parts_of}

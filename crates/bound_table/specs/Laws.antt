@@ -1,4 +1,4 @@
--- What a rewriting keeps.
+-- The properties that rewriting keeps.
 use Rattle.std.specs.Prelude.{◌≡◌, ℕ, List, [], ◌∷◌, ◌++◌}
 use Rattle.bound_expr.specs.model.Bounds.{Bound, val}
 use Rattle.bound_expr.specs.Numbers.{HasBasesFrom, HasSmallConstants, HasTidyNumbers, ReadsBelow}
@@ -13,7 +13,7 @@ pub record HasValueOf (outcome b : Bound) : Type 0 where
 pub record ReadsNoMore (outcome b : Bound) : Type 0 where
   pub each : (n : ℕ) → ReadsBelow n b → ReadsBelow n outcome
 
--- what is said of the numbers of a bound holds of those of another
+-- the properties of the numbers of one bound hold of those of another
 pub record KeepsNumbers (outcome b : Bound) : Type 0 where
   pub bases : (n : ℕ) → HasBasesFrom n b → HasBasesFrom n outcome
   pub constants : HasSmallConstants b → HasSmallConstants outcome

@@ -4,8 +4,10 @@ pub mod Below
 pub mod Rewriting
 pub mod InForce
 pub mod Laws
-pub mod Within
+pub mod RewriteResult
 pub mod Worked
+pub mod WorkedParts
+pub mod WorkedBelow
 -- what these say part by part
 pub mod Kinds
 pub mod Counting

@@ -19,7 +19,7 @@ use Rattle.bound_table.specs.Sorting.{sorted}
 use Rattle.bound_table.specs.Likes.{likes_joined}
 use Rattle.bound_table.specs.Dominance.{dominant}
 
--- what a case makes of a node of a kind with these parts
+-- the result of a case at a node of a kind with these parts
 abbrev pub at_parts : Case → Kind → List Bound → Bound
 at_parts Flat k ps = whole k (spliced k ps)
 at_parts FoldConst k ps = whole k (folded k ps)
@@ -34,13 +34,13 @@ at_parts Like k ps = whole k (likes_joined k ps)
 at_parts Dominate k ps = whole k (dominant k ps)
 at_parts Few k ps = simple k ps
 
--- what a case makes of a power
+-- the result of a case at a power
 abbrev pub at_power : Case → ℕ → Bound → Bound
 at_power PowerConst n e = evaluated n e
 at_power PowerShift n e = shifted n e
 at_power c n e = PowerOf n e
 
--- what a case makes of a node
+-- the result of a case at a node
 unfoldable pub at_node : Case → Bound → Bound
 at_node c (SumOf ps) = at_parts c AsSum (list_of ps)
 at_node c (ProductOf ps) = at_parts c AsProd (list_of ps)
@@ -48,7 +48,7 @@ at_node c (MaximumOf ps) = at_parts c AsMax (list_of ps)
 at_node c (PowerOf n e) = at_power c n e
 at_node c b = b
 
--- the cases applied once each, in order, to the node as it then stands
+-- the cases applied to a node, once each, in order, each to the result of the one before
 abbrev pub at_node_all : List Case → Bound → Bound
 at_node_all [] b = b
 at_node_all (c ∷ cs) b = at_node_all cs (at_node c b)

@@ -23,7 +23,7 @@ abbrev pub runs_of : (Bound → Bound → Bool) → List Bound → List Run
 runs_of together [] = []
 runs_of together (p ∷ ps) = with_part_before together p (runs_of together ps)
 
--- runs joined, each where it stands
+-- runs joined, each in its own position
 abbrev pub all_runs_joined : (List Bound → List Bound) → List Run → List Bound
 all_runs_joined join [] = []
 all_runs_joined join (r ∷ rs) = join (run_parts r) ++ all_runs_joined join rs

@@ -50,7 +50,7 @@ abbrev pub inserted : Kind → Bound → List Bound → List Bound
 inserted k p [] = p ∷ []
 inserted k p (q ∷ qs) = cond (is_lt (order_of k q p)) (q ∷ inserted k p qs) (p ∷ q ∷ qs)
 
--- the parts in order; equal ones stay as they stood
+-- the parts in order; equal parts keep their order
 abbrev pub sorted : Kind → List Bound → List Bound
 sorted k [] = []
 sorted k (p ∷ ps) = inserted k p (sorted k ps)
@@ -70,7 +70,7 @@ abbrev pub starts_before : Kind → Bound → List Bound → Bool
 starts_before k p [] = false
 starts_before k p (q ∷ qs) = is_lt (order_of k q p)
 
--- two lists in order merged: each of the first stands behind those of the second that come before it
+-- two ordered lists merged: each part of the first list follows those of the second that come before it
 abbrev pub merged : Kind → List Bound → List Bound → List Bound
 merged k [] qs = qs
 merged k (p ∷ ps) qs = coming_before k p qs ++ p ∷ merged k ps (not_before k p qs)

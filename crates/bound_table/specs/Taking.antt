@@ -1,4 +1,4 @@
--- How parts take parts, one offered after another.
+-- How parts of one bound are paired with parts of another, offered one after the other.
 use Rattle.std.specs.Prelude.{◌≡◌, ℕ, ◌<◌, length, slice_index_or, ◌&&◌, cond, Bool, true, false, List, [], ◌∷◌}
 use Rattle.std.specs.Prelude.{slice_set}
 use Rattle.std.specs.List.{list_any, list_all}
@@ -42,6 +42,6 @@ abbrev pub input_among : List Bound → Bound → Bool
 input_among ts (Input i) = list_any (is_same_input (Input i)) ts
 input_among ts _ = true
 
--- the marks tell which inputs are taken, as far as there is room
+-- the marks are those of the inputs that are taken, as far as there is room
 pub record IsMarked (marks : List Bool) (ts : List Bound) : Type 0 where
   pub each : (i : ℕ) → i < length marks → slice_index_or marks i false ≡ list_any (is_same_input (Input i)) ts

@@ -9,7 +9,7 @@ abbrev pub leading_constant : List Bound → ℕ
 leading_constant (Constant c ∷ ps) = c
 leading_constant _ = 1
 
--- the factors after a constant that stands first
+-- the factors after a leading constant
 abbrev pub after_constant : List Bound → List Bound
 after_constant (Constant c ∷ ps) = ps
 after_constant ps = ps

@@ -1,4 +1,4 @@
--- What the cases of powers and of distribution make of small bounds, and both tables of some, worked out by hand.
+-- Worked values of the cases on powers and of distribution, and of rewriting by both tables.
 use Rattle.std.specs.Prelude.{◌≡◌, ◌^◌, true, false, [], ◌∷◌}
 use Rattle.bound_expr.specs.model.Bounds.{Bound, Constant, Input, SumOf, ProductOf, MaximumOf, PowerOf, NoParts, Part}
 use Rattle.bound_expr.specs.model.Worked.{one_part, two_parts}
@@ -60,8 +60,8 @@ pub record PowersAreMerged : Type 0 where
   pub in_sum : powers_merged AsSum (PowerOf 2 input_a ∷ PowerOf 2 input_b ∷ [])
       ≡ PowerOf 2 input_a ∷ PowerOf 2 input_b ∷ []
 
--- the first sum alone is multiplied out, in place; a product in a sum gives its factors, and a factor alone stands by
--- itself
+-- only the first sum is multiplied out, in place; a product in a sum contributes its factors, and a single factor
+-- replaces its product
 pub record ProductsAreMultipliedOut : Type 0 where
   pub in_place : distributed AsProd (input_c ∷ a_and_b ∷ input_d ∷ []) ≡ SumOf (two_parts
       (ProductOf (Part input_c (Part input_a (Part input_d NoParts))))

@@ -1,3 +1,5 @@
+//! Counts the parts of a kind in a list.
+
 ghost use Rattle.std.specs.Prelude.{◌≡◌};
 ghost use Rattle.std.specs.List.{list_any, count_by};
 ghost use Rattle.bound_expr.specs.Views.{bound_of, bounds_of};

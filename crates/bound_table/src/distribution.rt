@@ -1,3 +1,5 @@
+//! Multiplies a product out over its first sum.
+
 ghost use Rattle.std.specs.Prelude.{◌≡◌, ◌-◌, ◌+◌, ◌^◌, ◌++◌, ◌==◌, min, length, true, false};
 ghost use Rattle.std.specs.Prelude.{IfOk, OnOk, MatchOption};
 ghost use Rattle.bound_expr.specs.Views.{bound_of, bounds_of, parts_of};
@@ -29,7 +31,7 @@ struct Split<'a> {
     after: &'a [Bound],
 }
 
-// A product multiplied out over its first sum, where it is; any other node as it stands.
+// A product multiplied out over its first sum, in place; any other node unchanged.
 pub(crate) fn distributed(alloc: Global, kind: Kind, parts: Vec<Bound>) -> Result<Bound, Memory>
     ensures { IfOk result (λ r. bound_of r ≡ distributed_of kind (bounds_of parts.items)) }
 {
@@ -85,7 +87,7 @@ fn split_at_sum(parts: &[Bound]) -> Option<Split<'_>>
     None
 }
 
-// What the numbers of parts of all the sums among the factors multiply to, or 2^127 where that is more.
+// The product of the numbers of parts of all the sums among the factors, or 2^127 where that is more.
 fn all_widths(factors: &[Bound]) -> u128
     ensures { result ≡ capped (all_widths_of (bounds_of factors.now)) }
 {
@@ -120,7 +122,7 @@ fn nodes_in_places(before: &[Bound], parts: &[Bound], after: &[Bound]) -> u64
     nodes
 }
 
-// The number of nodes of the product with the part in its place, where the other factors have so many.
+// The number of nodes of the product with the part in its place, where the other factors have this many.
 fn nodes_in_place(before: &[Bound], part: &Bound, after: &[Bound], others: u64) -> u64
     requires { others ≡ min (node_count_of_all (parts_of (bounds_of before.now))
         + node_count_of_all (parts_of (bounds_of after.now))) (2 ^ 64 - 1) }
@@ -183,7 +185,7 @@ fn in_place(alloc: Global, before: &[Bound], part: &Bound, after: &[Bound]) -> R
     Ok(product_or_single(factors))
 }
 
-// Puts copies of bounds behind others.
+// Appends copies of bounds.
 fn push_copies(alloc: Global, bounds: &[Bound], copies: &mut Vec<Bound>) -> Result<(), Memory>
     ensures { OnOk result (bounds_of copies.new.items ≡ bounds_of copies.old.items ++ bounds_of bounds.now) }
 {

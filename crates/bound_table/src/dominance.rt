@@ -1,3 +1,5 @@
+//! Drops the parts of a maximum that are below another part.
+
 ghost use Rattle.std.specs.Prelude.{◌≡◌, ◌<◌, [], length, remove};
 ghost use Rattle.bound_expr.specs.Views.{bounds_of};
 ghost use Rattle.bound_table.specs.Dominance.{dominant as dominant_of, dominant_after, below_another};

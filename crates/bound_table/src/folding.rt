@@ -1,3 +1,5 @@
+//! The simple cases: flattens nested nodes, folds constants, and drops zeros, neutral parts and needless nodes.
+
 ghost use Rattle.std.specs.Prelude.{◌≡◌, ◌++◌, ◌∷◌, [], IfOk, OnOk, MatchResult};
 ghost use Rattle.bound_expr.specs.Views.{bound_of, bounds_of};
 ghost use Rattle.bound_expr.specs.Capped.{capped};
@@ -37,7 +39,7 @@ pub(crate) fn spliced(alloc: Global, kind: Kind, parts: Vec<Bound>) -> Result<Ve
     Ok(flat)
 }
 
-// Puts a part behind others, its own parts in its place where it is of the kind.
+// Appends a part, or its own parts in its place if it is of the kind.
 pub(crate) fn push_spread(kind: Kind, part: Bound, flat: &mut Vec<Bound>) -> Result<(), Memory>
     ensures { OnOk result (bounds_of flat.new.items ≡ bounds_of flat.old.items ++ parts_of_kind kind (bound_of part)) }
 {
@@ -63,7 +65,7 @@ fn inner_parts(kind: Kind, part: Bound) -> Result<Vec<Bound>, Bound>
     }
 }
 
-// Two or more constants become one, where the first one stands, where what they make is at most 2^127-1.
+// Two or more constants become one, at the position of the first, if the result is at most 2^127-1.
 pub(crate) fn folded(alloc: Global, kind: Kind, parts: Vec<Bound>) -> Result<Vec<Bound>, Memory>
     ensures { IfOk result (λ r. bounds_of r.items ≡ folded_of kind (bounds_of parts.items)) }
 {
@@ -77,7 +79,7 @@ pub(crate) fn folded(alloc: Global, kind: Kind, parts: Vec<Bound>) -> Result<Vec
     with_one_constant(alloc, total, parts)
 }
 
-// What the constants make, joined as the kind joins its parts, or 2^127 where it is more.
+// The constants joined as the kind joins its parts, or 2^127 where that is more.
 fn constants_joined(kind: Kind, parts: &[Bound]) -> u128
     ensures { result ≡ capped (all_joined kind (constants_in (bounds_of parts.now))) }
 {
@@ -179,7 +181,7 @@ fn is_neutral(kind: Kind, part: &Bound) -> bool
     }
 }
 
-// A node without parts becomes its constant, and a single part stands by itself.
+// A node without parts becomes its constant, and a node with a single part becomes that part.
 pub(crate) fn simple(kind: Kind, parts: Vec<Bound>) -> Bound
     ensures { bound_of result ≡ simple_of kind (bounds_of parts.items) }
 {

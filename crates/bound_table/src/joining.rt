@@ -1,3 +1,5 @@
+//! Joins runs of neighbouring parts.
+
 ghost use Rattle.std.specs.Prelude.{◌≡◌, ◌++◌, IfOk, OnOk};
 ghost use Rattle.bound_expr.specs.Views.{bound_of, bounds_of};
 ghost use Rattle.bound_table.specs.Runs.{runs_of, all_runs_joined, last_belongs};
@@ -10,7 +12,7 @@ use bound_expr::{Bound, Memory};
 use std::alloc::Global;
 use std::mem;
 
-// Each longest run of neighbours that belong together joined, where it stands.
+// Joins each longest run of neighbours that belong together, in its own position.
 pub(crate) fn runs_joined(
     alloc: Global,
     joining: Joining,
@@ -52,7 +54,7 @@ fn belong_together(joining: Joining, part: &Bound, other: &Bound) -> bool
     }
 }
 
-// Puts a run behind what is done, joined.
+// Appends a run, joined, to the finished parts.
 fn push_joined(
     alloc: Global,
     joining: Joining,

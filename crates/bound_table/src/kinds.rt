@@ -1,10 +1,10 @@
-/// One case of a rewriting: what is done at a node of a bound.
+/// The cases of rewriting: what each does at a node of a bound.
 #[derive(Clone, Copy, Debug, PartialEq, Eq, Hash)]
 pub enum Case {
     /// A sum in a sum, a product in a product and a maximum in a maximum is replaced by its parts, in place.
     Flat,
-    /// Two or more constants become one, where the first one stands, where what they make is at most 2^127-1; else none
-    /// is folded.
+    /// Two or more constants become one, at the position of the first, if the result is at most 2^127-1; else none is
+    /// folded.
     FoldConst,
     /// A product with a factor 0 becomes 0.
     ZeroProduct,
@@ -15,24 +15,24 @@ pub enum Case {
     /// A power of a sum with a constant n among its parts, the first one, becomes the product of c^n and the power of
     /// the other parts, a single one by itself, where c is the base and c^n is at most 2^127-1.
     PowerShift,
-    /// Each longest run of neighbouring factors that are powers of one base, two at least, becomes one power of that
-    /// base, whose exponent is the sum of theirs. An exponent that is a sum gives its parts.
+    /// Each longest run of neighbouring factors that are powers of one base, at least two, becomes one power of that
+    /// base, whose exponent is the sum of theirs. An exponent that is a sum contributes its parts.
     PowerMerge,
     /// A product with a sum among its factors becomes the sum, over the parts of the first such factor, of the product
-    /// with that part in its place; a product in that place gives its factors, and a single factor stands for itself.
-    /// It does so where the numbers of parts of all the sums among its factors multiply to at most 64, and the outcome
-    /// has at most 4,096 nodes.
+    /// with that part in its place; a product in that place contributes its factors, and a single factor replaces its
+    /// product. It does so where the numbers of parts of all the sums among its factors multiply to at most 64, and the
+    /// result has at most 4,096 nodes.
     Distribute,
-    /// Factors are sorted by kind and then structurally, other parts by how many powers, sums and maximums, and
-    /// variables are among their factors, more first, then by the factors, and then by the constant, greater first.
-    /// Equal ones stay as they stood.
+    /// Factors are sorted by kind and then structurally. Other parts are sorted by the number of powers, sums, maximums
+    /// and variables among their factors, more first, then by the factors, and then by the constant, greater first.
+    /// Equal parts keep their order.
     Order,
     /// Each longest run of neighbouring parts of a sum with the same factors becomes one part, the sum of their
     /// constants times these factors, where that sum is at most 2^127-1.
     Like,
     /// A part of a maximum that is below another one is dropped.
     Dominate,
-    /// A node of no parts becomes a constant, and a part alone stands for itself.
+    /// A node without parts becomes a constant, and a node with a single part becomes that part.
     Few,
 }
 
@@ -86,7 +86,7 @@ pub enum Kind {
     AsMax,
 }
 
-/// The bounds that are counted, or looked for, among others.
+/// The sorts of bounds that are counted or searched among others.
 #[derive(Clone, Copy, Debug, PartialEq, Eq)]
 pub(crate) enum Counted {
     /// Constants.
@@ -101,7 +101,7 @@ pub(crate) enum Counted {
     Inputs,
 }
 
-/// What two bounds are when one looks for another that it is below.
+/// The context in which a bound is paired with another that it is below.
 #[derive(Clone, Copy, Debug, PartialEq, Eq)]
 pub(crate) enum Pairing {
     /// Parts of a sum.

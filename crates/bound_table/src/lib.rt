@@ -1,5 +1,7 @@
-//! The rewriting of bounds by a table of cases, and the test that one bound is below another. What a rewriting gives has
-//! the value of what it was given, and a bound that is below another has no greater value.
+//! Simplifies bounds by a table of rewriting cases, and compares two bounds.
+//!
+//! Builds on `bound_expr`. Main guarantee: a rewritten bound has the same value at all arguments as the bound before
+//! (`simplify`), and where `below` answers yes, the first bound's value is never greater than the second's.
 #![tactic(auto, using(crate::proofs::Loops::views))]
 
 mod counting;
@@ -24,5 +26,7 @@ pub use kinds::{Case, Cases, LARGE, SMALL};
 pub use lower::below;
 pub use rewriting::{rewrite, simplify, tables_are_as_defined};
 pub use structure::compare;
-pub use within::{Within, rewrite_within};
-pub use worked::cases_are_as_worked_out;
+pub use within::{RewriteResult, rewrite_within};
+pub use worked::{
+    cases_are_as_worked_out, lower_bounds_are_as_worked_out, parts_are_as_worked_out,
+};

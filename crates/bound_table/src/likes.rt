@@ -1,3 +1,5 @@
+//! Joins like terms of a sum: those that differ in their constant factors alone.
+
 ghost use Rattle.std.specs.Prelude.{◌≡◌, ◌++◌, ◌∷◌, [], ◌^◌, IfOk, OnOk};
 ghost use Rattle.bound_expr.specs.Views.{bound_of, bounds_of};
 ghost use Rattle.bound_expr.specs.Capped.{capped};
@@ -37,7 +39,7 @@ pub(crate) fn is_like(part: &Bound, other: &Bound) -> bool
     !first.factors.is_empty() && factor_lists(first.factors, second.factors) == Ordering::Equal
 }
 
-// Puts a run behind what is done: as one part where it has two or more and their constants add up to at most 2^127-1.
+// Appends a run to the finished parts: as one part if it has two or more and their constants add up to at most 2^127-1.
 pub(crate) fn push_likes(
     alloc: Global,
     run: Vec<Bound>,
@@ -90,7 +92,7 @@ fn factors_from(alloc: Global, part: Bound) -> Result<Vec<Bound>, Memory>
     }
 }
 
-// The factors behind a constant that stands first.
+// The factors behind a leading constant.
 fn without_leading(parts: Vec<Bound>) -> Vec<Bound>
     ensures { bounds_of result.items ≡ after_constant (bounds_of parts.items) }
 {

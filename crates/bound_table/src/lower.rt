@@ -1,3 +1,5 @@
+//! The test `below`: a sufficient condition, on the structure of two bounds, for an order of their values.
+
 ghost use Rattle.std.specs.Prelude.{◌≡◌, IsTrue, ◌≤◌, length};
 ghost use Rattle.std.specs.List.{list_any, list_all};
 ghost use Rattle.bound_expr.specs.model.Bounds.{IsBased};
@@ -14,11 +16,11 @@ use crate::marks::{MARKED, is_same_var, mark};
 use crate::terms::{is_power_or_var, term_of, terms_of};
 use bound_expr::Bound;
 
-/// Whether `a` is below `b`, as a test on their structure; a yes means that no value of `a` is greater than that of
+/// Whether `a` is below `b`, by a test on their structure; a yes means that no value of `a` is greater than that of
 /// `b`.
 ///
-/// A constant 0 is below every bound. A maximum is below what all of its parts are below, and any other bound is below
-/// a maximum where it is below one of its parts. Otherwise each part of `a`, in order, has to take the first part of
+/// A constant 0 is below every bound. A maximum is below a bound if all of its parts are, and any other bound is below
+/// a maximum if it is below one of its parts. Otherwise each part of `a`, in order, is paired with the first part of
 /// `b`, after the one taken before, that it is below as a constant times factors.
 pub fn below(a: &Bound, b: &Bound) -> bool
     requires a_based { IsBased (bound_of a.now) }
@@ -108,7 +110,7 @@ fn still_left<'a>(pairing: Pairing, left: &'a [Bound], other: &Bound) -> &'a [Bo
     }
 }
 
-// Whether one is below another as what both are.
+// Whether one bound is below another in their context.
 #[cycle(below)]
 fn is_paired(pairing: Pairing, part: &Bound, other: &Bound) -> bool
     ensures { result ≡ paired_below pairing (λ p q. is_lower p q) (bound_of part.now) (bound_of other.now) }
@@ -131,7 +133,7 @@ fn is_term_below(part: &Bound, other: &Bound) -> bool
         && factors_below(lesser.factors, greater.factors)
 }
 
-// Whether each factor takes one of the others that it is below, and what is left over may be left.
+// Whether each factor can be paired with one of the others that it is below, and the remaining ones may remain.
 #[cycle(below)]
 fn factors_below(factors: &[Bound], others: &[Bound]) -> bool
     ensures { result ≡ takes_fully (factor_below (λ p q. is_lower p q)) (bounds_of factors.now) (bounds_of others.now) }

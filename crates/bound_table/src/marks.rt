@@ -1,3 +1,5 @@
+//! Marks the inputs that a test has taken.
+
 ghost use Rattle.std.specs.Prelude.{◌≡◌};
 ghost use Rattle.bound_expr.specs.Views.{bound_of};
 ghost use Rattle.bound_table.specs.Kinds.{is_same_input};

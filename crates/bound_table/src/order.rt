@@ -1,3 +1,5 @@
+//! The order in which the parts of a sum, a product or a maximum are sorted.
+
 ghost use Rattle.std.specs.Prelude.{◌≡◌};
 ghost use Rattle.std.specs.Cmp.Lexicographic.{slice_cmp};
 ghost use Rattle.bound_expr.specs.Views.{bound_of, bounds_of};

@@ -1,3 +1,5 @@
+//! The cases on powers: evaluates those of constants, moves numbers out of exponents, and merges powers of one base.
+
 ghost use Rattle.std.specs.Prelude.{◌≡◌, ◌++◌, IfOk, OnOk};
 ghost use Rattle.bound_expr.specs.Views.{bound_of, bounds_of};
 ghost use Rattle.bound_table.specs.Powers.{small_power as small_power_of, number_of_power, evaluated as evaluated_of};
@@ -148,7 +150,7 @@ pub(crate) fn have_one_base(factor: &Bound, other: &Bound) -> bool
     }
 }
 
-// Puts a run of powers behind what is done: as one power where it has two or more.
+// Appends a run of powers to the finished factors: as one power if it has two or more.
 pub(crate) fn push_powers(
     alloc: Global,
     run: Vec<Bound>,
@@ -196,7 +198,7 @@ fn exponents(alloc: Global, powers: Vec<Bound>) -> Result<Vec<Bound>, Memory>
     Ok(all)
 }
 
-// Puts the exponent of a power behind others, the parts of a sum in its place.
+// Appends the exponent of a power, or the parts of a sum in its place.
 fn push_exponent(power: Bound, all: &mut Vec<Bound>) -> Result<(), Memory>
     ensures { OnOk result (bounds_of all.new.items ≡ bounds_of all.old.items ++ exponent_of (bound_of power)) }
 {

@@ -1,3 +1,5 @@
+//! Rewrites bounds by a table of cases, in passes.
+
 ghost use Rattle.std.specs.Prelude.{◌≡◌, IfOk};
 ghost use Rattle.bound_expr.specs.model.Bounds.{IsBased};
 ghost use Rattle.bound_expr.specs.Numbers.{HasTidyNumbers};
@@ -23,8 +25,8 @@ use std::alloc::Global;
 // How many passes are made at most.
 const PASS_LIMIT: u32 = 16;
 
-// The arms of a match on the case: each case by its name, with what it makes of the node; behind a semicolon what the
-// other cases make of it.
+// The arms of a match on the case: each case by its name, with its result at the node; behind a semicolon the result of
+// the other cases.
 macro_rules! cases {
     ($case:expr; $($name:ident => $outcome:expr),+ $(,)?) => {
         match $case {
@@ -41,8 +43,8 @@ macro_rules! cases {
 
 /// The bound `b` rewritten by a table of cases.
 ///
-/// A pass builds the bound again from the leaves up, and applies the cases of the table once each, in order, to each
-/// node as it then stands. There are as many passes as change something, at most sixteen.
+/// A pass builds the bound again from the leaves up, and applies the cases of the table to each node, once each, in
+/// order, each to the result of the one before. Passes are repeated while they change something, at most sixteen times.
 ///
 /// # Errors
 ///
@@ -140,7 +142,7 @@ fn pass_each(alloc: Global, cases: &[Case], parts: &[Bound]) -> Result<Vec<Bound
     Ok(outcomes)
 }
 
-// The cases applied once each, in order, to a node as it then stands.
+// The cases applied to a node, once each, in order, each to the result of the one before.
 fn at_cases(alloc: Global, cases: &[Case], node: Bound) -> Result<Bound, Memory>
     ensures { IfOk result (λ r. bound_of r ≡ at_node_all cases.now (bound_of node)) }
 {

@@ -1,3 +1,5 @@
+//! Sorts parts by merging.
+
 ghost use Rattle.std.specs.Prelude.{◌≡◌, ◌++◌, IfOk, OnOk};
 ghost use Rattle.bound_expr.specs.Views.{bound_of, bounds_of};
 ghost use Rattle.bound_table.specs.Sorting.{sorted, merged, coming_before, not_before, starts_before};
@@ -9,7 +11,7 @@ use std::alloc::Global;
 use std::cmp::Ordering;
 use std::collections::VecDeque;
 
-// The parts in the order of the kind, by merging; equal ones stay as they stood.
+// The parts in the order of the kind, by merging; equal parts keep their order.
 pub(crate) fn sort(alloc: Global, kind: Kind, parts: Vec<Bound>) -> Result<Vec<Bound>, Memory>
     ensures { IfOk result (λ r. bounds_of r.items ≡ sorted kind (bounds_of parts.items)) }
 {

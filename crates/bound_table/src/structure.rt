@@ -1,3 +1,5 @@
+//! The structural order of bounds.
+
 ghost use Rattle.std.specs.Prelude.{◌≡◌};
 ghost use Rattle.std.specs.Ordering.{is_eq};
 ghost use Rattle.bound_expr.specs.Views.{bound_of, bounds_of, parts_of};

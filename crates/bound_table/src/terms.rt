@@ -1,3 +1,5 @@
+//! Reads a part as a constant factor times other factors, and a bound as a list of terms.
+
 ghost use Rattle.std.specs.Prelude.{◌≡◌};
 ghost use Rattle.bound_expr.specs.Views.{bound_of, bounds_of};
 ghost use Rattle.bound_expr.specs.Kinds.{is_constant, is_sum as is_sum_of};

@@ -1,3 +1,5 @@
+//! Rewrites bounds within the limits of nodes and levels.
+
 ghost use Rattle.std.specs.Prelude.{◌≡◌, false, IfOk};
 ghost use Rattle.bound_expr.specs.model.Bounds.{IsBased};
 ghost use Rattle.bound_expr.specs.Numbers.{HasTidyNumbers};
@@ -5,20 +7,20 @@ ghost use Rattle.bound_expr.specs.Tidy.{IsTidy};
 ghost use Rattle.bound_expr.specs.Measure.{is_large};
 ghost use Rattle.bound_expr.specs.Views.{bound_of};
 ghost use Rattle.bound_table.specs.Laws.{HasValueOf, ReadsNoMore, KeepsNumbers};
-ghost use Rattle.bound_table.specs.Within.{answer_of, unless_large as unless_large_of, rewritten_within, WhereFits};
+ghost use Rattle.bound_table.specs.RewriteResult.{answer_of, unless_large as unless_large_of, rewritten_within, WhereFits};
 
 use crate::rewriting::rewrite;
 use bound_expr::{Bound, Memory};
 use std::alloc::Global;
 
-/// What a rewriting within the limits gives.
+/// The result of rewriting within the limits.
 #[derive(Debug, PartialEq, Eq, Drop)]
-pub enum Within {
+pub enum RewriteResult {
     /// The rewritten bound. Neither it nor the bound before is large.
     Rewritten(Bound),
-    /// The bound is large, or what it is rewritten to.
+    /// The bound, or its rewriting, is large.
     Large {
-        /// How many nodes it has: before the rewriting where the bound is large as it is, and after it else.
+        /// The number of nodes: of the bound before rewriting if that is large, and else of the result.
         nodes: u64,
     },
 }
@@ -30,7 +32,7 @@ pub enum Within {
 /// # Errors
 ///
 /// `Memory` where an allocation fails.
-pub fn rewrite_within(alloc: Global, b: &Bound) -> Result<Within, Memory>
+pub fn rewrite_within(alloc: Global, b: &Bound) -> Result<RewriteResult, Memory>
     ensures outcome { IfOk result (λ w. answer_of w ≡ rewritten_within (bound_of b.now)) }
 
     // What is rewritten isn't large, and has all that a rewriting has.
@@ -45,25 +47,25 @@ pub fn rewrite_within(alloc: Global, b: &Bound) -> Result<Within, Memory>
 }
 
 // The answer: a large bound is looked at before it is rewritten.
-#[tactic(auto, using(crate::proofs::Loops::views), unfolding(crate::specs::Within::rewritten_within))]
-fn measured_first(alloc: Global, b: &Bound) -> Result<Within, Memory>
+#[tactic(auto, using(crate::proofs::Loops::views), unfolding(crate::specs::RewriteResult::rewritten_within))]
+fn measured_first(alloc: Global, b: &Bound) -> Result<RewriteResult, Memory>
     ensures { IfOk result (λ w. answer_of w ≡ rewritten_within (bound_of b.now)) }
 {
     if b.is_large() {
         let (nodes, _) = b.measure();
-        return Ok(Within::Large { nodes });
+        return Ok(RewriteResult::Large { nodes });
     }
     let outcome = rewrite(alloc, b)?;
     Ok(unless_large(outcome))
 }
 
 // A bound that has been rewritten, unless it is large.
-fn unless_large(bound: Bound) -> Within
+fn unless_large(bound: Bound) -> RewriteResult
     ensures { answer_of result ≡ unless_large_of (bound_of bound) }
 {
     if bound.is_large() {
         let (nodes, _) = bound.measure();
-        return Within::Large { nodes };
+        return RewriteResult::Large { nodes };
     }
-    Within::Rewritten(bound)
+    RewriteResult::Rewritten(bound)
 }

@@ -1,9 +1,15 @@
+//! Worked values of the cases on powers and products, and of whole rewritings.
+
 ghost use Rattle.bound_table.specs.Worked.{PowersAreEvaluated, PowersAreShifted, PowersAreMerged};
 ghost use Rattle.bound_table.specs.Worked.{ProductsAreMultipliedOut, LimitsOfProductsAreMet, TablesAreWorkedOut};
+ghost use Rattle.bound_table.specs.WorkedBelow.{ConstantsAreBelow, SumsAreBelow, MaximumsAreBelow, PowersAreBelow};
+ghost use Rattle.bound_table.specs.WorkedBelow.{ProductsAreBelow};
+ghost use Rattle.bound_table.specs.WorkedParts.{PartsAreSpliced, ConstantsAreFolded, ProductsWithZeroAreZero};
+ghost use Rattle.bound_table.specs.WorkedParts.{NeutralPartsAreDropped, PartsAreSorted, LikePartsAreJoined};
+ghost use Rattle.bound_table.specs.WorkedParts.{DominatedPartsAreDropped, FewPartsAreSimple};
 
-/// The definitions give small bounds what was worked out by hand: what the cases that evaluate, shift and merge powers
-/// make of them, which products are multiplied out and to what, and what both tables rewrite four bounds to. Its
-/// contract is these values; it does nothing.
+/// Worked values of the cases that evaluate, shift and merge powers, of which products are multiplied out and to what,
+/// and of four bounds rewritten by both tables. Its contract is these values; it has no code.
 pub fn cases_are_as_worked_out()
     ensures evaluated { PowersAreEvaluated }
     ensures shifted { PowersAreShifted }
@@ -11,4 +17,27 @@ pub fn cases_are_as_worked_out()
     ensures multiplied { ProductsAreMultipliedOut }
     ensures limits { LimitsOfProductsAreMet }
     ensures tables { TablesAreWorkedOut }
+{}
+
+/// The definitions give small bounds what was worked out by hand: what each case that splices, folds, drops, sorts or
+/// joins parts makes of them, and what it leaves. Its contract is these values; it does nothing.
+pub fn parts_are_as_worked_out()
+    ensures spliced { PartsAreSpliced }
+    ensures folded { ConstantsAreFolded }
+    ensures zero { ProductsWithZeroAreZero }
+    ensures neutral { NeutralPartsAreDropped }
+    ensures sorted { PartsAreSorted }
+    ensures likes { LikePartsAreJoined }
+    ensures dominated { DominatedPartsAreDropped }
+    ensures few { FewPartsAreSimple }
+{}
+
+/// Small bounds are below each other, or aren't, as was worked out by hand. Its contract is these values; it does
+/// nothing.
+pub fn lower_bounds_are_as_worked_out()
+    ensures constants { ConstantsAreBelow }
+    ensures sums { SumsAreBelow }
+    ensures maximums { MaximumsAreBelow }
+    ensures powers { PowersAreBelow }
+    ensures products { ProductsAreBelow }
 {}

@@ -11,7 +11,7 @@ use Rattle.bound_text.specs.Fronts.{nodes_of}
 use Rattle.bound_text.specs.Steps.{when, front_at, with_copies, end_run, caret_behind}
 use Rattle.bound_text.specs.Checks.{is_large_number}
 use Rattle.bound_text.specs.Reading.{has_many}
-use Rattle.bound_text.specs.Carrying.{copies_within_limit, begun_run, behind_run, IsCarried, RunsAreTold}
+use Rattle.bound_text.specs.Carrying.{copies_within_limit, begun_run, behind_run, IsCarried, RunsAreWorkedOut}
 use Rattle.bound_text.proofs.RunLaws.{product_two, node_count-with_copies}
 use Rattle.bound_text.proofs.PartLaws.{product_node-with_part}
 use Rattle.bound_text.proofs.StepCases.{of_run}
@@ -80,7 +80,7 @@ run_large outer ts fs n i more h = ap (λ (v : Bool). has_many (when v f)) more 
     f : Front
     f = front_at outer ts (with_copies n i fs) ItemRead
 
--- or by what stands before
+-- or by what comes before
 behind_large : (outer : Outer) (ts fs : Parts) (n i : ℕ) → nat_lt 1 n ≡ true → nat_lt node_limit (nodes_of (front_at outer ts fs (RunCaret i))) ≡ true → has_many (end_run outer ts fs i (Number n)) ≡ true
 behind_large outer ts fs zero i more h = cc
 behind_large outer ts fs (suc zero) i more h = cc
@@ -94,7 +94,7 @@ behind_large outer ts fs (suc (suc n)) i more h =
     g : Front
     g = front_at outer ts (with_copies (suc (suc n)) i fs) ItemRead
 
--- so it is too large as it is carried where it is
+-- so the capped number of copies is too large exactly where the written one is
 pub run_many : (outer : Outer) (ts fs : Parts) (n i : ℕ)
     → has_many (end_run outer ts fs i (Number (copies_within_limit (nodes_of (front_at outer ts fs (RunCaret i))) n))) ≡ has_many (end_run outer ts fs i (Number n))
 run_many outer ts fs n i = go (nat_lt 1 n) refl
@@ -143,7 +143,7 @@ carries : (fs : Parts) (n kept i nodes before : ℕ) (many : Bool) → nodes_of 
 carries fs n kept i nodes before many e b more k m = record {
   copies = ap (λ (j : ℕ). end_run Whole NoParts fs i (Number (copies_within_limit j n))) e ∙ ap (λ (j : ℕ). end_run Whole NoParts fs i (Number j)) k;
   written = written;
-  told = run_many Whole NoParts fs n i ∙ written;
+  worked = run_many Whole NoParts fs n i ∙ written;
 }
   where
     count : nodes_of (front_at Whole NoParts (with_copies n i fs) ItemRead) ≡ 1 + before + n
@@ -167,8 +167,8 @@ carries_behind : (k n kept : ℕ) (many : Bool) → nat_lt 0 k ≡ true → nat_
 carries_behind k n kept many some = carries (with_copies k 0 NoParts) n kept 1 (k + 2) k many (behind_nodes k some) (omega (arith, node_count-with_copies k 0 NoParts))
 
 -- the worked runs
-pub runs_are_told : RunsAreTold
-runs_are_told = record {
+pub runs_are_worked : RunsAreWorkedOut
+runs_are_worked = record {
   largest = carries_begun 4095 4095 false refl refl refl;
   one_more = carries_begun 4096 4096 true refl refl refl;
   longest = carries_begun 4097 4097 true refl refl refl;

@@ -1,4 +1,4 @@
--- No mark hangs on how large a base is, nor on how long a run is.
+-- No mark depends on how large a base is, nor on how long a run is.
 use Rattle.std.proofs.Common.{◌≡◌, ℕ, zero, suc, ◌-◌, ◌+◌, ◌^◌, ◌<◌, ◌≤◌, Bool, true, false, cond, not, ◌&&◌, min}
 use Rattle.std.proofs.Common.{nat_lt, nat_le, List, [], ◌∷◌, Option, Some, None, refl, ap, sym, subst, ◌∙◌, arith}
 use Rattle.std.specs.Prelude.{IsTrue, Result, Ok, Err}
@@ -29,7 +29,7 @@ use Rattle.bound_text.specs.declared.state.Position.TheVariants as at
 use Rattle.bound_text.proofs.PartLaws.{init-with_part, last-with_part}
 use Rattle.bound_text.proofs.RunLaws.{product_two, node_count-with_copies, copies_settled}
 use Rattle.bound_text.proofs.CarriedNodes.{kept_few, kept_two, is_several, are_two, are_few, over, are_over, is_within}
-use Rattle.bound_text.proofs.CarriedNodes.{are_within, kept_short, run_many, base_many, runs_are_told}
+use Rattle.bound_text.proofs.CarriedNodes.{are_within, kept_short, run_many, base_many, runs_are_worked}
 use Rattle.bound_text.proofs.StepCases.{step_leads}
 use Rattle.bound_text.proofs.TreeSizes.{grows}
 use Rattle.bound_text.proofs.MarkLaws.{copies_behind, ends_nothing}
@@ -92,7 +92,7 @@ base_alike outer ts fs (Some (ProductOf bs)) = refl
 base_alike outer ts fs (Some (MaximumOf bs)) = refl
 base_alike outer ts fs (Some (PowerOf c e)) = refl
 
--- what is carried at a position, behind so many nodes
+-- what is carried at a position, behind this many nodes
 abbrev carried_at : Position → Outer → Parts → Parts → ℕ → Piece → Option Front
 carried_at position outer ts fs nodes piece =
     cond (has_large_base_at position fs piece) (Some (front_at outer ts (init fs) (PowerCaret (2 ^ 64 - 1)))) (step_at position outer ts fs (kept_at position nodes piece))
@@ -220,7 +220,7 @@ carried_fronts_are_marked = record {
   within = λ f piece small few many.
       ap (λ (v : Bool). cond v (Some (front_at f.outer f.terms (init f.factors) (PowerCaret (2 ^ 64 - 1)))) (step_at f.position f.outer f.terms f.factors (kept_at f.position (nodes_of f) piece))) small
       ∙ kept_same f.position f.outer f.terms f.factors (nodes_of f) piece few many;
-  told = runs_are_told;
+  worked = runs_are_worked;
 }
 
 -- a run is carried with as many copies as were made
@@ -268,7 +268,7 @@ base_carried (at.Name i) outer ts fs Caret settled large = let e : is_large_numb
 base_carried at.ItemRead outer ts fs Caret settled large = absurd (base_settled (init fs) (last fs) settled large)
 base_carried position outer ts fs piece settled large = cc
 
--- nothing stands
+-- no fault is found
 pub finds_none : (n : ℕ) (f : Front) (piece : Piece) (behind : List Piece) (base caret : Bool) → base ≡ (begins f.position && caret) → caret ≡ caret_next behind
     → (r : Result (Unit {0}) Fault) (u : Unit {0}) → r ≡ Ok u → FindsFault (fault_of n base piece) r → None ≡ option_map fault_from (first_of (stands n f piece behind) early_kinds)
 finds_none n f piece behind base caret b e r u is h =

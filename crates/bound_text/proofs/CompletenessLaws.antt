@@ -65,8 +65,8 @@ read_run outer ts fs (suc n) i rest h =
     ∙ read_run_caret outer ts fs i (Number (suc (suc n)) ∷ rest) h
     ∙ walk-when (nat_lt 1 (suc (suc n))) (front_at outer ts (with_copies (suc (suc n)) i fs) ItemRead) rest more
 
--- what is read at a bound: a sum behind the first terms, a product where no factor stands before, and another as one more
--- factor
+-- what the next bound is read as: a sum's term behind the first terms, a product where there is no factor before, or
+-- one more factor
 abbrev pub CanFollow : Bound → Parts → Type 0
 CanFollow (Input i) fs = is_input i (last fs) ≡ false
 CanFollow (Constant c) fs = ⊤
@@ -84,7 +84,7 @@ pub record ReadsProduct (fs : Parts) : Type 0 where
 pub record ReadsItem (b : Bound) : Type 0 where
   pub each : (outer : Outer) (ts fs : Parts) (rest : List Piece) → CanFollow b fs → walk (starts outer ts fs) (text_then b rest) ≡ walk (stands outer ts (with_part fs b)) rest
 
--- what reading a bound comes to, by its kind
+-- the result of reading a bound, by its kind
 abbrev pub Reads : Bound → Type 0
 Reads (SumOf bs) = ReadsSum bs
 Reads (ProductOf fs) = ReadsProduct fs

@@ -131,7 +131,7 @@ power_marked room lower old a c new b base x exponent r is low same g h =
           ∙ g.each most level (None ∷ exponent_marks (is_leaf (bound_of exponent)) (bound_marks (suc level) (bound_of exponent)) rest) e;
     }))
 
--- such a factor behind what stands before it
+-- such a factor behind what comes before it
 pub other_marked : (room : ℕ) (old a new : List Bool) (before : Before) (b : plain.Bound) (r : Answer) → IsFalse (is_variable b)
     → FlagsAll room old a (λ level rest. ended_marks level before (times_marks before rest))
     → OnOk r (FlagsAll room a new (λ level. factor_marks (is_sum b) level (bound_marks level b)))
@@ -173,7 +173,7 @@ factors_done room old mid new all before factors k r past w =
           (drop_all k factors past) (w.each most level rest e);
     })
 
--- behind the last part with what stands behind it nothing is left
+-- behind the last part and its separator nothing is left
 pub each_done : (room : ℕ) (old new : List Bool) (all : ℕ → Marks → Marks) (separator : List Piece) (parts : List Bound) (k : ℕ) → length parts ≤ k
     → Flags room old new all (λ level. each_marks separator level (parts_of (bounds_of (drop k parts)))) → FlagsAll room old new all
 each_done room old new all separator parts k past w = record {
@@ -281,7 +281,7 @@ first_deep most (Some level ∷ marks) h (u ∷ ts) t e = go (nat_lt most level)
     go true l e further = ap (λ (o : Token Piece). record { kind = TooDeep; at = o.at } ∷ []) (let f : u ≡ t = cc in f)
     go false l e further = further (omega (arith, l)) (token_behind ts u t (unset (flags most marks)) e)
 
--- so it is found
+-- hence it is found
 pub finds : (most : ℕ) (f : Front) (found : List Bool) (r : Option ℕ) → found ≡ flags most (front_marks f)
     → r ≡ position (λ (deep : Bool). deep) found → FindsDeep most f r
 finds most f found r same e =

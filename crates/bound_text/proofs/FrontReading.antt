@@ -49,7 +49,7 @@ bracket_read (Arguments bs) is outer ts fs rest =
 bracket_read (Exponent c) is outer ts fs rest = read_base outer ts fs c (Open ∷ rest) is
 bracket_read Factor is outer ts fs rest = refl
 
--- what stands round a bound
+-- the pieces around a bound
 outer_read : (outer : Outer) → IsOuter outer → (rest : List Piece) → walk (Some beginning) (outer_then outer rest) ≡ walk (starts outer NoParts NoParts) rest
 outer_read Whole is rest = refl
 outer_read (Inside bracket ts fs outer) is rest =

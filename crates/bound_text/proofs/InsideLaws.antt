@@ -8,7 +8,7 @@ use Rattle.text_core.specs.Reading.{Answers, answer}
 use Rattle.text_core.proofs.FirstFaults.{answer_is, answers_all, one_first_each}
 use Rattle.bound_text.specs.Lexing.{tokens}
 use Rattle.bound_text.specs.Inside.{inner_bounds}
-use Rattle.bound_text.specs.WorkedInside.{two_names, DepthsAreTold, InnerBoundsAreRead}
+use Rattle.bound_text.specs.WorkedInside.{two_names, DepthsAreWorkedOut, InnerBoundsAreRead}
 use Rattle.bound_text.proofs.ReaderLaws.{bound_laws}
 
 -- what is shown is no part of the laws
@@ -19,9 +19,9 @@ inner_laws most n = let laws = bound_laws n in record { goes_on = laws.goes_on; 
 abbrev judged : (most : ℕ) (bytes : List ℕ) → Answers (inner_bounds most 2) (length bytes) (tokens two_names bytes) (answer (inner_bounds most 2) (length bytes) (tokens two_names bytes))
 judged most bytes = answer_is (inner_bounds most 2) (inner_laws most 2) (length bytes) (tokens two_names bytes)
 
-told : DepthsAreTold
+worked : DepthsAreWorkedOut
 unfolding faults_at
-told = record {
+worked = record {
   product = judged 1 (codes "A*B");
   sum = judged 1 (codes "A + B");
   begun_sum = judged 1 (codes "A ");
@@ -48,5 +48,5 @@ inner_bounds_are_read = record {
   laws = inner_laws;
   answers = λ most n. answers_all (inner_bounds most n) (inner_laws most n);
   one_first = λ most n. one_first_each (inner_bounds most n) (inner_laws most n);
-  told = told;
+  worked = worked;
 }

@@ -57,13 +57,13 @@ last_got [] = refl
 last_got (x ∷ []) = refl
 last_got (x ∷ y ∷ xs) = last_got (y ∷ xs) ∙ ap (λ (k : ℕ). option_map bound_of (slice_get (x ∷ y ∷ xs) k)) (let e : suc (length (y ∷ xs) - 1) ≡ length (x ∷ y ∷ xs) - 1 = omega arith in e)
 
--- of parts that aren't one none stands alone
+-- a list of parts that isn't of length one has no single part
 pub lone_many : (xs : List Bound) → length xs ≢ 1 → lone (parts_of (bounds_of xs)) ≡ None
 lone_many [] h = refl
 lone_many (x ∷ []) h = absurd (h refl)
 lone_many (x ∷ y ∷ xs) h = refl
 
--- of parts that are one the first stands alone
+-- a list of one part has the first part as its single part
 pub lone_got : (xs : List Bound) → length xs ≡ 1 → lone (parts_of (bounds_of xs)) ≡ option_map bound_of (slice_get xs 0)
 lone_got [] h = cc
 lone_got (x ∷ []) h = refl

@@ -44,7 +44,7 @@ KeptBracket n (Arguments bs) = AllKept n bs
 KeptBracket n (Exponent c) = c < 2 ^ 64
 KeptBracket n Factor = ⊤
 
--- of what stands round
+-- the same for what surrounds a bound
 abbrev pub KeptOuter : ℕ → Outer → Type 0
 KeptOuter n Whole = ⊤
 KeptOuter n (Inside bracket ts fs outer) = KeptBracket n bracket × AllKept n ts × AllKept n fs × KeptOuter n outer

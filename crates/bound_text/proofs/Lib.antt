@@ -1,3 +1,4 @@
+-- laws of the printer and the parser of bounds: texts, fronts, faults, limits and levels
 pub mod PrintingLaws
 pub mod LexingLaws
 pub mod PartLaws
@@ -29,3 +30,4 @@ pub mod MarkLaws
 pub mod DepthLaws
 pub mod CarriedNodes
 pub mod CarryingLaws
+mod WorkedLimits

@@ -1,5 +1,5 @@
--- The limits on bounds, as the reader's fronts tell them: what is read is within them, and against what is within them
--- nothing stands.
+-- The limits on bounds, as the reader's fronts decide them: what is read is within them, and a text within them has no
+-- fault.
 use Rattle.std.proofs.Common.{◌≡◌, ℕ, ◌^◌, ◌≤◌, Bool, true, false, ◌&&◌, List, [], ◌∷◌, Some, None, refl, ap, sym}
 use Rattle.std.proofs.Common.{subst, ◌∙◌, inl, inr, arith}
 use Rattle.std.specs.Prelude.{⊤}
@@ -82,9 +82,9 @@ pub record IsKept (n : ℕ) (f : Front) (ps : List Piece) : Type 0 where
   pub nodes : nodes_of f ≤ node_limit
   pub bases : caret_next ps ≡ true → has_large_base f Caret ≡ false
 
--- what stands against a piece that is taken
+-- a piece that is accepted, without a fault
 module _ (n : ℕ) (f g : Front) (piece : Piece) (behind : List Piece) (led : step f piece ≡ Some g) (none : (kind : Kind) → stands n f piece behind kind ≡ false) where
-  -- a piece that nothing stands against is kept
+  -- a piece without a fault is one within the limits
   pub kept_piece : KeptPiece n piece
   kept_piece = go piece refl
     where
@@ -147,12 +147,12 @@ keeps_limits n = record {
       record { kept = m.0 (record { outer = k.kept.outer; terms = k.kept.terms; factors = k.kept.factors; position = k.kept.position }); levels = (let d = m.1 in omega (arith, d, l)); nodes = (let c = m.2 in omega (arith, c, s)) };
 }
 
--- nothing stands against the first of these pieces
+-- the first of these pieces has no fault
 abbrev pub Nothing : ℕ → Front → List Piece → Type 0
 Nothing n f [] = ⊤
 Nothing n f (p ∷ ps) = (kind : Kind) → stands n f p ps kind ≡ false
 
--- a front that is kept and within the limits, what `^` follows fits, and nothing stands against the next piece
+-- a front within the limits, where the base before `^` fits, and the next piece has no fault
 pub record IsSmall (n : ℕ) (f : Front) (ps : List Piece) : Type 0 where
   pub kept : KeptFront n f
   pub levels : levels_of f ≤ depth_limit
@@ -160,7 +160,7 @@ pub record IsSmall (n : ℕ) (f : Front) (ps : List Piece) : Type 0 where
   pub bases : caret_next ps ≡ true → BaseFits (last f.factors)
   pub none : Nothing n f ps
 
--- nothing stands against a piece behind which all is kept and within the limits
+-- a piece behind which all is within the limits has no fault
 module _ (n : ℕ) (f g : Front) (piece : Piece) (behind : List Piece) (led : step f piece ≡ Some g) (kept : KeptPiece n piece) (fits : caret_next behind ≡ true → BaseFits (last g.factors)) where
   -- a base fits
   fitting : (c : ℕ) → is_base f behind ≡ true → piece ≡ Number c → BaseFits (Some (Constant c))
@@ -233,7 +233,7 @@ ended_small n BlankRead outer ts fs b h w = cc
 ended_small n PlusRead outer ts fs b h w = cc
 ended_small n CommaRead outer ts fs b h w = cc
 
--- against the text of a bound within the limits nothing stands
+-- the text of a bound within the limits has no fault
 pub shows_no_limit : (n : ℕ) → ShowsNoLimit (bounds n) (IsKeptWithin n) (IsSmall n)
 shows_no_limit n = record {
   ends = λ done f b e fin w.

@@ -36,13 +36,13 @@ input_factor : (level : ℕ) (w : Before) (j : ℕ) (bs : Parts) (rest : Marks) 
 input_factor level w j bs rest v e =
     ap (λ (u : Bool). cond u (factors_marks level (run_with w j) bs rest) (ended_marks level w (times_marks w (factors_marks level (Run j 1) bs rest)))) e
 
--- the mark of `*` where something stands before, or among the factors
+-- the mark of `*` where something comes before, or among the factors
 abbrev pub lead_marks : Before → Parts → Marks → Marks
 lead_marks Nothing fs rest = star_marks fs rest
 lead_marks (Run i n) fs rest = None ∷ rest
 lead_marks Other fs rest = None ∷ rest
 
--- with no factor among them, what leads is what stands before
+-- with no factor among them, the lead is what comes before
 lead_none : (w : Before) (rest : Marks) → lead_marks w NoParts rest ≡ times_marks w rest
 lead_none Nothing rest = refl
 lead_none (Run i n) rest = refl
@@ -72,7 +72,7 @@ pub record StandsOff (level : ℕ) (add : Parts → Parts) (own rest : Marks) (P
   pub run : (w : Before) (j : ℕ) (cs : Parts) → P w (Part (Input j) cs) → P (Run j 1) cs
   pub other : (w : Before) (c : Bound) (cs : Parts) → P w (Part c cs) → P Other cs
 
--- so its marks stand behind those of the factors
+-- so its marks follow those of the factors
 pub factors_behind : (level : ℕ) (add : Parts → Parts) (own rest : Marks) (P : Before → Parts → Type 0) → StandsOff level add own rest P
     → (w : Before) (fs : Parts) → P w fs → factors_marks level w (add fs) rest ≡ factors_marks level w fs (lead_marks w fs own)
 factors_behind level add own rest P off w NoParts p = off.alone w p ∙ ap (ended_marks level w) (sym (lead_none w own))

@@ -1,4 +1,4 @@
--- Taking a piece comes to the first of what stands against it.
+-- Taking a piece gives the first of its faults.
 use Rattle.std.proofs.Common.{◌≡◌, ℕ, ◌≤◌, nat_lt, Bool, true, false, cond, ◌&&◌, List, Option, Some, None, refl, ap}
 use Rattle.std.proofs.Common.{sym, subst, ◌∙◌, inl, inr, arith}
 use Rattle.std.specs.Prelude.{◌⊎◌}
@@ -15,7 +15,7 @@ use Rattle.bound_text.proofs.TreeSizes.{grows}
 use Rattle.bound_expr.specs.Limits.{depth_limit, node_limit}
 
 module _ (n : ℕ) (f : Front) (piece : Piece) (behind : List Piece) where
-  -- a kind that stands against the piece, or `Syntax` where it leads nowhere
+  -- a kind is a fault of the piece, or it is `Syntax` and the piece can't follow
   pub record IsRefused (kind : Kind) : Type 0 where
     pub is : (stands n f piece behind kind ≡ true) ⊎ ((step f piece ≡ None) × (kind ≡ Syntax))
     pub nowhere : step f piece ≡ None → kind ≡ Syntax
@@ -28,7 +28,7 @@ module _ (n : ℕ) (f : Front) (piece : Piece) (behind : List Piece) where
     pub levels : levels_of g ≤ depth_limit
     pub nodes : nodes_of g ≤ node_limit
 
-  -- what taking the piece comes to
+  -- the result of taking the piece
   abbrev pub IsJudged : PieceResult → Type 0
   IsJudged (Refused kind) = IsRefused kind
   IsJudged (Reached g) = IsTaken g
@@ -106,7 +106,7 @@ module _ (n : ℕ) (f : Front) (piece : Piece) (behind : List Piece) where
       least TooLarge t = omega arith
   judge is shallow (Some g) e false false false se le ue = judge_size is shallow g e se le ue (nat_lt depth_limit (inner_levels g)) (nat_lt node_limit (nodes_of g)) refl refl
 
-  -- what taking the piece comes to
+  -- the result of taking the piece
   pub piece_judged : IsFront f → levels_of f ≤ depth_limit → has_large_base f piece ≡ false → IsJudged (piece_result n (caret_next behind) f piece)
   piece_judged is shallow h =
       subst (λ (v : Bool). IsJudged (cond v (Refused NumberTooLarge) (fault_or_front (fault_of n (begins f.position && caret_next behind) piece) (step f piece)))) (sym h)

@@ -1,4 +1,4 @@
--- The reader of bounds keeps the laws of a reader, and its fronts tell what has been read.
+-- The reader of bounds keeps the laws of a reader, and its fronts are written as what has been read.
 use Rattle.std.proofs.Common.{◌≡◌, ℕ, Bool, true, false, cond, List, [], ◌∷◌, Option, Some, None, refl, ap, sym, ◌∙◌}
 use Rattle.std.proofs.Common.{inl, inr, arith}
 use Rattle.std.specs.Prelude.{◌⊎◌}
@@ -54,7 +54,7 @@ no_caret fs (Some (Constant c)) o ts h = cc
 no_caret fs (Some (Input i)) o ts h = ap (λ (v : Bool). cond v (Some (front_at o ts fs (RunCaret i))) None) h
 no_caret fs (Some b) o ts h = refl
 
--- a base can stand where an item begins alone
+-- where an item begins alone, a base is possible
 base_begins : (f : Front) → next step (step f (Number 2)) Caret ≡ None ⊎ (begins f.position ≡ true)
 base_begins f = go f.position
   where
@@ -67,7 +67,7 @@ base_begins f = go f.position
     go PlusRead = inl refl
     go CommaRead = inl refl
 
--- where an item begins a base can stand
+-- where an item begins, a base is possible
 begins_base : (f : Front) → begins f.position ≡ true → (g : Front) × (next step (step f (Number 2)) Caret ≡ Some g)
 begins_base f h = go f.position h
   where
@@ -88,7 +88,7 @@ begins_base f h = go f.position h
 two_more : (n : ℕ) (done : List Piece) (f : Front) (a b : Piece) → reached (bounds n) done ≡ Some f → reached (bounds n) (b ∷ a ∷ done) ≡ next step (step f a) b
 two_more n done f a b e = ap (λ (o : Option Front). next step (next step o a) b) e
 
--- fronts tell what has been read
+-- fronts are written as what has been read
 pub fronts_are_read : FrontsAreRead
 fronts_are_read = record {
   read = λ n done f e. let r = walk_reads (onto done []) f (walked n done f e) in (r.is, r.text);

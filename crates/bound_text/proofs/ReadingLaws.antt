@@ -86,7 +86,7 @@ pub caret-tokens : (names : List Name) (at : ℕ) (bytes : List ℕ) → caret_n
 caret-tokens names at [] = refl
 caret-tokens names at (b ∷ bytes) = lexeme_caret names b bytes
 
--- everything that is shown stands at the next token
+-- every fault is shown at the next token
 shown_next : (n len : ℕ) (f : Front) (rest : List (Token Piece)) (x : text.Fault Kind) → Among x (shown n f rest) → x.at ≡ next_at len rest
 shown_next n len f [] x a = absurd a
 shown_next n len f (t ∷ rest) x a = (among_faults t.at (stands n f t.piece (pieces rest)) kinds x a).0
@@ -126,7 +126,7 @@ run_refused n len done rest f t kind led some order is = first_ahead (bounds n) 
         let e = ahead_next (bounds n) (shows_next n) rest len t.upto (t ∷ done) (step f t.piece) y order a in
         record { position = omega (arith, e, some); kind = λ p. absurd (omega (arith, e, some, p)) }
 
--- want of memory is an answer to each refusal
+-- running out of memory is an answer to each refusal
 refusal_memory : (kind : Kind) (at : ℕ) → IsRefusal kind at errors.Memory
 refusal_memory Syntax at = tt
 refusal_memory NumberTooLarge at = tt
@@ -134,12 +134,12 @@ refusal_memory UnknownName at = tt
 refusal_memory TooDeep at = tt
 refusal_memory TooLarge at = tt
 
--- so it is to each answer
+-- running out of memory is permitted with each answer
 pub says_memory : (a : Answer plain.Bound Kind) → Says a (Err errors.Memory)
 says_memory (RefusedBy x) = refusal_memory x.kind x.at
 says_memory (Stands b) = tt
 
--- so it is where an error is passed on as it
+-- the same where an error is passed on
 pub says_passed_on : (a : Answer plain.Bound Kind) (result : Result Bound BoundTextError) → IsErrAnd result (λ e. e ≡ errors.Memory) → Says a result
 says_passed_on a (Ok b) h = absurd h
 says_passed_on a (Err e) h = subst (λ (x : BoundTextError). Says a (Err x)) (sym h) (says_memory a)
@@ -159,7 +159,7 @@ reached_front : (c : PieceResult) (r : Reader) (u : Unit {0}) → Obeys c r (Ok 
 reached_front (Refused kind) r u h = absurd h
 reached_front (Reached f) r u h = ap Reached h.0
 
--- a reader that took a piece stands settled
+-- a reader that took a piece is settled (its front is the one that the piece leads to)
 pub settled_front : (c : PieceResult) (r : Reader) (result : Result (Unit {0}) Fault) (u : Unit {0}) → result ≡ Ok u → Obeys c r result → IsTrue (is_settled r)
 settled_front c r result u e h = go c (subst (λ (x : Result (Unit {0}) Fault). Obeys c r x) e h)
   where
@@ -171,7 +171,7 @@ settled_front c r result u e h = go c (subst (λ (x : Result (Unit {0}) Fault). 
 abbrev pub left_tokens : List Name → List ℕ → List ℕ → List (Token Piece)
 left_tokens names bytes left = tokens_from (each_piece (lexeme_at names)) (length bytes - length left) 0 left
 
--- the reader stands where what has been read decides the answer with what is left
+-- in the reader's state, the rest of the text decides the answer for the whole
 pub record Decides (names : List Name) (bytes left : List ℕ) (f : Front) : Type 0 where
   pub within : length left ≤ length bytes
   pub done : List (Token Piece)
@@ -208,14 +208,14 @@ module _ (names : List Name) (bytes left others behind : List ℕ) (b : ℕ) (l 
         (ap (λ (m : Lexeme Piece). record { piece = Some m.piece; len = m.len }) found_at) some rests
         ∙ ap (λ (at : ℕ). token ∷ tokens_from (each_piece (lexeme_at names)) at 0 behind) (let e : length bytes - length left + l.len ≡ length bytes - length behind = omega (arith, fewer, fits, within) in e)
 
-    -- the tokens behind it stand in order
+    -- the tokens behind it are in order of position
     order : AreInOrder token.upto (left_tokens names bytes behind) (length bytes)
     order =
         subst (λ (p : ℕ). AreInOrder p (left_tokens names bytes behind) (length bytes)) (let e : length bytes - length behind + 0 ≡ length bytes - length left + l.len = omega (arith, fewer, fits, within) in e)
         (subst (AreInOrder (length bytes - length behind + 0) (left_tokens names bytes behind)) (let e : length bytes - length behind + length behind ≡ length bytes = omega (arith, fewer, within) in e)
         (in_order (each_piece (lexeme_at names)) (lexes_within names) behind 0 (length bytes - length behind) (omega arith)))
 
-    -- what taking its piece comes to
+    -- the result of taking its piece
     piece_is : (f : Front) (d : Decides names bytes left f) → IsJudged (length names) f l.piece (pieces (left_tokens names bytes behind)) (piece_result (length names) (caret_next (pieces (left_tokens names bytes behind))) f l.piece)
     piece_is f d =
         piece_judged (length names) f l.piece (pieces (left_tokens names bytes behind)) (is_front (length names) (pieces d.done) f d.led) d.shallow
@@ -233,9 +233,9 @@ module _ (names : List Name) (bytes left others behind : List ℕ) (b : ℕ) (l 
       -- a piece that is taken
       pub decides_on : (u : Unit {0}) → Decides names bytes left f → result ≡ Ok u → Decides names bytes behind (front_of r)
       decides_on u d ok =
-          let told : piece_result (length names) (caret_next (pieces (left_tokens names bytes behind))) f l.piece ≡ Reached (front_of r) =
+          let worked : piece_result (length names) (caret_next (pieces (left_tokens names bytes behind))) f l.piece ≡ Reached (front_of r) =
           sym checked_same ∙ reached_front (piece_result m caret f piece) r u (subst (λ (x : Result (Unit {0}) Fault). Obeys (piece_result m caret f piece) r x) ok obeys) in
-          let taken : IsTaken (length names) f l.piece (pieces (left_tokens names bytes behind)) (front_of r) = subst (IsJudged (length names) f l.piece (pieces (left_tokens names bytes behind))) told (piece_is f d) in
+          let taken : IsTaken (length names) f l.piece (pieces (left_tokens names bytes behind)) (front_of r) = subst (IsJudged (length names) f l.piece (pieces (left_tokens names bytes behind))) worked (piece_is f d) in
           record {
             within = omega (arith, fewer, within);
             done = token ∷ d.done;
@@ -258,11 +258,11 @@ module _ (names : List Name) (bytes left others behind : List ℕ) (b : ℕ) (l 
           go : (k : PieceResult) → piece_result m caret f piece ≡ k → Obeys k r (Err fault) → Says (answer (bounds (length names)) (length bytes) (tokens names bytes)) (Err (error_at fault at))
           go (Refused kind) e h =
               let refused : IsRefused (length names) f l.piece (pieces (left_tokens names bytes behind)) kind = subst (IsJudged (length names) f l.piece (pieces (left_tokens names bytes behind))) (sym checked_same ∙ e) (piece_is f d) in
-              let told =
+              let worked =
               d.same
               ∙ ap (run (bounds (length names)) (length bytes) (Going None d.done f)) next_token
               ∙ run_refused (length names) (length bytes) d.done (left_tokens names bytes behind) f token kind d.led (omega (arith, some)) order refused in
-              subst (λ (w : Answer plain.Bound Kind). Says w (Err (error_at fault at))) (sym told) (subst (λ (q : ℕ). IsRefusal kind q (error_at fault at)) here (refusal_at kind fault at h))
+              subst (λ (w : Answer plain.Bound Kind). Says w (Err (error_at fault at))) (sym worked) (subst (λ (q : ℕ). IsRefusal kind q (error_at fault at)) here (refusal_at kind fault at h))
           go (Reached g) e h = only_memory fault h
             where
               only_memory : (fault : Fault) → Obeys (Reached g) r (Err fault) → Says (answer (bounds (length names)) (length bytes) (tokens names bytes)) (Err (error_at fault at))

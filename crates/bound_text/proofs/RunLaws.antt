@@ -52,7 +52,7 @@ copies_settled zero i fs behind h e = absurd (omega arith)
 copies_settled (suc zero) i fs behind h e = absurd (omega arith)
 copies_settled (suc (suc n)) i fs behind h e = ap not (ap (λ (gs : Parts). takes_caret (init gs) (last gs)) e ∙ run_settled n i fs)
 
--- the levels don't tell two copies from more
+-- the number of levels is the same for two copies and for more
 levels-copies : (outer : Outer) (ts fs : Parts) (n i : ℕ) → inner_levels (front_at outer ts (with_copies (suc (suc n)) i fs) ItemRead) ≡ inner_levels (front_at outer ts (with_copies 2 i fs) ItemRead)
 levels-copies outer ts fs n i =
     omega (arith, depth-with_copies (suc n) i fs, depth-with_copies 1 i fs, product_two (with_copies n i fs) (Input i) (Input i), product_two fs (Input i) (Input i))
@@ -92,7 +92,7 @@ sized_capped outer ts fs n i = elim (cases_lt n 4097) [
   | inr h ↦ sized_alike outer ts fs n (min n 4097) i (omega arith) (omega arith)
 ]
 
--- what a run's number comes to
+-- the result of a run's number
 run_judged : (outer : Outer) (ts fs : Parts) (n i : ℕ) → 2 ≤ n → n < 2 ^ 127
     → fault_or_front (fault_of 0 false (Number n)) (end_run outer ts fs i (Number n)) ≡ sized (front_at outer ts (with_copies n i fs) ItemRead)
 run_judged outer ts fs n i h k =

@@ -82,7 +82,7 @@ more_factor outer ts fs position b piece is shaped none texts = record {
   text = λ rest. ap (λ (ps : List Piece). outer_then outer (each_then plus_between ts ps)) (texts rest);
 }
 
--- where nothing stands before, the last factor tells
+-- with nothing before, the last factor decides
 ends_first : (fs : Parts) (i : ℕ) → is_input i (last fs) ≡ false → ends_in Nothing fs i ≡ false
 ends_first NoParts i h = refl
 ends_first (Part b bs) i h = h

@@ -16,7 +16,7 @@ use Rattle.bound_text.specs.declared.state.Position.{Position}
 use Rattle.bound_text.specs.declared.state.Position.TheVariants as at
 use Rattle.bound_text.proofs.PartLaws.{last-with_part, init-with_part}
 
--- behind a factor that takes no `^` the reader stands settled
+-- behind a factor that takes no `^` the reader is settled
 pub settled_factor : (outer : Outer) (ts fs behind : Parts) (b : Bound) → behind ≡ with_part fs b → takes_caret fs (Some b) ≡ false
     → (Some (behind_factor outer ts fs b) ≡ Some (front_at outer ts behind ItemRead)) × IsTrue (not (takes_caret (init behind) (last behind)))
 settled_factor outer ts fs behind b e none = (
@@ -31,7 +31,7 @@ small_base position outer ts fs n piece e large caret = go piece caret (subst (�
   where
     go : (piece : Piece) → IsTrue (is_caret piece) → has_large_base (front_with (at.Number n) outer ts fs) piece ≡ false → n < 2 ^ 64
     go Caret caret large =
-        let told : nat_le (2 ^ 64) n ≡ false = sym (ap is_large_number (last-with_part fs (Constant n))) ∙ large in
+        let worked : nat_le (2 ^ 64) n ≡ false = sym (ap is_large_number (last-with_part fs (Constant n))) ∙ large in
         grind (arith, nat_tests)
     go piece caret large = cc
 
@@ -47,7 +47,7 @@ settled_fresh at.BlankRead fs h = refl
 settled_fresh at.PlusRead fs h = refl
 settled_fresh at.CommaRead fs h = refl
 
--- behind a piece that leads on the reader stands settled
+-- behind a piece that is accepted the reader is settled
 pub follows_settled : (reached : Option Front) (r : Reader) (result : Result (Unit {0}) Fault) (u : Unit {0}) → result ≡ Ok u → Follows reached r result → IsTrue (is_settled r)
 follows_settled reached r result u e h = (subst (Follows reached r) e h).1
 

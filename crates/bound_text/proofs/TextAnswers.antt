@@ -119,7 +119,7 @@ written_text names bytes b w k =
       within = record { levels = k.levels; nodes = k.nodes; bases = t.2 };
     }
 
--- an answer of the code that is what reading comes to is right
+-- an answer of the code that agrees with the answer of reading is right
 pub says_answers : (names : List Name) (bytes : List ℕ) (result : Result Bound BoundTextError) → Says (answer (bounds (length names)) (length bytes) (tokens names bytes)) result → Answers names bytes result
 says_answers names bytes result says = go (answer (bounds (length names)) (length bytes) (tokens names bytes)) refl result says
   where

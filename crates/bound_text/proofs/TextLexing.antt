@@ -70,7 +70,7 @@ lexeme_few names b bytes = go (begins_name b) (is_ascii_digit b)
     go false true = omega (arith, parts is_ascii_digit)
     go false false = omega arith
 
--- so the pieces of a text stand in order
+-- so the pieces of a text are in order of position
 pub lexes_within : (names : List Name) → LexesWithin (each_piece (lexeme_at names))
 lexes_within names = record { each = λ b bytes. (lexeme_some names b bytes, lexeme_few names b bytes) }
 
@@ -305,7 +305,7 @@ mark_closes names f h piece rest e on = go piece (ap (λ (p : Position). step_at
     go Plus on = cc
     go Wrong on = cc
 
--- so do the pieces that lead on
+-- the same for the pieces that lead on
 pieces_close : (names : List Name) (g last_one : Front) (ps : List Piece) → g.position ≡ ItemRead → walk (Some g) ps ≡ Some last_one → Closes (bytes_of names ps)
 pieces_close names g last_one [] e on = tt
 pieces_close names g last_one (p ∷ ps) e on = go (step g p) refl on

@@ -16,7 +16,8 @@ use Rattle.bound_text.proofs.StepCases.{Leads, of_variable, of_number, of_maximu
 use Rattle.bound_text.proofs.StepCases.{of_power_of, of_exponent, of_times, of_base, of_caret, of_blank, of_comma}
 use Rattle.bound_text.proofs.StepCases.{of_close, of_plus, of_term, of_argument}
 
--- from one front to another the tree so far doesn't shrink, and what stands round the second was there or is counted in it
+-- from one front to the next the tree so far doesn't shrink, and the surroundings of the second were there or are
+-- counted in it
 pub record Grows (f g : Front) : Type 0 where
   pub nodes : nodes_of f ≤ nodes_of g
   pub levels : levels_of f ≤ levels_of g
@@ -38,7 +39,7 @@ product_node-sum NoParts b h = rw h refl
 product_node-sum (Part c NoParts) b h = refl
 product_node-sum (Part c (Part d ds)) b h = refl
 
--- some factors are a product or stand alone
+-- factors are a product or a single one
 product_some : (fs : Parts) → is_empty fs ≡ false → product_node fs ≤ node_of_any fs
 product_some NoParts h = cc
 product_some (Part b NoParts) h = go (is_sum b)
@@ -120,7 +121,7 @@ le_left a b c h = omega arith
 le_right : (a b c : ℕ) → a ≤ c → a ≤ max b c
 le_right a b c h = omega arith
 
--- the levels in a bracket are those of its item, as a factor of the product round it
+-- the levels in a bracket are those of its item, as a factor of the product around it
 close_levels : (LR A S P PB TA FA FB B K T N F I : ℕ) → PB ≡ P → FB ≡ max FA I → I ≡ 1 + max B (K + max T (N + F))
     → max (max LR (max (A + S + TA) (max (A + S + P + FA) (A + S + P + 1 + B)))) (max (A + S + P + 1 + K + T) (A + S + P + 1 + K + N + max F 0)) ≤ max LR (max (A + S + TA) (A + S + PB + max FB 0))
 close_levels LR A S P PB TA FA FB B K T N F I p f i =
@@ -156,7 +157,7 @@ argument_levels LR A S P TA FA B BB K T N F b =
 either : (x B BB u v d : ℕ) → BB ≡ max B d → x + B ≤ u → x + d ≤ v → x + BB ≤ max u v
 either x B BB u v d e h k = omega arith
 
--- what stands round the next argument was there
+-- what surrounds the next argument was there before
 argument_round : (LR A S P TA FA B BB K T N F G : ℕ) → BB ≡ max B (K + max T (N + F))
     → max LR (max (A + S + TA) (max (A + S + P + FA) (A + S + P + 1 + BB)))
     ≤ max (max (max LR (max (A + S + TA) (max (A + S + P + FA) (A + S + P + 1 + B)))) (max (A + S + P + 1 + K + T) (A + S + P + 1 + K + N + max F 0))) G

@@ -13,7 +13,7 @@ use Rattle.bound_text.specs.Brackets.{parts_in, bracket_of, outer_from, outer_of
 use Rattle.text_core.specs.model.Bounds.{Bound, Parts}
 use Rattle.bound_text.specs.declared.state.Opened.{Opened}
 
--- one more bracket stands inside the others
+-- one more bracket is inside the others
 outer_from-push : (outer : Outer) (xs : List Opened) (x : Opened) → outer_from outer (xs ++ x ∷ []) ≡ Inside (bracket_of x.bracket) (parts_in x.terms) (parts_in x.factors) (outer_from outer xs)
 outer_from-push outer [] x = refl
 outer_from-push outer (y ∷ ys) x = outer_from-push (Inside (bracket_of y.bracket) (parts_in y.terms) (parts_in y.factors) outer) ys x
@@ -66,7 +66,7 @@ pub is_whole_empty : (xs : List Opened) → is_whole (outer_of xs) ≡ nat_eq (l
 is_whole_empty [] = refl
 is_whole_empty (x ∷ xs) = is_whole_from (bracket_of x.bracket) (parts_in x.terms) (parts_in x.factors) Whole xs ∙ (let e : false ≡ nat_eq (suc (length xs)) 0 = grind (arith, nat_tests) in e)
 
--- one more bracket that tells its count
+-- one more bracket that keeps its counts
 rounds_from_push : (outer : Outer) (xs : List Opened) (x : Opened) → AreRoundsFrom outer xs
     → IsRound (Inside (bracket_of x.bracket) (parts_in x.terms) (parts_in x.factors) (outer_from outer xs)) x.within → AreRoundsFrom outer (xs ++ x ∷ [])
 rounds_from_push outer [] x rounds round = (round, tt)
@@ -85,7 +85,7 @@ rounds_from_front outer (y ∷ ys) x rounds = (rounds.0, rounds_from_front (Insi
 pub rounds_front : (xs : List Opened) (x : Opened) → AreRounds (xs ++ x ∷ []) → AreRounds xs
 rounds_front xs x rounds = rounds_from_front Whole xs x rounds
 
--- the innermost bracket tells what is counted round the innermost bound
+-- the innermost bracket keeps the counts around the innermost bound
 rounds_from_last : (outer : Outer) (xs : List Opened) (x : Opened) → slice_get xs (length xs - 1) ≡ Some x → AreRoundsFrom outer xs → IsRound (outer_from outer xs) x.within
 rounds_from_last outer [] x h rounds = cc
 rounds_from_last outer (y ∷ []) x h rounds =
@@ -99,7 +99,7 @@ rounds_from_last outer (y ∷ z ∷ xs) x h rounds =
 pub rounds_last : (xs : List Opened) (x : Opened) → slice_get xs (length xs - 1) ≡ Some x → AreRounds xs → IsRound (outer_of xs) x.within
 rounds_last xs x h rounds = rounds_from_last Whole xs x h rounds
 
--- a bracket was opened, or wasn't for want of memory
+-- a bracket was opened, or wasn't because memory ran out
 pub rounds_pushed : (opens : Bool) (xs ys : List Opened) (x : Opened) → ys ≡ (if opens then xs ++ x ∷ [] else xs) → AreRounds xs
     → IsRound (Inside (bracket_of x.bracket) (parts_in x.terms) (parts_in x.factors) (outer_of xs)) x.within → AreRounds ys
 rounds_pushed true xs ys x e rounds round = subst AreRounds (sym e) (rounds_push xs x rounds round)
@@ -110,7 +110,7 @@ pub rounds_popped : (r : Option Opened) (xs ys : List Opened) → xs ≡ ys ++ o
 rounds_popped None xs ys e rounds = subst AreRounds (e ∙ append-nil ys) rounds
 rounds_popped (Some x) xs ys e rounds = rounds_front ys x (subst AreRounds e rounds)
 
--- and what stood round it stands round it no more
+-- and what it contained is outside of the innermost bound again
 pub outer_popped : (r : Option Opened) (xs ys : List Opened) → xs ≡ ys ++ option_to_list r → MatchOption r (length xs ≡ 0) (λ _. ⊤)
     → MatchOption r (outer_of xs ≡ Whole) (λ x. outer_of xs ≡ Inside (bracket_of x.bracket) (parts_in x.terms) (parts_in x.factors) (outer_of ys))
 outer_popped None [] ys e none = refl

@@ -28,13 +28,13 @@ pub each-with_part : (s : List Piece) (bs : Parts) (b : Bound) (rest : List Piec
 each-with_part s NoParts b rest = refl
 each-with_part s (Part c cs) b rest = ap (λ (ps : List Piece). text_then c (s ++ ps)) (each-with_part s cs b rest)
 
--- `*` where something stands before, or among the factors
+-- `*` where something comes before, or among the factors
 abbrev pub lead_then : Before → Parts → List Piece → List Piece
 lead_then Nothing fs rest = star_then fs rest
 lead_then (Run i n) fs rest = Times ∷ rest
 lead_then Other fs rest = Times ∷ rest
 
--- a factor that is no variable is written behind what stands before it
+-- a factor that is no variable is written behind what comes before it
 pub other_factor : (w : Before) (b : Bound) (bs : Parts) (rest : List Piece) → is_variable b ≡ false
     → factors_then w (Part b bs) rest ≡ ended_then w (times_then w (bracketed_then (is_sum b) (text_then b) (factors_then Other bs rest)))
 other_factor w (Constant c) bs rest h = refl
@@ -44,7 +44,7 @@ other_factor w (ProductOf cs) bs rest h = refl
 other_factor w (MaximumOf cs) bs rest h = refl
 other_factor w (PowerOf c e) bs rest h = refl
 
--- with no factor among them, what leads is what stands before
+-- with no factor among them, the lead is what comes before
 lead_none : (w : Before) (rest : List Piece) → lead_then w NoParts rest ≡ times_then w rest
 lead_none Nothing rest = refl
 lead_none (Run i n) rest = refl
@@ -116,7 +116,7 @@ run_on (suc n) i m rest =
     ∙ run_on n i (suc m) rest
     ∙ ap (λ (k : ℕ). run_then i k rest) (let e : suc m + n ≡ m + suc n = omega arith in e)
 
--- whether what stands before, or the last factor, is variable i
+-- whether what comes before, or the last factor, is variable i
 abbrev pub ends_in : Before → Parts → ℕ → Bool
 ends_in w NoParts i = goes_on w i
 ends_in w (Part b bs) i = is_input i (last (Part b bs))

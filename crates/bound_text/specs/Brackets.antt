@@ -1,4 +1,4 @@
--- Open brackets of the code, as plain data, and what is counted round a bound in them.
+-- Open brackets of the code as plain data, and the counts around a bound in them.
 use Rattle.std.specs.Prelude.{◌≡◌, ◌^◌, ◌-◌, min, List, [], ◌∷◌, ⊤}
 use Rattle.std.proofs.Props.{props}
 use Rattle.text_core.specs.model.Bounds.{Parts}
@@ -21,29 +21,29 @@ bracket_of (brackets.Arguments bs) = fronts.Arguments (parts_in bs)
 bracket_of (brackets.Exponent c) = fronts.Exponent c
 bracket_of brackets.Factor = fronts.Factor
 
--- open brackets, the outermost first, inside what stands round them
+-- open brackets, the outermost first, inside what surrounds them
 abbrev pub outer_from : Outer → List Opened → Outer
 outer_from outer [] = outer
 outer_from outer (x ∷ xs) = outer_from (Inside (bracket_of x.bracket) (parts_in x.terms) (parts_in x.factors) outer) xs
 
--- what stands round the innermost bound
+-- what surrounds the innermost bound
 abbrev pub outer_of : List Opened → Outer
 outer_of xs = outer_from Whole xs
 
--- what is counted round the innermost bound, each up to 2^64-1
+-- what is counted around the innermost bound, each up to 2^64-1
 pub record IsRound (outer : Outer) (round : Round) : Type 0 where
   pub nodes : round.nodes ≡ min (fronts.nodes_round outer) (2 ^ 64 - 1)
   pub levels : round.levels ≡ min (fronts.levels_above outer) (2 ^ 64 - 1)
   pub in_factor : round.in_factor ≡ fronts.in_factor outer
 
--- each open bracket, inside what stands round them all, tells what is counted round a bound in it
+-- each open bracket, inside the surroundings of them all, keeps the counts around a bound in it
 abbrev pub AreRoundsFrom : Outer → List Opened → Type 0
 AreRoundsFrom outer [] = ⊤
 AreRoundsFrom outer (x ∷ xs) =
     IsRound (Inside (bracket_of x.bracket) (parts_in x.terms) (parts_in x.factors) outer) x.within
     × AreRoundsFrom (Inside (bracket_of x.bracket) (parts_in x.terms) (parts_in x.factors) outer) xs
 
--- which is told in one way alone
+-- which is a proposition: all its proofs are equal
 AreRoundsFrom-prop : (outer : Outer) (xs : List Opened) → IsProp (AreRoundsFrom outer xs)
 AreRoundsFrom-prop outer [] = hlevel props
 AreRoundsFrom-prop outer (x ∷ xs) =
@@ -54,6 +54,6 @@ AreRoundsFrom-prop outer (x ∷ xs) =
 abbrev pub AreRounds : List Opened → Type 0
 AreRounds xs = AreRoundsFrom Whole xs
 
--- which is told in one way alone
+-- which is a proposition: all its proofs are equal
 pub AreRounds-prop : (xs : List Opened) → IsProp (AreRounds xs)
 AreRounds-prop xs = AreRoundsFrom-prop Whole xs

@@ -1,5 +1,5 @@
--- What is carried behind a number that is too large, where reading goes on: no mark hangs on how large a base is, nor
--- on how long a run is, and a bound that is too large stays so.
+-- The state that is carried on behind a number that is too large, so that reading can go on: no mark depends on how
+-- large a base is, nor on how long a run is, and a bound that is too large stays so.
 use Rattle.std.specs.Prelude.{◌≡◌, ℕ, ◌≤◌, ◌+◌, ◌-◌, min, Bool, true, false, if◌then◌else◌, nat_lt, Option, Some}
 use Rattle.std.specs.Prelude.{None, List, [], ◌∷◌}
 use Rattle.std.specs.Option.{option_map}
@@ -18,7 +18,7 @@ use Rattle.bound_expr.specs.Limits.{too_large_base, node_limit}
 abbrev pub copies_within_limit : ℕ → ℕ → ℕ
 copies_within_limit nodes n = min n (if nat_lt node_limit nodes then 2 else node_limit + 1)
 
--- the piece that is carried, behind so many nodes
+-- the piece that is carried, behind this many nodes
 abbrev pub kept_at : Position → ℕ → Piece → Piece
 kept_at (RunCaret i) nodes (Number n) = Number (copies_within_limit nodes n)
 kept_at position nodes piece = piece
@@ -29,7 +29,7 @@ limited_step f piece =
     if has_large_base f piece then Some (front_at f.outer f.terms (init f.factors) (PowerCaret (too_large_base - 1)))
     else step f (kept_at f.position (nodes_of f) piece)
 
--- the first of these kinds that stands against a piece
+-- the first of these kinds that is a fault of a piece
 abbrev pub first_of : (Kind → Bool) → List Kind → Option Kind
 first_of against [] = None
 first_of against (kind ∷ kinds) = if against kind then Some kind else first_of against kinds
@@ -38,7 +38,7 @@ first_of against (kind ∷ kinds) = if against kind then Some kind else first_of
 abbrev pub early_kinds : List Kind
 early_kinds = Syntax ∷ NumberTooLarge ∷ UnknownName ∷ []
 
--- `A^` at the beginning, and `B^` behind so many times `A`
+-- `A^` at the beginning, and `B^` behind this many times `A`
 abbrev pub begun_run : Front
 begun_run = front_at Whole NoParts NoParts (RunCaret 0)
 
@@ -49,10 +49,10 @@ behind_run k = front_at Whole NoParts (with_copies k 0 NoParts) (RunCaret 1)
 pub record IsCarried (f : Front) (n kept : ℕ) (many : Bool) : Type 0 where
   pub copies : limited_step f (Number n) ≡ step f (Number kept)
   pub written : has_many (step f (Number n)) ≡ many
-  pub told : has_many (limited_step f (Number n)) ≡ many
+  pub worked : has_many (limited_step f (Number n)) ≡ many
 
 -- how runs are carried, as worked out by hand
-pub record RunsAreTold : Type 0 where
+pub record RunsAreWorkedOut : Type 0 where
   -- with its product `A^4095` has as many nodes as a bound may have, and `A^4096` one more
   pub largest : IsCarried begun_run 4095 4095 false
   pub one_more : IsCarried begun_run 4096 4096 true
@@ -78,4 +78,4 @@ pub record CarriedFrontsAreMarked : Type 0 where
       → has_many (Some g) ≡ true
   pub within : (f : Front) (piece : Piece) → has_large_base f piece ≡ false → nodes_of f ≤ node_limit
       → has_many (step f piece) ≡ false → limited_step f piece ≡ step f piece
-  pub told : RunsAreTold
+  pub worked : RunsAreWorkedOut

@@ -8,7 +8,7 @@ use Rattle.bound_text.specs.Steps.{step}
 use Rattle.bound_text.specs.Kinds.{Kind, Syntax, NumberTooLarge, UnknownName, TooDeep, TooLarge}
 use Rattle.bound_expr.specs.Limits.{cap, too_large_base, depth_limit, node_limit}
 
--- what taking a piece comes to: a refusal, or what has been read with it
+-- the result of taking a piece: a refusal, or the new front
 pub data PieceResult : Type 0 where
   Refused : Kind → PieceResult
   Reached : Front → PieceResult
@@ -66,19 +66,19 @@ has_large_base_at position fs piece = false
 abbrev pub has_large_base : Front → Piece → Bool
 has_large_base f piece = has_large_base_at f.position f.factors piece
 
--- what the fault of a piece and where it leads come to
+-- the result of a piece with this fault that leads to this front
 abbrev pub fault_or_front : Option Kind → Option Front → PieceResult
 fault_or_front fault None = Refused Syntax
 fault_or_front (Some kind) (Some f) = Refused kind
 fault_or_front None (Some f) = sized f
 
--- what taking a piece comes to, where n names are listed, and where `caret` says whether `^` comes next
+-- the result of taking a piece, where n names are listed, and `caret` says whether `^` comes next
 abbrev pub piece_result : ℕ → Bool → Front → Piece → PieceResult
 piece_result n caret f piece =
     if has_large_base f piece then Refused NumberTooLarge
     else fault_or_front (fault_of n (begins f.position && caret) piece) (step f piece)
 
--- whether `^` can stand behind a product's last factor: it is a constant, or a variable that stands alone
+-- whether `^` can follow a product's last factor: a constant, or a variable that is the only factor
 abbrev pub takes_caret : Parts → Option Bound → Bool
 takes_caret fs (Some (Constant c)) = true
 takes_caret fs (Some (Input i)) = not (is_input i (last fs))

@@ -1,4 +1,4 @@
--- Which of the parts that have been read are deeper than a limit on levels, piece by piece.
+-- The parts that have been read that are deeper than a limit on levels, piece by piece.
 use Rattle.std.specs.Prelude.{◌≡◌, ℕ, suc, ◌-◌, Bool, false, nat_lt, List, [], ◌∷◌, ◌++◌, Option, Some, None}
 use Rattle.std.specs.Prelude.{slice_get}
 use Rattle.text_core.specs.model.Bounds.{Bound, Parts, Part}
@@ -33,20 +33,21 @@ pub record Flags (room : ℕ) (old new : List Bool) (text left : ℕ → Marks �
   pub each : (most level : ℕ) (rest : Marks) → room ≡ suc most - level
       → new ++ flags most (left level rest) ≡ old ++ flags most (text level rest)
 
--- so that nothing of it is left
+-- the same where nothing of it is left
 abbrev pub FlagsAll : ℕ → List Bool → List Bool → (ℕ → Marks → Marks) → Type 0
 FlagsAll room old new text = Flags room old new text (λ level rest. rest)
 
--- the same of pieces that no part begins with, or of which each part has its own level
+-- the same for pieces with which no part begins, or whose parts each have their own level
 pub record Passes (old new : List Bool) (text : Marks → Marks) : Type 0 where
   pub each : (most : ℕ) (rest : Marks) → new ++ flags most rest ≡ old ++ flags most (text rest)
 
--- behind the old flags those of a factor were put, but for the run that it ends with
+-- behind the old flags those of a factor were put, except for the run that it ends with
 pub record FlagsFactor (room : ℕ) (old new : List Bool) (before behind : Before) (b : Bound) : Type 0 where
   pub each : (bs : Parts) → Flags room old new (λ level. factors_marks level before (Part b bs))
       (λ level. factors_marks level behind bs)
 
--- the marks of terms, and of the factors of the next one, behind so many levels above with a sum's node and a product's
+-- the marks of terms, and of the factors of the next one, behind this many levels above with a sum's node and a
+-- product's
 abbrev pub parts_marks : ℕ → ℕ → ℕ → Parts → Parts → Marks → Marks
 parts_marks above sum product ts fs rest =
     each_marks plus_between (level_behind above sum 0) ts
@@ -75,7 +76,8 @@ pub record FlagsOpened (room : ℕ) (factor : Bool) (within : ℕ) (old new : Li
   pub levels : (most : ℕ) (outer : Outer) → room ≡ most - levels_above outer → factor ≡ in_factor outer
       → within ≡ most - levels_above (Inside bracket ts fs outer)
 
--- behind the old flags those of what stands round the innermost bound were put, and this may have so many levels
+-- the flags of the innermost bound's surroundings were appended to the old ones, and the bound may have this many
+-- levels
 pub record FlagsOuter (most room : ℕ) (old new : List Bool) (outer : Outer) : Type 0 where
   pub each : (rest : Marks) → new ++ flags most rest ≡ old ++ flags most (outer_marks outer rest)
   pub levels : room ≡ most - levels_above outer

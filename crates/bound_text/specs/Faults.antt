@@ -26,8 +26,8 @@ pub record TextsHaveNoFault : Type 0 where
   pub each : (names : List Name) → AreNames names → (bytes : List ℕ) (b : plain.Bound) (x : Fault Kind)
       → IsTextWithin names bytes b → IsFirst names bytes x → ⊥
 
--- a front tells what has been read: pieces lead to it exactly where a text as bounds are spelled can begin with it, and
--- it is written as they are; and an item begins there exactly where a base with its `^` can stand
+-- a front is written as what has been read: pieces lead to it exactly where they are its text, which a text of a bound
+-- can begin with; and an item begins there exactly where a base with its `^` can follow
 pub record FrontsAreRead : Type 0 where
   pub read : (n : ℕ) (done : List Piece) (f : Front) → reached (bounds n) done ≡ Some f → IsFront f
       × (front_then f [] ≡ onto done [])
@@ -38,7 +38,7 @@ pub record FrontsAreRead : Type 0 where
   pub begins : (n : ℕ) (done : List Piece) (f : Front) → reached (bounds n) done ≡ Some f
       → IsBeginning (bounds n) (Caret ∷ Number 2 ∷ done) → IsTrue (begins f.position)
 
--- what reading a text answers: the bound, or the first fault, want of memory aside
+-- what reading a text answers: the bound, or the first fault, if memory suffices
 abbrev pub Answers : List Name → List ℕ → Result Bound BoundTextError → Type 0
 Answers names bytes (Ok b) = IsTextWithin names bytes (bound_of b)
 Answers names bytes (Err (errors.Syntax at)) = IsFirst names bytes (record { kind = Syntax; at = at })
@@ -48,7 +48,7 @@ Answers names bytes (Err (errors.TooDeep at)) = IsFirst names bytes (record { ki
 Answers names bytes (Err (errors.TooLarge at)) = IsFirst names bytes (record { kind = TooLarge; at = at })
 Answers names bytes (Err errors.Memory) = ⊤
 
--- the answer to the text of a bound: that bound, want of memory aside
+-- the answer to the text of a bound: that bound, if memory suffices
 abbrev pub GivesBack : plain.Bound → Result Bound BoundTextError → Type 0
 GivesBack b (Ok a) = bound_of a ≡ b
 GivesBack b (Err errors.Memory) = ⊤

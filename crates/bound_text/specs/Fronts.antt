@@ -1,4 +1,4 @@
--- The part of a text that has been read, as the tree so far.
+-- The state of parsing a bound, as the tree so far.
 use Rattle.std.specs.Prelude.{ℕ, ◌+◌, ◌≤◌, max, Bool, true, false, if◌then◌else◌, not, ◌&&◌, ◌==◌, List, ◌∷◌, ◌++◌}
 use Rattle.std.specs.Prelude.{Option, Some, None, IsTrue, IsFalse, ⊤}
 use Rattle.text_core.specs.model.Bounds.{Bound, Input, SumOf, ProductOf, Parts, NoParts, Part}
@@ -14,7 +14,7 @@ pub data Bracket : Type 0 where
   Exponent : ℕ → Bracket
   Factor : Bracket
 
--- what stands round the innermost bound: nothing, or a bracket behind these terms of a sum and these factors of the
+-- what surrounds the innermost bound: nothing, or a bracket behind these terms of a sum and these factors of the
 -- product that is the next term
 pub data Outer : Type 0 where
   Whole : Outer
@@ -31,8 +31,8 @@ pub data Position : Type 0 where
   PlusRead : Position
   CommaRead : Position
 
--- the part that has been read: what stands round the innermost bound, the bound's terms and the factors of its last
--- term so far, and the position
+-- the parser's state: what surrounds the innermost bound, the bound's terms and the factors of its last term so far,
+-- and the position
 pub record Front : Type 0 where
   pub outer : Outer
   pub terms : Parts
@@ -55,7 +55,7 @@ bracket_then (Arguments bs) rest = Maximum ∷ each_then comma_between bs rest
 bracket_then (Exponent c) rest = Number c ∷ Caret ∷ Open ∷ rest
 bracket_then Factor rest = Open ∷ rest
 
--- what stands round a bound, and then the rest
+-- the pieces around a bound, and then the rest
 abbrev pub outer_then : Outer → List Piece → List Piece
 outer_then Whole rest = rest
 outer_then (Inside bracket ts fs outer) rest =
@@ -117,7 +117,7 @@ bracket_depth (Arguments bs) = maximum_depth bs
 bracket_depth (Exponent c) = 0
 bracket_depth Factor = 0
 
--- the nodes round the innermost bound
+-- the nodes around the innermost bound
 abbrev pub nodes_round : Outer → ℕ
 nodes_round Whole = 0
 nodes_round (Inside bracket ts fs outer) =
@@ -129,7 +129,7 @@ abbrev pub levels_above : Outer → ℕ
 levels_above Whole = 0
 levels_above (Inside bracket ts fs outer) = levels_above outer + sum_node outer ts + product_node_round bracket fs + 1
 
--- the levels of the tree round the innermost bound
+-- the levels of the tree around the innermost bound
 abbrev pub levels_round : Outer → ℕ
 levels_round Whole = 0
 levels_round (Inside bracket ts fs outer) =
@@ -203,7 +203,7 @@ term_of fs = as_one ProductOf fs
 abbrev pub bound_of_parts : Parts → Parts → Bound
 bound_of_parts ts fs = as_one SumOf (with_part ts (term_of fs))
 
--- the factor that stands alone
+-- the factor, if there is only one
 abbrev pub lone : Parts → Option Bound
 lone NoParts = None
 lone (Part b NoParts) = Some b
@@ -241,14 +241,14 @@ abbrev pub IsOuter : Outer → Type 0
 IsOuter Whole = ⊤
 IsOuter (Inside bracket ts fs outer) = IsBracket bracket × AreTerms ts × AreFactors fs × IsOuter outer
 
--- whether a bound stands in the brackets of a maximum
+-- whether a bound is in the brackets of a maximum
 abbrev pub in_arguments : Outer → Bool
 in_arguments (Inside (Arguments bs) ts fs outer) = true
 in_arguments (Inside (Exponent c) ts fs outer) = false
 in_arguments (Inside Factor ts fs outer) = false
 in_arguments Whole = false
 
--- whether an argument can end here: it is no maximum, and stands in the brackets of one
+-- whether an argument can end here: it is no maximum, and is in the brackets of one
 abbrev pub can_be_argument : Outer → Parts → Parts → Bool
 can_be_argument outer ts fs = in_arguments outer && (can_end fs && not (is_maximum (bound_of_parts ts fs)))
 

@@ -1,5 +1,5 @@
 -- Bounds inside another text: a part that is one level too deep is refused at its own first byte, though what makes it
--- so deep may come later, as the `*` behind it does.
+-- too deep may come later, as the `*` behind it does.
 use Rattle.std.specs.Prelude.{ℕ, suc, ◌+◌, Bool, true, false, if◌then◌else◌, nat_lt, List, [], ◌∷◌, ◌++◌, Option, Some}
 use Rattle.std.specs.Prelude.{None}
 use Rattle.text_core.specs.model.Bounds.{Bound, Constant, Input, SumOf, ProductOf, MaximumOf, PowerOf, Parts, NoParts}
@@ -95,11 +95,12 @@ bracket_marks level (Arguments bs) rest = Some level ∷ each_marks comma_betwee
 bracket_marks level (Exponent c) rest = Some level ∷ None ∷ None ∷ rest
 bracket_marks level Factor rest = Some level ∷ rest
 
--- the level of terms, and of the factors of the last one, behind so many levels above with a sum's node and a product's
+-- the level of terms, and of the factors of the last one, behind this many levels above with a sum's node and a
+-- product's
 abbrev pub level_behind : ℕ → ℕ → ℕ → ℕ
 level_behind above sum product = suc (above + sum + product)
 
--- what stands round the innermost bound
+-- what surrounds the innermost bound
 abbrev pub outer_marks : Outer → Marks → Marks
 outer_marks Whole rest = rest
 outer_marks (Inside bracket ts fs outer) rest =
@@ -139,7 +140,7 @@ deep_among most [] ts = []
 deep_among most (mark ∷ marks) [] = []
 deep_among most (mark ∷ marks) (t ∷ ts) = deep_at most mark t.at (deep_among most marks ts)
 
--- every other kind stands where it does in the text of a bound alone
+-- every other kind is reported where it is in the text of a bound alone
 abbrev pub other_kinds : List Kind
 other_kinds = Syntax ∷ NumberTooLarge ∷ UnknownName ∷ TooLarge ∷ []
 
@@ -147,7 +148,7 @@ abbrev pub shown_next : ℕ → Front → List (Token Piece) → List (Fault Kin
 shown_next n f [] = []
 shown_next n f (t ∷ rest) = faults_at t.at (stands n f t.piece (pieces rest)) other_kinds
 
--- the reader of bounds inside another text, which may have so many levels
+-- the reader of bounds inside another text, which may have this many levels
 abbrev pub inner_bounds : ℕ → ℕ → Reader Piece Bound Front Kind
 inner_bounds most n =
     record (bounds n) {

@@ -16,6 +16,7 @@ pub mod Depths
 pub mod Carrying
 -- laws, and values that were worked out by hand
 pub mod WorkedInside
+pub mod WorkedLimits
 -- the machinery of the functions inside and of the proofs
 pub mod Writing
 pub mod Kinds

@@ -31,7 +31,7 @@ spelled names Blank = 32 ∷ []
 spelled names Comma = 44 ∷ []
 spelled names Wrong = []
 
--- the bytes of pieces, one behind the other
+-- the bytes of pieces, one after the other
 abbrev pub bytes_of : List Name → List Piece → List ℕ
 bytes_of names [] = []
 bytes_of names (piece ∷ pieces) = spelled names piece ++ bytes_of names pieces

@@ -1,4 +1,4 @@
--- What is written behind a text.
+-- What was appended to a text.
 use Rattle.std.specs.Prelude.{◌≡◌, ℕ, ◌<◌, List, ◌++◌, ⊤}
 use Rattle.text_core.specs.model.Programs.{Name}
 use Rattle.text_core.specs.model.Bounds.{Bound, Parts, Part}
@@ -37,7 +37,7 @@ abbrev pub separator_of : Join → List plain.Piece
 separator_of joins.Plus = plus_between
 separator_of joins.Comma = comma_between
 
--- what stands before a factor, as plain data
+-- what comes before a factor, as plain data
 abbrev pub before_of : Before → writing.Before
 before_of befores.Nothing = writing.Nothing
 before_of (befores.Run i n) = writing.Run i n
@@ -58,7 +58,7 @@ pub record Writes (names : List Name) (old new : List ℕ)
 abbrev pub WritesAll : List Name → List ℕ → List ℕ → (List plain.Piece → List plain.Piece) → Type 0
 WritesAll names old new text = Writes names old new text (λ rest. rest)
 
--- a factor was written behind what stands before it, but for the run that it ends with
+-- a factor was written behind what comes before it, except for the run that it ends with
 pub record WritesFactor (names : List Name) (old new : List ℕ) (before behind : writing.Before)
     (b : Bound) : Type 0 where
   pub each : (bs : Parts) (rest : List plain.Piece)

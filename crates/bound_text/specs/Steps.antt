@@ -1,4 +1,4 @@
--- Where each piece leads the reader.
+-- The steps of parsing a bound.
 use Rattle.std.specs.Prelude.{ℕ, zero, suc, Bool, true, false, not, ◌&&◌, nat_lt, List, Option, Some, None}
 use Rattle.text_core.specs.model.Bounds.{Bound, Constant, Input, MaximumOf, PowerOf, Parts, NoParts}
 pub use Rattle.text_core.specs.Choices.{when}
@@ -114,7 +114,7 @@ step f piece = step_at f.position f.outer f.terms f.factors piece
 abbrev pub walk : Option Front → List Piece → Option Front
 walk reached pieces = readers.walk step reached pieces
 
--- whether nothing stands round the bound
+-- whether the bound has no surroundings
 abbrev pub is_whole : Outer → Bool
 is_whole Whole = true
 is_whole (Inside bracket ts fs outer) = false

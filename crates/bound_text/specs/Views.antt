@@ -1,4 +1,4 @@
--- What has been read of a text, as plain data.
+-- The code's state of parsing as plain data.
 use Rattle.std.specs.Prelude.{◌≡◌, ℕ, if◌then◌else◌, Bool, true, false, not, Option, Some, None, Result, Ok, Err, ⊤}
 use Rattle.std.specs.Prelude.{IsTrue}
 use Rattle.text_core.specs.model.Bounds as bounds
@@ -21,7 +21,7 @@ use Rattle.bound_text.specs.declared.error.BoundTextError.TheVariants as errors
 use Rattle.bound_text.specs.declared.fault.Fault.{Fault}
 use Rattle.bound_text.specs.declared.fault.Fault.TheVariants as faults
 
--- the open brackets, as what stands round the innermost bound
+-- the open brackets, as surroundings of the innermost bound
 abbrev pub outer_in : Brackets → Outer
 outer_in b = outer_of b.opened.items
 
@@ -68,7 +68,7 @@ abbrev pub is_in_run : Position → Bool
 is_in_run (at.RunCaret i) = true
 is_in_run position = false
 
--- a refusal of the code is of this kind, want of memory aside
+-- a refusal of the code is of this kind, if memory suffices
 abbrev pub IsKind : plain.Kind → Fault → Type 0
 IsKind plain.Syntax faults.Syntax = ⊤
 IsKind plain.NumberTooLarge faults.NumberTooLarge = ⊤
@@ -86,7 +86,8 @@ fault_from plain.UnknownName = faults.UnknownName
 fault_from plain.TooDeep = faults.TooDeep
 fault_from plain.TooLarge = faults.TooLarge
 
--- the reader comes to where the step leads; it answers `Syntax` exactly where it leads nowhere, want of memory aside
+-- the reader gets to the front to which the step leads; it answers `Syntax` exactly where the step leads nowhere, if
+-- memory suffices
 abbrev pub Follows : Option Front → Reader → Result (Unit {0}) Fault → Type 0
 Follows reached r (Ok u) = (reached ≡ Some (front_of r)) × IsTrue (is_settled r)
 Follows reached r (Err faults.Syntax) = reached ≡ None
@@ -99,7 +100,7 @@ Keeps f r (Ok u) = ⊤
 Keeps f r (Err faults.Syntax) = (front_of r ≡ f) × IsTrue (is_fresh r)
 Keeps f r (Err fault) = ⊤
 
--- the reader comes to what taking a piece comes to, or refuses it as that does, want of memory aside
+-- the reader gets to the result of taking a piece, or refuses it as that does, if memory suffices
 abbrev pub Obeys : PieceResult → Reader → Result (Unit {0}) Fault → Type 0
 Obeys (Reached f) r (Ok u) = (f ≡ front_of r) × IsTrue (is_settled r)
 Obeys (Refused kind) r (Ok u) = ⊥
@@ -114,15 +115,14 @@ FindsFault None (Err fault) = ⊥
 FindsFault (Some kind) (Ok u) = ⊥
 FindsFault (Some kind) (Err fault) = fault ≡ fault_from kind
 
--- the bound that a text that ends here stands for; `Syntax` is answered exactly where there is none, want of memory
--- aside
+-- the bound that a text that ends here stands for; `Syntax` is answered exactly where there is none, if memory suffices
 abbrev pub Finishes : Option bounds.Bound → Result Bound Fault → Type 0
 Finishes bound (Ok b) = bound ≡ Some (bound_of b)
 Finishes bound (Err faults.Syntax) = bound ≡ None
 Finishes bound (Err faults.Memory) = ⊤
 Finishes bound (Err fault) = ⊥
 
--- an error is a refusal of this kind at this position, or want of memory
+-- an error is a refusal of this kind at this position, or running out of memory
 abbrev pub IsRefusal : plain.Kind → ℕ → BoundTextError → Type 0
 IsRefusal plain.Syntax at (errors.Syntax p) = p ≡ at
 IsRefusal plain.NumberTooLarge at (errors.NumberTooLarge p) = p ≡ at
@@ -132,7 +132,7 @@ IsRefusal plain.TooLarge at (errors.TooLarge p) = p ≡ at
 IsRefusal kind at errors.Memory = ⊤
 IsRefusal kind at error = ⊥
 
--- the code answers what reading comes to, want of memory aside
+-- the code's result agrees with the answer of reading, if memory suffices
 abbrev pub Says : Answer bounds.Bound plain.Kind → Result Bound BoundTextError → Type 0
 Says (Stands b) (Ok a) = bound_of a ≡ b
 Says (Stands b) (Err errors.Memory) = ⊤

@@ -1,4 +1,4 @@
--- What was worked out by hand of bounds inside another text, over `A` and `B`, with a few levels each.
+-- Worked values of bounds inside another text, over `A` and `B`, with a limit of few levels.
 use Rattle.std.specs.Prelude.{ℕ, List, [], ◌∷◌, length, codes}
 use Rattle.text_core.specs.model.Programs.{Name}
 use Rattle.text_core.specs.model.Bounds.{Bound, Constant, Input, ProductOf, MaximumOf, PowerOf, NoParts, Part}
@@ -13,7 +13,7 @@ use Rattle.bound_text.specs.Inside.{inner_bounds}
 abbrev pub two_names : List Name
 two_names = codes "A" ∷ codes "B" ∷ []
 
--- the first fault of a bound that may have so many levels
+-- the first fault of a bound that may have this many levels
 abbrev pub HasFirst : ℕ → List ℕ → Kind → ℕ → Type 0
 HasFirst most bytes kind at = first.IsFirst (inner_bounds most 2) (length bytes) (tokens two_names bytes)
     (record { kind = kind; at = at })
@@ -23,9 +23,9 @@ abbrev pub StandsFor : ℕ → List ℕ → Bound → Type 0
 StandsFor most bytes b = IsTree (inner_bounds most 2) (length bytes) (tokens two_names bytes) b
 
 -- where a part is too deep
-pub record DepthsAreTold : Type 0 where
-  -- with one level `A*B`, `A + B` and `A^2` are refused at their first factor, term and variable, and so is what has
-  -- come to be a sum by its blank; `A^` isn't a product yet
+pub record DepthsAreWorkedOut : Type 0 where
+  -- with one level `A*B`, `A + B` and `A^2` are refused at their first factor, term and variable, and so is a bound
+  -- that is seen to be a sum by its blank; `A^` isn't a product yet
   pub product : HasFirst 1 (codes "A*B") TooDeep 0
   pub sum : HasFirst 1 (codes "A + B") TooDeep 0
   pub begun_sum : HasFirst 1 (codes "A ") TooDeep 0
@@ -36,7 +36,7 @@ pub record DepthsAreTold : Type 0 where
   -- with two levels an exponent's factor is too deep, which the `*` behind it shows; with three it isn't
   pub exponent : HasFirst 2 (codes "2^(A*B)") TooDeep 3
   pub exponent_within : StandsFor 3 (codes "2^(A*B)") (PowerOf 2 (ProductOf (Part (Input 0) (Part (Input 1) NoParts))))
-  -- a part deep within what a `*` pushes down is refused itself, and not what it stands in
+  -- a part deep within what a `*` pushes down is refused itself, and not its surroundings
   pub pushed : HasFirst 3 (codes "max(1, 2^A)*B") TooDeep 9
   pub pushed_within : StandsFor 4 (codes "max(1, 2^A)*B")
       (ProductOf (Part (MaximumOf (Part (Constant 1) (Part (PowerOf 2 (Input 0)) NoParts))) (Part (Input 1) NoParts)))
@@ -57,4 +57,4 @@ pub record InnerBoundsAreRead : Type 0 where
   pub laws : (most n : ℕ) → Laws (inner_bounds most n)
   pub answers : (most n : ℕ) → AnswersAll (inner_bounds most n)
   pub one_first : (most n : ℕ) → OneFirst (inner_bounds most n)
-  pub told : DepthsAreTold
+  pub worked : DepthsAreWorkedOut

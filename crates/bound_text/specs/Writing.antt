@@ -1,11 +1,11 @@
--- The pieces of a bound, one spelling each.
+-- The pieces of a bound, in one spelling.
 use Rattle.std.specs.Prelude.{ℕ, suc, Bool, true, false, List, [], ◌∷◌, ◌++◌, if◌then◌else◌, not, ◌==◌, nat_lt}
 use Rattle.text_core.specs.model.Bounds.{Bound, Constant, Input, SumOf, ProductOf, MaximumOf, PowerOf, Parts, NoParts}
 use Rattle.text_core.specs.model.Bounds.{Part}
 use Rattle.bound_text.specs.Shapes.{is_sum, is_leaf}
 use Rattle.bound_text.specs.Pieces.{Piece, Variable, Number, Maximum, Open, Close, Times, Caret, Plus, Blank, Comma}
 
--- what stands before the next factor of a product: nothing, a run of so many times one variable, or another factor
+-- what comes before the next factor of a product: nothing, a run of this many times one variable, or another factor
 pub data Before : Type 0 where
   Nothing : Before
   Run : ℕ → ℕ → Before
@@ -39,7 +39,7 @@ ended_then Nothing rest = rest
 ended_then (Run i n) rest = run_then i n rest
 ended_then Other rest = rest
 
--- `*` where a factor stands before, and then the rest
+-- `*` where a factor comes before, and then the rest
 abbrev pub times_then : Before → List Piece → List Piece
 times_then Nothing rest = rest
 times_then (Run i n) rest = Times ∷ rest
@@ -50,17 +50,17 @@ abbrev pub bracketed_then : Bool → (List Piece → List Piece) → List Piece 
 bracketed_then true text rest = Open ∷ text (Close ∷ rest)
 bracketed_then false text rest = text rest
 
--- what stands between the parts of a sum: ` + `
+-- the separator of a sum's parts: ` + `
 abbrev pub plus_between : List Piece
 plus_between = Blank ∷ Plus ∷ Blank ∷ []
 
--- what stands between the arguments of a maximum: `, `
+-- the separator of a maximum's arguments: `, `
 abbrev pub comma_between : List Piece
 comma_between = Comma ∷ Blank ∷ []
 
 abbrev mutual
   -- the pieces of a bound, and then the rest: the parts of a sum are joined by ` + `, those of a maximum by `, `, the
-  -- factors of a product by `*`; an exponent stands in brackets unless it is a constant or a variable
+  -- factors of a product by `*`; an exponent is in brackets unless it is a constant or a variable
   pub text_then : Bound → List Piece → List Piece
   text_then (Constant c) rest = Number c ∷ rest
   text_then (Input i) rest = Variable i ∷ rest
@@ -79,7 +79,7 @@ abbrev mutual
   more_then separator NoParts rest = rest
   more_then separator (Part b bs) rest = separator ++ text_then b (more_then separator bs rest)
 
-  -- the factors behind what stands before: equal neighbouring variables are one run, and a sum stands in brackets
+  -- the factors behind what comes before: equal neighbouring variables are one run, and a sum is in brackets
   pub factors_then : Before → Parts → List Piece → List Piece
   factors_then before NoParts rest = ended_then before rest
   factors_then before (Part (Input i) bs) rest =

@@ -8,8 +8,8 @@ use crate::state::{Bracket, Opened};
 use bound_expr::Memory;
 use std::alloc::Global;
 
-/// The open brackets, the outermost first. Each tells what is counted round a bound in it, so that this is known of the
-/// innermost one without going through the others.
+/// The open brackets, the outermost first. Each keeps the counts around a bound in it, so that those of the innermost
+/// one are known without going through the others.
 #[derive(Drop)]
 pub struct Brackets {
     opened: Vec<Opened>,
@@ -61,7 +61,7 @@ impl Brackets {
         }
     }
 
-    /// What stands round the innermost bound.
+    /// The counts around the innermost bound.
     pub(crate) fn round(&self) -> Round
         ensures { IsRound (outer_in self.now) result }
     {
@@ -106,8 +106,8 @@ impl Brackets {
         self.opened.pop()
     }
 
-    /// All open brackets, with the terms and the factors before each, where a bound may have so many levels. The answer
-    /// is how many the innermost one may have.
+    /// All open brackets, with the terms and the factors before each, where a bound may have this many levels. The
+    /// answer is how many the innermost one may have.
     pub(crate) fn mark(&self, flags: &mut Vec<bool>, most: u64) -> Result<u64, Memory>
         ensures { IfOk result (λ within. FlagsOuter most within flags.old.items flags.new.items (outer_in self.now)) }
     {

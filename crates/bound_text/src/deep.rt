@@ -1,4 +1,4 @@
-//! Where what has been read is too deep.
+//! Finds where what has been read is too deep.
 
 ghost use Rattle.std.specs.Prelude.{◌≡◌, ◌++◌, ◌∷◌, OnOk, IfOk, IsTrue, Bool, Some, None};
 ghost use Rattle.std.specs.List.{position};
@@ -18,8 +18,8 @@ use crate::state::{Bracket, Opened, Position, Reader};
 use bound_expr::Memory;
 use std::alloc::Global;
 
-// Terms, and the factors of the next one, where a part beside the terms may have so many levels if neither a sum nor a
-// product counts as one. The answer is how many a factor may have.
+// Marks terms, and the factors of the next one, where a part beside the terms may have this many levels if neither a
+// sum nor a product counts as one. Returns how many a factor may have.
 fn mark_parts(
     flags: &mut Vec<bool>,
     room: u64,
@@ -49,7 +49,7 @@ fn mark_star(flags: &mut Vec<bool>, factors: &Measured) -> Result<(), Memory>
     }
 }
 
-// An item that has begun behind factors, and may have so many levels.
+// Marks an item that has begun behind factors, and may have this many levels.
 fn mark_item(flags: &mut Vec<bool>, room: u64, factors: &Measured) -> Result<(), Memory>
     ensures { OnOk result (FlagsAll room flags.old.items flags.new.items
         (λ level rest. star_marks (parts_in factors.now) (Some level ∷ rest))) }
@@ -73,7 +73,7 @@ impl Bracket {
         matches!(self, Bracket::Factor)
     }
 
-    // The bracket, where what it belongs to may have so many levels.
+    // Marks the bracket, whose node may have this many levels.
     fn mark(&self, flags: &mut Vec<bool>, room: u64) -> Result<(), Memory>
         ensures { OnOk result (FlagsAll room flags.old.items flags.new.items
             (λ level. bracket_marks level (bracket_of self.now))) }
@@ -118,8 +118,8 @@ impl Opened {
 }
 
 impl Reader {
-    /// Which of the pieces that have been read is the first with which a part begins that has more than so many levels
-    /// above and with it, where one is. It goes through all that has been read.
+    /// The first of the pieces read so far at which a part begins that has more than this many levels above and with
+    /// it, if there is one. It goes through all that has been read.
     ///
     /// # Errors
     ///
@@ -145,7 +145,7 @@ impl Reader {
         self.mark_position(flags, inner)
     }
 
-    // What was read last behind the factors.
+    // Marks what was read last behind the factors.
     fn mark_position(&self, flags: &mut Vec<bool>, room: u64) -> Result<(), Memory>
         ensures { OnOk result (FlagsAll room flags.old.items flags.new.items
             (λ level. marks_here level self.now.position (parts_in self.now.factors))) }

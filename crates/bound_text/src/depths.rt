@@ -14,7 +14,7 @@ use crate::kinds::{is_leaf, is_sum};
 use crate::printing::{Before, Join, longer};
 use bound_expr::{Bound, Memory};
 
-/// A part begins with the next piece, and may have so many levels.
+/// A part begins with the next piece, and may have this many levels.
 pub(crate) fn push_part(flags: &mut Vec<bool>, room: u64) -> Result<(), Memory>
     ensures { OnOk result (FlagsAll room flags.old.items flags.new.items (λ level rest. Some level ∷ rest)) }
 {
@@ -47,7 +47,7 @@ fn push_separator(flags: &mut Vec<bool>, join: Join) -> Result<(), Memory>
     }
 }
 
-/// The pieces of a bound, which may have so many levels.
+/// The pieces of a bound, which may have this many levels.
 #[cycle(mark)]
 pub(crate) fn mark_bound(flags: &mut Vec<bool>, room: u64, bound: &Bound) -> Result<(), Memory>
     ensures { OnOk result (FlagsAll room flags.old.items flags.new.items
@@ -85,7 +85,7 @@ fn mark_exponent(flags: &mut Vec<bool>, room: u64, exponent: &Bound) -> Result<(
     }
 }
 
-// Parts with what joins them.
+// Marks parts and their separators.
 #[cycle(mark)]
 fn mark_joined(flags: &mut Vec<bool>, room: u64, join: Join, parts: &[Bound]) -> Result<(), Memory>
     ensures { OnOk result (FlagsAll room flags.old.items flags.new.items
@@ -193,7 +193,7 @@ fn mark_run(flags: &mut Vec<bool>, room: u64, before: Before) -> Result<(), Memo
     Ok(())
 }
 
-// What stands before a factor: the run, and `*`.
+// Marks what comes before a factor: the run, and `*`.
 fn mark_times(flags: &mut Vec<bool>, room: u64, before: Before) -> Result<(), Memory>
     ensures { OnOk result (FlagsAll room flags.old.items flags.new.items
         (λ level rest. ended_marks level (before_of before) (times_marks (before_of before) rest))) }
@@ -205,7 +205,7 @@ fn mark_times(flags: &mut Vec<bool>, room: u64, before: Before) -> Result<(), Me
     }
 }
 
-/// Parts with what stands behind each.
+/// Marks parts, each with its separator.
 pub(crate) fn mark_each(
     flags: &mut Vec<bool>,
     room: u64,

@@ -1,4 +1,4 @@
-//! From terms and factors to one bound.
+//! Builds a bound from its terms and factors.
 
 ghost use Rattle.std.specs.Prelude.{◌≡◌, IfOk, MatchOption, MatchResult, if◌then◌else◌};
 ghost use Rattle.text_core.specs.model.Bounds as plain;
@@ -15,7 +15,7 @@ use crate::measured::{Counted, Measured};
 use bound_expr::{Bound, Memory};
 use std::alloc::Global;
 
-// A part that stands alone, by itself, and others as they were.
+// A single part replaces its node; other nodes are unchanged.
 #[tactic(auto, using(crate::proofs::JoiningLaws::as_one_more))]
 fn alone(parts: Measured) -> Result<Counted, Measured>
     ensures { (whole : Parts → plain.Bound) → MatchResult result
@@ -124,7 +124,7 @@ pub fn is_empty(bounds: &Measured) -> bool
     bounds.bounds.is_empty()
 }
 
-// The bound that stands alone.
+// The only part.
 #[tactic(auto, using(crate::proofs::JoiningLaws::lone_many, crate::proofs::JoiningLaws::lone_got))]
 fn lone(bounds: &Measured) -> Option<&Bound>
     ensures { MatchOption result (lone_of (parts_in bounds.now) ≡ None)

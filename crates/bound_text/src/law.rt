@@ -1,17 +1,24 @@
-//! What holds of bounds inside another text.
+//! Laws of bounds inside another text.
 
 ghost use Rattle.bound_text.specs.WorkedInside.{InnerBoundsAreRead};
+ghost use Rattle.bound_text.specs.WorkedLimits.{LimitsOfTextsAreMet};
 ghost use Rattle.bound_text.specs.Carrying.{CarriedFrontsAreMarked};
 
 /// Inside another text a bound is read by the same steps, and so to its tree or its first fault; only a part that is
-/// one level too deep is refused at its own first byte, and not at the token that makes it so deep. Where that is, in
-/// small texts, is what was worked out by hand.
+/// one level too deep is refused at its own first byte, and not at the token that makes it so deep. Worked values show
+/// where that is in small texts.
 pub fn inner_bounds_are_read()
     ensures { InnerBoundsAreRead }
 {}
 
-/// What a reader carries behind a piece leads on where the piece does, with the same marks, and is too large exactly
-/// where what the piece leads to is; then it stays so. Within the limits it is what the piece leads to.
+/// The state that a reader carries behind a piece accepts the next piece where the exact state does, with the same
+/// marks, and is too large exactly where the exact one is; then it stays so. Within the limits it is the exact state.
 pub fn carried_fronts_are_marked()
     ensures { CarriedFrontsAreMarked }
+{}
+
+/// Bounds of as many nodes and levels, and of as large a base, as a text may have are within the limits, and those of
+/// one more aren't. Its contract is these values; it does nothing.
+pub fn limits_of_texts_are_met()
+    ensures { LimitsOfTextsAreMet }
 {}

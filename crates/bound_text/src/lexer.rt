@@ -3,7 +3,7 @@
 ghost use Rattle.std.specs.Prelude.{◌≡◌, ◌<◌, ◌≤◌, ◌∷◌, ◌+◌, length, IfOk, IsTrue};
 ghost use Rattle.std.specs.List.{list_all};
 ghost use Rattle.std.specs.Char.{is_ascii_digit};
-ghost use Rattle.text_core.specs.Listed.{names_in};
+ghost use Rattle.text_core.specs.NameIndex.{names_in};
 ghost use Rattle.bound_text.specs.Lexing.{word_at, number_at, mark_at, lexeme_at};
 ghost use Rattle.bound_text.specs.Printing.{piece_of};
 ghost use Rattle.bound_text.specs.Lexemes.{lexeme_of};
@@ -12,7 +12,7 @@ use crate::piece::Piece;
 use bound_expr::{CAP, Memory};
 use std::alloc::AllocError;
 use text_core::{
-    Listed, begins_name, begins_with, digits_len, has_leading_zero, name_len, value_up_to,
+    NameIndex, begins_name, begins_with, digits_len, has_leading_zero, name_len, value_up_to,
 };
 
 /// A piece with the number of its bytes.
@@ -22,8 +22,8 @@ pub struct Lexeme {
     pub len: usize,
 }
 
-// What a name is that `behind` follows.
-fn word(names: &Listed<'_>, name: &[u8], behind: &[u8]) -> Result<Lexeme, Memory>
+// The piece of a name that `behind` follows.
+fn word(names: &NameIndex<'_>, name: &[u8], behind: &[u8]) -> Result<Lexeme, Memory>
     ensures piece { IfOk result (λ l. lexeme_of l ≡ word_at (names_in names.now) name.now behind.now) }
     ensures some { IfOk result (λ l. length name.now ≤ l.len) }
     ensures within { IfOk result (λ l. l.len ≤ length name.now + length behind.now) }
@@ -50,7 +50,7 @@ fn word(names: &Listed<'_>, name: &[u8], behind: &[u8]) -> Result<Lexeme, Memory
     }
 }
 
-// What digits are.
+// The lexeme of digits.
 fn number(digits: &[u8]) -> Lexeme
     requires { IsTrue (list_all is_ascii_digit digits.now) }
     ensures piece { lexeme_of result ≡ number_at digits.now }
@@ -70,7 +70,7 @@ fn number(digits: &[u8]) -> Lexeme
     }
 }
 
-// What any other byte is.
+// The piece of any other byte.
 fn mark(byte: u8) -> Piece
     ensures { piece_of result ≡ mark_at byte }
 {
@@ -91,7 +91,7 @@ fn mark(byte: u8) -> Piece
 /// # Errors
 ///
 /// `Memory` where an allocation fails, and where the variable's number is over 2^32-1.
-pub fn next(names: &Listed<'_>, text: &[u8], first: u8, others: &[u8]) -> Result<Lexeme, Memory>
+pub fn next(names: &NameIndex<'_>, text: &[u8], first: u8, others: &[u8]) -> Result<Lexeme, Memory>
     requires { text.now ≡ first ∷ others.now }
     ensures piece { IfOk result (λ l. lexeme_of l ≡ lexeme_at (names_in names.now) first others.now) }
     ensures some { IfOk result (λ l. 0 < l.len) }

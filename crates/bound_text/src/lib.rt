@@ -1,6 +1,8 @@
-//! Bounds as text, in one spelling: what `print` writes `read` reads back, within its limits, and `read` refuses every
-//! other spelling. A `Reader` takes one piece after the other, for texts that have a bound in their midst.
-//! Contract to the layers above: `text_of` is the text of a bound, and a refusal is the first fault of the text.
+//! Prints and parses bounds, in one spelling: `read` reads back what `print` writes, within its limits, and refuses
+//! every other spelling. A `Reader` takes one piece after the other, for texts that contain a bound among other things.
+//!
+//! Builds on `bound_expr` (bounds) and `text_core` (readers). Main guarantee: `text_of` is the text of a bound; `print`
+//! gives exactly that text, and `read` the bound of a text or its first fault.
 #![tactic(auto)]
 
 mod brackets;
@@ -23,7 +25,7 @@ mod taking;
 
 pub use error::BoundTextError;
 pub use fault::Fault;
-pub use law::{carried_fronts_are_marked, inner_bounds_are_read};
+pub use law::{carried_fronts_are_marked, inner_bounds_are_read, limits_of_texts_are_met};
 pub use piece::Piece;
 pub use printing::{print, write};
 pub use reading::{fronts_are_read, one_bound, read, texts_have_no_fault};

@@ -3,8 +3,8 @@
 /// A piece of the text.
 #[derive(Clone, Copy, Debug, PartialEq, Eq)]
 pub enum Piece {
-    /// The name of the variable with this number. An outer lexer has to number names that aren't listed apart, else
-    /// `A*B` of two of them is read as one twice.
+    /// The name of the variable with this number. An outer lexer has to give different numbers to different names that
+    /// aren't listed, else `A*B` of two of them is read as one name twice.
     Variable(u32),
     /// Decimal digits.
     Number(u128),
@@ -24,6 +24,6 @@ pub enum Piece {
     Blank,
     /// `,`
     Comma,
-    /// What is no piece of any text.
+    /// Bytes that are no piece of any text.
     Wrong,
 }

@@ -1,4 +1,4 @@
-//! From a bound to its text.
+//! Prints a bound.
 
 ghost use Rattle.std.specs.Prelude.{◌≡◌, ◌++◌, ◌∷◌, ◌+◌, ◌^◌, ◌<◌, ◌≤◌, length, map, not, IfOk, OnOk, IsTrue, IsFalse};
 ghost use Rattle.std.specs.Prelude.{MatchOption};
@@ -21,7 +21,7 @@ use itoa::Buffer;
 use std::alloc::Global;
 use text_core::Name;
 
-/// What stands between parts.
+/// The separator of parts.
 #[derive(Clone, Copy)]
 pub enum Join {
     /// ` + `
@@ -30,16 +30,16 @@ pub enum Join {
     Comma,
 }
 
-/// What stands before the next factor of a product.
+/// What comes before the next factor of a product.
 #[derive(Clone, Copy)]
 pub enum Before {
     Nothing,
-    /// So many times one variable, not written yet.
+    /// This many times one variable, not written yet.
     Run(u32, u64),
     Other,
 }
 
-/// The text of a bound over variables with these names. It is of any depth: the call goes as deep as the bound.
+/// The text of a bound over variables with these names. The recursion is as deep as the bound.
 ///
 /// # Errors
 ///
@@ -54,12 +54,11 @@ pub fn print(alloc: Global, names: &[Name], b: &Bound) -> Result<Vec<u8>, Memory
     Ok(text)
 }
 
-/// Writes the text of a bound over variables with these names behind what stands in `text`. It is of any depth: the
-/// call goes as deep as the bound.
+/// Appends the text of a bound, over variables with these names, to `text`. The recursion is as deep as the bound.
 ///
 /// # Errors
 ///
-/// `Memory` where an allocation fails; what stands in `text` is then open.
+/// `Memory` where an allocation fails; the contents of `text` are then unspecified.
 pub fn write(names: &[Name], text: &mut Vec<u8>, b: &Bound) -> Result<(), Memory>
     requires { ReadsBelow (length names.now) (bound_of b.now) }
     ensures { OnOk result (text.new.items ≡ text.old.items ++ text_of (map name_of names.now) (bound_of b.now)) }
@@ -105,7 +104,7 @@ fn write_separator(names: &[Name], text: &mut Vec<u8>, join: Join) -> Result<(),
     }
 }
 
-// A bound without brackets round it.
+// A bound without brackets around it.
 #[cycle(write)]
 fn write_bound(names: &[Name], text: &mut Vec<u8>, bound: &Bound) -> Result<(), Memory>
     requires { ReadsBelow (length names.now) (bound_of bound.now) }
@@ -151,7 +150,7 @@ fn write_bracketed(
     }
 }
 
-// Parts with what joins them.
+// Writes parts and their separators.
 #[cycle(write)]
 fn write_joined(
     names: &[Name],
@@ -248,7 +247,7 @@ fn write_run(names: &[Name], text: &mut Vec<u8>, before: Before) -> Result<(), M
     Ok(())
 }
 
-// What stands before a factor: the run, and `*`.
+// Writes what comes before a factor: the run, and `*`.
 fn write_times(names: &[Name], text: &mut Vec<u8>, before: Before) -> Result<(), Memory>
     requires { IsListedRun (length names.now) before }
     ensures { OnOk result (WritesAll (map name_of names.now) text.old.items text.new.items

@@ -1,4 +1,4 @@
-//! From a text to its bound.
+//! Reads a bound from its text.
 
 ghost use Rattle.std.specs.Prelude.{length, map};
 ghost use Rattle.text_core.specs.model.Bounds as plain;
@@ -16,24 +16,23 @@ use crate::lexer::next;
 use crate::state::Reader;
 use bound_expr::Bound;
 use std::alloc::Global;
-use text_core::{Listed, Name, begins_with};
+use text_core::{Name, NameIndex, begins_with};
 
-/// Reads the bound that a text stands for, over variables with these names.
+/// Reads the bound that a text represents, over variables with these names.
 ///
 /// There is one spelling. The parts of a sum are joined by ` + `, those of a maximum are written `max(a, b)`, the
 /// factors of a product are joined by `*`, and a longest run of n equal neighbouring variables, n at least 2, is
-/// written `A^n`. A power is its base, `^` and the exponent. A sum as a factor stands in brackets, and so does an
-/// exponent that is no constant and no variable. Constants are decimal without leading zeros.
+/// written `A^n`. A power is its base, `^` and the exponent. A sum as a factor is in brackets, and so is an exponent
+/// that is no constant and no variable. Constants are decimal without leading zeros.
 ///
 /// # Errors
 ///
-/// The refusal at the least position is the answer, and at one position the one that comes first here. `Syntax` stands
-/// at the first token that can't follow, at the number of a base under 2, or at the text's length where it ends too
-/// early. A name directly before a bracket is refused at its first byte, unless it is `max`. `NumberTooLarge` stands at
-/// a number over 2^127-1, or a base over 2^64-1; `UnknownName` at a name that isn't listed; `TooDeep` and `TooLarge` at
-/// the token with which the tree so far has more than 200 levels, or more than 4,096 nodes. A sum and a product count
-/// from the token on that shows them. `Memory` comes where memory ran out, or where a listed name has a position over
-/// 2^32-1.
+/// The refusal at the least position is reported, and at one position the one that comes first here. `Syntax` is at the
+/// first token that can't follow, at the number of a base under 2, or at the text's length if it ends too early. A name
+/// directly before a bracket is refused at its first byte, unless it is `max`. `NumberTooLarge` is at a number over
+/// 2^127-1, or a base over 2^64-1; `UnknownName` at a name that isn't listed; `TooDeep` and `TooLarge` at the token
+/// with which the tree so far has more than 200 levels, or more than 4,096 nodes. A sum and a product count from the
+/// token on that shows them. `Memory` comes where memory ran out, or where a listed name has a position over 2^32-1.
 pub fn read(alloc: Global, names: &[Name], bytes: &[u8]) -> Result<Bound, BoundTextError>
     requires { AreNames (map name_of names.now) }
     ensures answer { Answers (map name_of names.now) bytes.now result }
@@ -42,7 +41,7 @@ pub fn read(alloc: Global, names: &[Name], bytes: &[u8]) -> Result<Bound, BoundT
     judge(alloc, names, bytes)
 }
 
-/// A text stands for one bound at most, of those that a `Bound` can hold, however deep and large.
+/// A text represents at most one bound, of those that a `Bound` can hold, however deep and large.
 pub fn one_bound()
     ensures { OneBound }
 {}
@@ -52,8 +51,8 @@ pub fn texts_have_no_fault()
     ensures { TextsHaveNoFault }
 {}
 
-/// A front of the reader tells what has been read: pieces lead to it exactly where it is written as they are, and a
-/// base can stand there exactly where an item begins.
+/// A front of the reader is written as what has been read: pieces lead to it exactly where they are its text, and a
+/// base can follow exactly where an item begins.
 pub fn fronts_are_read()
     ensures { FrontsRead }
 {}
@@ -64,7 +63,7 @@ fn judge(alloc: Global, names: &[Name], bytes: &[u8]) -> Result<Bound, BoundText
     ensures { Says (answer (bounds (length (map name_of names.now))) (length bytes.now)
         (tokens (map name_of names.now) bytes.now)) result }
 {
-    let listed = Listed::new(alloc, names)?;
+    let listed = NameIndex::new(alloc, names)?;
     let mut reader = Reader::new(alloc);
     let mut rest = bytes;
     while let Some((first, others)) = rest.split_first() {

@@ -1,4 +1,4 @@
-//! How large the tree so far is.
+//! The size of the tree so far.
 
 ghost use Rattle.std.specs.Prelude.{◌≡◌, ◌≤◌, ◌^◌, ◌-◌, min, IsTrue, if◌then◌else◌};
 ghost use Rattle.bound_text.specs.Fronts as fronts;
@@ -17,7 +17,7 @@ use bound_expr::{DEPTH_LIMIT, NODE_LIMIT};
 /// How many levels a bound may have.
 const MAX_LEVELS: u64 = DEPTH_LIMIT as u64;
 
-/// What stands round the innermost bound: its nodes, the levels above the bound, and whether the innermost bracket is
+/// The counts around the innermost bound: the nodes, the levels above the bound, and whether the innermost bracket is
 /// that of a sum as a factor.
 #[derive(Clone, Copy)]
 pub struct Round {
@@ -51,7 +51,7 @@ fn product_node(factors: &Measured) -> u64
 }
 
 impl Opened {
-    /// What stands round a bound in this bracket, where `round` is what stands round the bracket.
+    /// The counts around a bound in this bracket, where `round` has those around the bracket.
     pub(crate) fn count_in(&self, round: Round) -> Round
         ensures { (outer : Outer) → IsRound outer round → IsRound
             (Inside (bracket_of self.now.bracket) (parts_in self.now.terms) (parts_in self.now.factors) outer) result }
@@ -84,7 +84,7 @@ impl Opened {
 }
 
 impl Bracket {
-    // The nodes of what the bracket belongs to.
+    // The nodes of the bracket's own node.
     fn nodes(&self) -> u64
         ensures { result ≡ min (bracket_nodes (bracket_of self.now)) (2 ^ 64 - 1) }
     {

@@ -1,4 +1,4 @@
-//! What has been read of a text.
+//! The state of parsing a bound.
 
 ghost use Rattle.std.specs.Prelude.{◌≡◌, IsTrue};
 ghost use Rattle.bound_text.specs.Steps.{beginning};
@@ -20,7 +20,7 @@ pub enum Bracket {
     Factor,
 }
 
-/// An open bracket, with the terms and the factors before it, and what is counted round a bound in it.
+/// An open bracket, with the terms and the factors before it, and what is counted around a bound in it.
 #[derive(Drop)]
 pub struct Opened {
     pub bracket: Bracket,
@@ -32,7 +32,7 @@ pub struct Opened {
 /// What was read last.
 #[derive(Clone, Copy, Debug, PartialEq, Eq)]
 pub enum Position {
-    /// What an item can follow.
+    /// An item can begin.
     Begins,
     /// A number that begins an item, not yet a factor.
     Number(u128),

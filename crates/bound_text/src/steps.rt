@@ -1,4 +1,4 @@
-//! Where each piece leads the reader.
+//! The steps of parsing a bound.
 
 ghost use Rattle.std.specs.Prelude.{◌≡◌, ◌&&◌, ◌^◌, ◌<◌, IsTrue, IsFalse, OnOk, MatchOption, MatchResult};
 ghost use Rattle.bound_text.specs.Fronts.{last, init, can_be_argument as can_be_argument_of};
@@ -137,7 +137,7 @@ impl Reader {
             && !makes_maximum(&self.terms, &self.factors)
     }
 
-    // The innermost bracket with what stands in it is left, if one is open; what stood before it stands again.
+    // Leaves the innermost bracket and its contents, if one is open; what came before it is current again.
     fn leave(&mut self) -> Option<Opened>
         ensures { MatchOption result (outer_in self.old.outer ≡ fronts.Whole)
             (λ left. (outer_in self.old.outer ≡ fronts.Inside (bracket_of left.bracket) (parts_in self.new.terms)
@@ -177,7 +177,7 @@ impl Reader {
         Ok(())
     }
 
-    // What follows an item that is a factor.
+    // Reads what follows an item that is a factor.
     pub(crate) fn follow_item(&mut self, alloc: Global, piece: Piece) -> Result<(), Fault>
         requires fresh { IsTrue (is_fresh self.old) }
         requires settled { IsFalse (is_caret (piece_of piece) && takes_caret (init (parts_in self.old.factors))

@@ -1,4 +1,4 @@
-//! Taking one piece after the other.
+//! Takes one piece after the other.
 
 ghost use Rattle.std.specs.Prelude.{◌≡◌, ◌&&◌, ◌<◌, ◌^◌, ◌≤◌, IsTrue, IsFalse, OnOk, List, Some, false};
 ghost use Rattle.bound_text.specs.Fronts as fronts;
@@ -47,7 +47,7 @@ fn fault_of(names: usize, base: bool, piece: Piece) -> Result<(), Fault>
 }
 
 impl Measured {
-    // So many times a variable more.
+    // Appends a variable this many times.
     fn push_copies(&mut self, variable: u32, count: u32) -> Result<(), Memory>
         ensures { OnOk result (parts_in self.new ≡ with_copies count variable (parts_in self.old)) }
     {
@@ -58,7 +58,7 @@ impl Measured {
     }
 }
 
-// How many copies of a run are carried behind so many nodes.
+// How many copies of a run are carried behind this many nodes.
 fn copies_kept(nodes: u64, count: u128) -> u128
     ensures { result ≡ kept_copies nodes count }
 {
@@ -67,14 +67,13 @@ fn copies_kept(nodes: u64, count: u128) -> u128
 }
 
 impl Reader {
-    /// Takes one piece wherever it leads, also where a limit is passed, so that reading can go on behind a fault: a
+    /// Takes one piece if it can follow, also where a limit is exceeded, so that reading can go on behind a fault: a
     /// base over 2^64-1 is carried as 2^64-1, and of a run no more than 4,097 copies, or two where what was read before
-    /// has more than 4,096 nodes already. What is too large is so as carried, and stays so.
+    /// has more than 4,096 nodes already. What is too large remains too large as carried.
     ///
     /// # Errors
     ///
-    /// `Syntax` where the piece leads nowhere; then what has been read is as before. Behind `Memory` the reader is of
-    /// no use.
+    /// `Syntax` where the piece can't follow; then the state is unchanged. After `Memory` the reader is unusable.
     pub fn step(&mut self, alloc: Global, piece: Piece) -> Result<(), Fault>
         requires { IsTrue (is_settled self.old) }
         ensures follows { Follows (limited_step (front_of self.old) (piece_of piece)) self.new result }
@@ -109,8 +108,8 @@ impl Reader {
         }
     }
 
-    /// The first of the faults `Syntax`, `NumberTooLarge` and `UnknownName` that stands against the next piece by
-    /// itself, where so many names are listed, and where `caret` says whether `^` comes behind it.
+    /// The first of the faults `Syntax`, `NumberTooLarge` and `UnknownName` that the next piece has by itself, where
+    /// this many names are listed, and `caret` says whether `^` follows it.
     pub fn fault_of_next(&self, names: usize, caret: bool, piece: Piece) -> Option<Fault>
         ensures { (behind : List plain.Piece) → caret ≡ caret_next behind → result ≡ option_map fault_from
             (first_of (stands names (front_of self.now) (piece_of piece) behind) early_kinds) }
@@ -128,11 +127,11 @@ impl Reader {
         self.nodes(self.outer.round()) > NODE_LIMIT
     }
 
-    /// Takes one piece, where so many names are listed, and where `caret` says whether `^` comes next.
+    /// Takes one piece, where this many names are listed, and `caret` says whether `^` comes next.
     ///
     /// # Errors
     ///
-    /// What stands against the piece, or `Memory` where an allocation fails.
+    /// The first fault of the piece, or `Memory` where an allocation fails.
     pub fn take(
         &mut self,
         alloc: Global,

@@ -1,1 +1,2 @@
+-- the condition on bounds that tests look at
 pub mod Based

@@ -6,7 +6,7 @@ use crate::values::{POINTS, value};
 use crate::{inside, texts};
 use bound_expr::{Bound, Memory, apply};
 use bound_table::{
-    Case, Cases, LARGE, SMALL, Within, below, compare, rewrite, rewrite_within, simplify,
+    Case, Cases, LARGE, RewriteResult, SMALL, below, compare, rewrite, rewrite_within, simplify,
 };
 use std::alloc::Global;
 use std::cmp::Ordering;
@@ -77,7 +77,7 @@ fn case_of(name: &str) -> Option<Case> {
     }
 }
 
-// What a table of one case alone makes of a bound.
+// The result of rewriting a bound by a table of one case.
 fn by_case(alloc: Global, name: &str, bound: &Bound) -> Result<String, Memory> {
     let Some(case) = case_of(name) else {
         return String::from_str(alloc, "no call");
@@ -104,8 +104,8 @@ fn becomes(alloc: Global, bound: &Bound, other: &Bound) -> Result<String, Memory
 
 fn within(alloc: Global, bound: &Bound) -> Result<String, Memory> {
     match rewrite_within(alloc, bound)? {
-        Within::Rewritten(outcome) => written(alloc, &outcome),
-        Within::Large { nodes } => format!(in alloc; "large: {nodes} nodes"),
+        RewriteResult::Rewritten(outcome) => written(alloc, &outcome),
+        RewriteResult::Large { nodes } => format!(in alloc; "large: {nodes} nodes"),
     }
 }
 
@@ -135,7 +135,7 @@ fn lower(first: &Bound, second: &Bound) -> &'static str {
     }
 }
 
-// How each bound stands to each, row by row.
+// The order of each bound to each, row by row.
 fn orders(alloc: Global, standing: &[Bound]) -> Result<String, Memory> {
     let mut text = String::new(alloc);
     for first in standing {

@@ -7,7 +7,8 @@ use bound_expr::{Bound, Memory};
 use bound_text::{Fault, Piece, Reader};
 use std::alloc::Global;
 
-/// What came of a bound: it and the position of the bracket behind it, or why and at which position it is refused.
+/// The result of reading a bound: it and the position of the bracket behind it, or why and at which position it is
+/// refused.
 #[derive(Drop)]
 pub(crate) enum Found {
     Stands(Bound, usize),
@@ -80,7 +81,7 @@ fn behind_bracket(text: &[u8]) -> usize {
     at
 }
 
-// What came of a bound, as text.
+// The result for a bound, as text.
 fn found_text(alloc: Global, found: &Found) -> Result<String, Memory> {
     match found {
         Found::Stands(bound, end) => {
@@ -91,13 +92,13 @@ fn found_text(alloc: Global, found: &Found) -> Result<String, Memory> {
     }
 }
 
-/// What comes of the bound in a text where it is taken piece by piece, up to the first fault.
+/// The result of taking the bound in a text piece by piece, up to the first fault.
 pub(crate) fn taken_text(alloc: Global, text: &str) -> Result<String, Memory> {
     let bytes = text.as_bytes();
     found_text(alloc, &bound_at(alloc, bytes, behind_bracket(bytes)))
 }
 
-/// What comes of it where reading goes on behind a fault; before the text stands how many levels it may have.
+/// The result where reading goes on behind a fault; the text follows the number of levels that it may have.
 pub(crate) fn stepped_text(alloc: Global, line: &str) -> Result<String, Memory> {
     let Some((most, text)) = line.split_once(' ') else {
         return String::from_str(alloc, "no text");

@@ -1,7 +1,7 @@
 //! Bounds in postfix: `v2` is a variable and `c7` a constant; `+2`, `*2` and `m2` are the sum, the product and the
-//! maximum of the last two parts that stand, and `^2` is 2 to the power of the last one. Behind a word, `#9` has it
-//! stand nine times, and `..9` with each number from its own on to 9, up or down; words with commas between them stand
-//! together, again for each number that one of them goes through.
+//! maximum of the last two parts on the stack, and `^2` is 2 to the power of the last one. Behind a word, `#9` repeats
+//! it nine times, and `..9` repeats it with each number from its own on to 9, up or down; words with commas between
+//! them are repeated together, for each number that one of them goes through.
 
 use bound_expr::{Bound, Memory};
 use std::alloc::Global;
@@ -25,14 +25,14 @@ pub(crate) fn number(text: &[u8]) -> (u128, usize) {
     (value, len)
 }
 
-// The last parts that stand.
+// The last parts on the stack.
 fn last(standing: &mut Vec<Bound>, count: u128) -> Result<Vec<Bound>, Memory> {
     let count = usize::try_from(count).unwrap_or(0);
     let at = standing.len().saturating_sub(count);
     standing.split_off(at)
 }
 
-// Puts the part of a mark and a number behind those that stand.
+// Pushes the part of a mark and a number on the stack.
 fn push(alloc: Global, standing: &mut Vec<Bound>, mark: u8, number: u128) -> Result<(), Memory> {
     let part = match mark {
         b'v' => Bound::Var(u32::try_from(number).unwrap_or(0)),
@@ -72,7 +72,7 @@ fn ends_among(words: &[u8]) -> Option<(u128, u128)> {
     None
 }
 
-// Puts what a word says behind the parts that stand; where it goes through numbers, with this one.
+// Pushes the part of a word on the stack; where it goes through numbers, with this one.
 fn push_word(
     alloc: Global,
     standing: &mut Vec<Bound>,
@@ -95,8 +95,7 @@ fn push_word(
     }
 }
 
-// Puts what words say behind the parts that stand, all of them again for each number from the first to the last, up or
-// down.
+// Pushes the parts of words on the stack, all of them again for each number from the first to the last, up or down.
 fn push_each(
     alloc: Global,
     standing: &mut Vec<Bound>,
@@ -117,7 +116,7 @@ fn push_each(
     Ok(())
 }
 
-/// The bounds that a text in postfix leaves standing.
+/// The bounds that a text in postfix leaves on the stack.
 pub(crate) fn bounds(alloc: Global, text: &str) -> Result<Vec<Bound>, Memory> {
     let mut standing = Vec::new(alloc);
     for word in text.split_whitespace() {

@@ -12,7 +12,7 @@ use std::alloc::{AllocError, Global};
 // A fault with its position.
 type Refusal = (Fault, usize);
 
-// Where reading stopped, and the first fault before but for parts that are too deep.
+// Where reading stopped, and the first fault before except for parts that are too deep.
 #[derive(Clone, Copy)]
 struct Stop {
     at: usize,
@@ -31,7 +31,7 @@ fn leads_on(alloc: Global, reader: &mut Reader, piece: Piece) -> Result<bool, Me
     }
 }
 
-// The first of the faults so far and at a piece that was taken, where `early` is what stands against it by itself.
+// The first of the faults so far and at a piece that was taken, where `early` is the fault that it has by itself.
 fn first_of(
     first: Option<Refusal>,
     early: Option<Fault>,
@@ -74,7 +74,7 @@ fn pass(
     Ok(Stop { at, first })
 }
 
-// What a text that stopped comes to but for parts that are too deep.
+// The result for a text that stopped, apart from parts that are too deep.
 fn found_at(text: &[u8], stop: Stop, reader: Reader) -> Found {
     match stop.first {
         Some((fault, at)) => Found::Refused(fault, at),
@@ -96,7 +96,7 @@ fn is_before(found: &Found, deep: usize) -> bool {
     }
 }
 
-/// Reads the bound that begins at a position and may have so many levels.
+/// Reads the bound that begins at a position and may have this many levels.
 pub(crate) fn stepped_at(
     alloc: Global,
     text: &[u8],

@@ -48,12 +48,12 @@ fn outcome_text(alloc: Global, outcome: Result<Bound, BoundTextError>) -> Result
     }
 }
 
-/// The bound that a text stands for, over `A` and `B`, or why it is refused.
+/// The bound of a text, over `A` and `B`, or why it is refused.
 pub(crate) fn read_text(alloc: Global, text: &str) -> Result<String, Memory> {
     outcome_text(alloc, read(alloc, &two_names(alloc)?, text.as_bytes()))
 }
 
-/// The text of the bound that a text stands for, over `A`, `B`, `max`, `x.1` and `x.`.
+/// The text of the bound of a text, over `A`, `B`, `max`, `x.1` and `x.`.
 pub(crate) fn printed_text(alloc: Global, text: &str) -> Result<String, Memory> {
     let names = five_names(alloc)?;
     match read(alloc, &names, text.as_bytes()) {
@@ -73,7 +73,7 @@ fn text_of(alloc: Global, bytes: &[u8]) -> Result<String, Memory> {
     }
 }
 
-// A piece so many times, behind what stands.
+// Appends a piece this many times.
 fn repeat(text: &mut String, piece: &str, count: u128) -> Result<(), Memory> {
     for _ in 0..count {
         text.push_str(piece)?;
@@ -81,8 +81,8 @@ fn repeat(text: &mut String, piece: &str, count: u128) -> Result<(), Memory> {
     Ok(())
 }
 
-/// The same for a number and three pieces between bars: the first piece so many times, the second one, and the third
-/// so many times.
+/// The same for a number and three pieces between bars: the first piece this many times, the second one once, and the
+/// third this many times.
 pub(crate) fn repeated_text(alloc: Global, line: &str) -> Result<String, Memory> {
     let mut parts = line.split('|');
     let count = number(parts.next().unwrap_or("").as_bytes()).0;

@@ -2,7 +2,7 @@
 
 use bound_expr::Bound;
 
-/// Where values are compared.
+/// The arguments at which values are compared.
 pub(crate) const POINTS: [[u128; 4]; 4] = [[0, 0, 0, 0], [1, 0, 2, 5], [3, 4, 1, 0], [2, 2, 7, 1]];
 
 /// The value of a bound at small numbers.

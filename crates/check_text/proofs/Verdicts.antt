@@ -4,13 +4,13 @@ use Rattle.std.proofs.lemmas.List.Elements.{All-nil, All-cons, All-head, All-tai
 use Rattle.its_model.specs.Valid.{IsValid}
 use Rattle.model.specs.Facts as plain
 use Rattle.model.specs.Programs.{Program}
-use Rattle.proof_tree.specs.Views.{fact_of, facts_of}
-use Rattle.proof_tree.specs.declared.fact.Fact.{Fact}
-use Rattle.proof_tree.specs.proof_nodes.Gaps.{ProofFile}
-use Rattle.proof_tree.specs.proof_nodes.Printable.{HasTidyFactNumbers}
-use Rattle.proof_tree.proofs.proof_setting.Tidying.{facts-printable}
-use Rattle.proof_facts.proofs.JoinedFacts.{all-joined}
-use Rattle.proof_check.specs.Files.{IsAcceptedWith}
+use Rattle.cert_types.specs.Views.{fact_of, facts_of}
+use Rattle.cert_types.specs.declared.fact.Fact.{Fact}
+use Rattle.cert_types.specs.cert_rules.Gaps.{ProofFile}
+use Rattle.cert_types.specs.cert_rules.Printable.{HasTidyFactNumbers}
+use Rattle.cert_types.proofs.cert_program.Tidying.{facts-printable}
+use Rattle.cert_context.proofs.JoinedFacts.{all-joined}
+use Rattle.check_file.specs.Files.{IsAcceptedWith}
 use Rattle.check_text.specs.Told.{IsListedFact}
 
 -- what holds of all facts as plain data holds of all facts
@@ -26,5 +26,5 @@ pub facts-listed : (p : Program) (f : ProofFile) (fs : List Fact) → IsValid p 
 facts-listed p f fs valid h =
     each-fact (IsListedFact (length p.start_names)) fs
     (All-weaker (HasTidyFactNumbers (length p.start_names)) (IsListedFact (length p.start_names)) (λ g k. k.1) (facts_of fs)
-    (subst (All (HasTidyFactNumbers (length p.start_names))) (sym h.told)
+    (subst (All (HasTidyFactNumbers (length p.start_names))) (sym h.result_is)
     (all-joined (HasTidyFactNumbers (length p.start_names)) _ (facts-printable.numbers p valid f.lemmas h.accepted.lemmas))))

@@ -3,11 +3,11 @@ use Rattle.std.proofs.Common.{◌≡◌, ◌≢◌, ℕ, List, [], ◌∷◌, ge
 use Rattle.std.specs.Fmt.{digits}
 use Rattle.model.specs.Bounds.{Constant}
 use Rattle.model.specs.Facts.{Time}
-use Rattle.proof_tree.specs.proof_nodes.Reasons.{Shape}
+use Rattle.cert_types.specs.cert_rules.Reasons.{Shape}
 use Rattle.check_text.specs.Texts.{accepted_text, fact_lines, no_lemma_text}
 use Rattle.check_text.specs.WorkedTexts.{FactsAreWorkedOut, ReasonsAreWorkedOut, FaultsAreWorkedOut, AnswersAreWorkedOut}
 
--- the first rule that is told is another one
+-- the text of the first rule is different
 other_order : fact_lines (codes "A" ∷ []) (Time 1 (Constant 1) ∷ Time 2 (Constant 2) ∷ [])
     ≢ fact_lines (codes "A" ∷ []) (Time 2 (Constant 2) ∷ Time 1 (Constant 1) ∷ [])
 unfolding digits
@@ -38,7 +38,7 @@ reasons_are = record {
   cost = refl;
   time = refl;
   size = refl;
-  bent = refl;
+  nonlinear = refl;
   large = refl;
   weaker = refl;
   node = refl;

@@ -1,6 +1,6 @@
 -- the texts of answers
 pub mod Texts
--- what is said of a file, with its text
+-- the verdict on a file, with its text
 pub mod Verdicts
 -- values that were worked out by hand
 pub mod WorkedTexts

@@ -1,19 +1,19 @@
--- The texts of the checker's answers: the facts and the gaps of a file that is accepted, what is refused first of one
--- that isn't, and what stands first against a text that is no proof file's.
+-- The texts of the checker's verdicts: the facts and the gaps of a file that is accepted, the first refusal of one that
+-- isn't, and the first fault of a text that is no proof file's.
 use Rattle.std.specs.Prelude.{ℕ, List, [], ◌∷◌, ◌++◌, slice_get, Option, Some, None, codes, decimal}
 use Rattle.its_model.specs.text_core.Readers.{Fault}
 use Rattle.model.specs.Bounds.{Bound}
 use Rattle.model.specs.Facts.{Fact, Time, Size, Cost}
 use Rattle.model.specs.Programs.{Name, Symbol, Program}
 use Rattle.bound_text.specs.Texts.{text_of}
-use Rattle.proof_tree.specs.proof_nodes.GapChecks.{GapFault, WrongShape, MoveOff, FloorOff, NotKept, Unbalanced}
-use Rattle.proof_tree.specs.proof_nodes.GapChecks.{LosesNothing}
-use Rattle.proof_tree.specs.proof_nodes.Gaps.{Gap}
-use Rattle.proof_tree.specs.proof_nodes.Reasons.{Reason, Shape, NotEmpty, Reached, NotZero, Move, Floor, ArmUp, ArmLow}
-use Rattle.proof_tree.specs.proof_nodes.Reasons.{MissingTime, MissingSize, Bent, Large, NotWeaker}
-use Rattle.proof_text.specs.proof_pieces.declared.kind.ProofKind.{ProofKind}
-use Rattle.proof_text.specs.proof_pieces.declared.kind.ProofKind.TheVariants.{Syntax, NumberTooLarge, TooDeep}
-use Rattle.proof_text.specs.proof_pieces.declared.kind.ProofKind.TheVariants.{BadReference, Limit}
+use Rattle.cert_types.specs.cert_rules.GapChecks.{GapFault, WrongShape, MoveOff, FloorOff, NotKept, Unbalanced}
+use Rattle.cert_types.specs.cert_rules.GapChecks.{LosesNothing}
+use Rattle.cert_types.specs.cert_rules.Gaps.{Gap}
+use Rattle.cert_types.specs.cert_rules.Reasons.{Reason, Shape, NotEmpty, Reached, NotZero, Move, Floor, SideBoundUp, SideBoundLow}
+use Rattle.cert_types.specs.cert_rules.Reasons.{MissingTime, MissingSize, Nonlinear, Large, NotWeaker}
+use Rattle.cert_text.specs.cert_lexer.declared.kind.ProofKind.{ProofKind}
+use Rattle.cert_text.specs.cert_lexer.declared.kind.ProofKind.TheVariants.{Syntax, NumberTooLarge, TooDeep}
+use Rattle.cert_text.specs.cert_lexer.declared.kind.ProofKind.TheVariants.{BadReference, Limit}
 
 -- a rule and a place
 abbrev pub place_text : ℕ → ℕ → List ℕ
@@ -34,7 +34,7 @@ abbrev pub fact_lines : List Name → List Fact → List ℕ
 fact_lines names [] = []
 fact_lines names (f ∷ fs) = fact_line names f ++ fact_lines names fs
 
--- the line of a gap: the rule that no function ranks which looks at no shut place
+-- the line of a gap: the rule that no function with coefficient 0 at the shut places ranks
 abbrev pub gap_line : Gap → List ℕ
 gap_line g = codes "gap " ++ (decimal g.rule ++ codes "\n")
 
@@ -48,8 +48,8 @@ unfoldable pub accepted_text : Program → List Fact → List Gap → List ℕ
 accepted_text p facts gaps = codes "accepted\n" ++ (fact_lines p.start_names facts ++ gap_lines gaps)
 
 -- an arm: its rule, its place and its side
-abbrev pub arm_text : ℕ → ℕ → List ℕ → List ℕ
-arm_text rule place side = codes "arm " ++ (place_text rule place ++ side)
+abbrev pub side_bound_text : ℕ → ℕ → List ℕ → List ℕ
+side_bound_text rule place side = codes "arm " ++ (place_text rule place ++ side)
 
 -- why a node isn't accepted
 abbrev pub reason_text : Reason → List ℕ
@@ -59,11 +59,11 @@ reason_text Reached = codes "reached"
 reason_text NotZero = codes "zero"
 reason_text (Move rule) = codes "move " ++ decimal rule
 reason_text Floor = codes "floor"
-reason_text (ArmUp rule place) = arm_text rule place (codes " up")
-reason_text (ArmLow rule place) = arm_text rule place (codes " low")
+reason_text (SideBoundUp rule place) = side_bound_text rule place (codes " up")
+reason_text (SideBoundLow rule place) = side_bound_text rule place (codes " low")
 reason_text (MissingTime rule) = codes "missing time " ++ decimal rule
 reason_text (MissingSize rule place) = codes "missing size " ++ place_text rule place
-reason_text (Bent rule place) = codes "bent " ++ place_text rule place
+reason_text (Nonlinear rule place) = codes "bent " ++ place_text rule place
 reason_text (Large nodes) = codes "large " ++ decimal nodes
 reason_text NotWeaker = codes "weaker"
 

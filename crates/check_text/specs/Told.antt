@@ -1,19 +1,19 @@
--- What the functions of this crate meet: facts that can be printed, and the texts of errors.
+-- Preconditions of the functions of this crate: facts that can be printed, and the texts of errors.
 use Rattle.std.specs.Prelude.{◌≡◌, ℕ, List}
 use Rattle.model.specs.Facts.{Fact}
 use Rattle.model.specs.Programs.{Program}
 use Rattle.bound_expr.specs.Numbers.{ReadsBelow}
-use Rattle.proof_tree.specs.AnswerViews.{reason_of, fault_of}
-use Rattle.proof_tree.specs.proof_nodes.Laws.{bound_in}
-use Rattle.proof_check.specs.declared.error.CheckError.{CheckError}
-use Rattle.proof_check.specs.declared.error.CheckError.TheVariants as error
+use Rattle.cert_types.specs.AnswerViews.{reason_of, fault_of}
+use Rattle.cert_types.specs.cert_rules.Laws.{bound_in}
+use Rattle.check_file.specs.declared.error.CheckError.{CheckError}
+use Rattle.check_file.specs.declared.error.CheckError.TheVariants as error
 use Rattle.check_text.specs.Texts.{no_lemma_text, no_gap_text}
 
 -- the bound of a fact reads the first n inputs alone
 abbrev pub IsListedFact : ℕ → Fact → Type 0
 IsListedFact n f = ReadsBelow n (bound_in f)
 
--- a text tells what is refused first, and why; want of memory has no text
+-- the text states the first refusal and its reason; running out of memory has no text
 abbrev pub TellsError : Program → CheckError → List ℕ → Type 0
 TellsError p (error.No lemma node reason) text = text ≡ no_lemma_text lemma node (reason_of reason)
 TellsError p (error.NoGap gap fault) text = text ≡ no_gap_text p gap (fault_of fault)

@@ -1,13 +1,13 @@
--- Texts of the checker's answers, worked out by hand: what they are, and what they aren't.
+-- Worked values of the texts of verdicts.
 use Rattle.std.specs.Prelude.{◌≡◌, ◌≢◌, List, [], ◌∷◌, codes}
 use Rattle.model.specs.Bounds.{Constant, Input}
 use Rattle.model.specs.Facts.{Fact, Time, Size, Cost}
-use Rattle.proof_tree.specs.proof_nodes.GapChecks.{WrongShape, MoveOff, FloorOff, NotKept, Unbalanced, LosesNothing}
-use Rattle.proof_tree.specs.proof_nodes.Reasons.{Shape, NotEmpty, Reached, NotZero, Move, Floor, ArmUp, ArmLow}
-use Rattle.proof_tree.specs.proof_nodes.Reasons.{MissingTime, MissingSize, Bent, Large, NotWeaker}
-use Rattle.proof_text.specs.proof_pieces.declared.kind.ProofKind.TheVariants.{Syntax, NumberTooLarge, TooDeep}
-use Rattle.proof_text.specs.proof_pieces.declared.kind.ProofKind.TheVariants.{BadReference, Limit}
-use Rattle.proof_text.specs.Worked.{counting, gap_with}
+use Rattle.cert_types.specs.cert_rules.GapChecks.{WrongShape, MoveOff, FloorOff, NotKept, Unbalanced, LosesNothing}
+use Rattle.cert_types.specs.cert_rules.Reasons.{Shape, NotEmpty, Reached, NotZero, Move, Floor, SideBoundUp, SideBoundLow}
+use Rattle.cert_types.specs.cert_rules.Reasons.{MissingTime, MissingSize, Nonlinear, Large, NotWeaker}
+use Rattle.cert_text.specs.cert_lexer.declared.kind.ProofKind.TheVariants.{Syntax, NumberTooLarge, TooDeep}
+use Rattle.cert_text.specs.cert_lexer.declared.kind.ProofKind.TheVariants.{BadReference, Limit}
+use Rattle.cert_text.specs.Worked.{counting, gap_with}
 use Rattle.check_text.specs.Texts.{accepted_text, fact_lines, reason_text, fault_text, no_lemma_text, no_gap_text}
 use Rattle.check_text.specs.Texts.{proof_kind_text, proof_refusal_text}
 
@@ -15,7 +15,7 @@ use Rattle.check_text.specs.Texts.{proof_kind_text, proof_refusal_text}
 abbrev pub one_of_each : List Fact
 one_of_each = Time 0 (Constant 1) ∷ Size 0 1 (Input 0) ∷ Cost 12 (Constant 5) ∷ []
 
--- the text of facts and a gap, and of none; the order of facts is told
+-- the text of facts and a gap, and of none; the order of facts shows
 pub record FactsAreWorkedOut : Type 0 where
   pub each : accepted_text counting one_of_each (gap_with [] ∷ [])
       ≡ codes "accepted\ntime 0: 1\nsize 0.1: A\ncost 12: 5\ngap 2\n"
@@ -31,18 +31,18 @@ pub record ReasonsAreWorkedOut : Type 0 where
   pub zero : reason_text NotZero ≡ codes "zero"
   pub move : reason_text (Move 12) ≡ codes "move 12"
   pub floor : reason_text Floor ≡ codes "floor"
-  pub up : reason_text (ArmUp 3 1) ≡ codes "arm 3.1 up"
-  pub low : reason_text (ArmLow 3 1) ≡ codes "arm 3.1 low"
-  pub cost : reason_text (ArmUp 3 0) ≡ codes "arm 3.0 up"
+  pub up : reason_text (SideBoundUp 3 1) ≡ codes "arm 3.1 up"
+  pub low : reason_text (SideBoundLow 3 1) ≡ codes "arm 3.1 low"
+  pub cost : reason_text (SideBoundUp 3 0) ≡ codes "arm 3.0 up"
   pub time : reason_text (MissingTime 4) ≡ codes "missing time 4"
   pub size : reason_text (MissingSize 4 2) ≡ codes "missing size 4.2"
-  pub bent : reason_text (Bent 4 2) ≡ codes "bent 4.2"
+  pub nonlinear : reason_text (Nonlinear 4 2) ≡ codes "bent 4.2"
   pub large : reason_text (Large 4097) ≡ codes "large 4097"
   pub weaker : reason_text NotWeaker ≡ codes "weaker"
   pub node : no_lemma_text 1 20 Shape ≡ codes "no lemma 1 node 20: shape\n"
   pub which : no_lemma_text 1 20 Shape ≢ no_lemma_text 20 1 Shape
 
--- why gaps don't hold, and what stands against a text; place 0 is that of the constant
+-- why gaps don't hold, and the faults of texts; place 0 is that of the constant
 pub record FaultsAreWorkedOut : Type 0 where
   pub shape : fault_text counting.symbols WrongShape ≡ codes "shape"
   pub move : fault_text counting.symbols (MoveOff 2) ≡ codes "move 2"

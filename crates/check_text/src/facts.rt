@@ -5,17 +5,17 @@ ghost use Rattle.std.specs.List.{All};
 ghost use Rattle.bound_expr.specs.Views.{bound_of};
 ghost use Rattle.bound_expr.specs.Numbers.{ReadsBelow};
 ghost use Rattle.its_model.specs.Views.{name_of, program_of};
-ghost use Rattle.proof_tree.specs.AnswerViews.{gap_of};
-ghost use Rattle.proof_tree.specs.Views.{fact_of, facts_of};
+ghost use Rattle.cert_types.specs.AnswerViews.{gap_of};
+ghost use Rattle.cert_types.specs.Views.{fact_of, facts_of};
 ghost use Rattle.check_text.specs.Texts.{accepted_text, bound_end, fact_line, fact_lines, gap_line, gap_lines};
 ghost use Rattle.check_text.specs.Told.{IsListedFact};
 
 use crate::numbers::{push_number, push_place};
 use bound_expr::Bound;
 use bound_text::write;
+use cert_types::{Fact, Gap};
 use its_model::{Name, Program};
 use model::Memory;
-use proof_tree::{Fact, Gap};
 use std::alloc::Global;
 
 /// The text of these facts and gaps.
@@ -92,7 +92,7 @@ fn push_gaps(text: &mut Vec<u8>, gaps: &[Gap]) -> Result<(), Memory>
     Ok(())
 }
 
-// The line of a gap: the rule that no function ranks which looks at no shut place.
+// The line of a gap: the rule that no function with coefficient 0 at the shut places ranks.
 fn push_gap(text: &mut Vec<u8>, gap: &Gap) -> Result<(), Memory>
     ensures { OnOk result (text.new.items ≡ text.old.items ++ gap_line (gap_of gap.now)) }
 {

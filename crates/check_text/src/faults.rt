@@ -1,24 +1,24 @@
-//! The text of a file that isn't accepted: what is refused first, and why.
+//! The text of a file that isn't accepted: the first refusal, and its reason.
 
 ghost use Rattle.std.specs.Prelude.{◌≡◌, ◌++◌, map, slice_get, codes, decimal, IfOk, OnOk};
 ghost use Rattle.its_model.specs.Views.{program_of, symbol_of};
-ghost use Rattle.proof_tree.specs.AnswerViews.{fault_of, reason_of};
-ghost use Rattle.check_text.specs.Texts.{arm_text, balance_text, fault_text, name_in, no_gap_text, no_lemma_text};
+ghost use Rattle.cert_types.specs.AnswerViews.{fault_of, reason_of};
+ghost use Rattle.check_text.specs.Texts.{side_bound_text, balance_text, fault_text, name_in, no_gap_text, no_lemma_text};
 ghost use Rattle.check_text.specs.Texts.{place_text, reason_text};
 ghost use Rattle.check_text.specs.Told.{TellsError};
 
 use crate::numbers::{push_number, push_place};
+use cert_types::{GapFault, Reason};
+use check_file::CheckError;
 use its_model::{Program, Symbol};
 use model::Memory;
-use proof_check::CheckError;
-use proof_tree::{GapFault, Reason};
 use std::alloc::{AllocError, Global};
 
-/// What is refused first, and why.
+/// The first refusal, and its reason.
 ///
 /// # Errors
 ///
-/// `Memory` where an allocation fails, and where the file wasn't checked for want of memory.
+/// `Memory` where an allocation fails, and where the file wasn't checked because memory ran out.
 pub(crate) fn fault(alloc: Global, p: &Program, error: &CheckError) -> Result<Vec<u8>, Memory>
     ensures { IfOk result (λ text. TellsError (program_of p.now) error.now text.items) }
 {
@@ -70,11 +70,16 @@ fn push_reason(text: &mut Vec<u8>, reason: &Reason) -> Result<(), Memory>
         Reason::Zero => text.extend_from_slice(b"zero"),
         Reason::Move { rule } => push_rule(text, b"move ", *rule),
         Reason::Floor => text.extend_from_slice(b"floor"),
-        Reason::ArmUp { rule, place } => push_arm(text, *rule, *place, b" up"),
-        Reason::ArmLow { rule, place } => push_arm(text, *rule, *place, b" low"),
+        Reason::SideBoundUp { rule, place } => push_side_bound(text, *rule, *place, b" up"),
+        Reason::SideBoundLow { rule, place } => push_side_bound(text, *rule, *place, b" low"),
         Reason::MissingTime { rule } => push_rule(text, b"missing time ", *rule),
-        Reason::MissingSize { rule, place } => push_spot(text, b"missing size ", *rule, *place),
-        Reason::Bent { rule, place } => push_spot(text, b"bent ", *rule, *place),
+        Reason::MissingSize { rule, place } => push_result_variable(
+            text,
+            b"missing size ",
+            *rule,
+            *place,
+        ),
+        Reason::Nonlinear { rule, place } => push_result_variable(text, b"bent ", *rule, *place),
         Reason::Large { nodes } => push_large(text, *nodes),
         Reason::Weaker => text.extend_from_slice(b"weaker"),
     }
@@ -89,7 +94,12 @@ fn push_rule(text: &mut Vec<u8>, word: &[u8], rule: u32) -> Result<(), Memory>
 }
 
 // A rule and a place behind a word.
-fn push_spot(text: &mut Vec<u8>, word: &[u8], rule: u32, place: u32) -> Result<(), Memory>
+fn push_result_variable(
+    text: &mut Vec<u8>,
+    word: &[u8],
+    rule: u32,
+    place: u32,
+) -> Result<(), Memory>
     ensures { OnOk result (text.new.items ≡ text.old.items ++ (word.now ++ place_text rule place)) }
 {
     text.extend_from_slice(word)?;
@@ -97,15 +107,15 @@ fn push_spot(text: &mut Vec<u8>, word: &[u8], rule: u32, place: u32) -> Result<(
 }
 
 // An arm: its rule, its place and its side.
-fn push_arm(text: &mut Vec<u8>, rule: u32, place: u32, side: &[u8]) -> Result<(), Memory>
-    ensures { OnOk result (text.new.items ≡ text.old.items ++ arm_text rule place side.now) }
+fn push_side_bound(text: &mut Vec<u8>, rule: u32, place: u32, side: &[u8]) -> Result<(), Memory>
+    ensures { OnOk result (text.new.items ≡ text.old.items ++ side_bound_text rule place side.now) }
 {
     text.extend_from_slice(b"arm ")?;
     push_place(text, rule, place)?;
     text.extend_from_slice(side)
 }
 
-// A bound with so many nodes.
+// Writes a bound's number of nodes.
 fn push_large(text: &mut Vec<u8>, nodes: u64) -> Result<(), Memory>
     ensures { OnOk result (text.new.items ≡ text.old.items ++ (codes "large " ++ decimal nodes)) }
 {

@@ -1,6 +1,8 @@
-//! What the checker says of a proof file, as text. Contract to the layer above: `verdict_on` is that the file is
-//! accepted, with the text of all of its facts and gaps, and then every fact holds on all runs of the program; or that
-//! it isn't, with the text of what is refused first.
+//! Prints the verdict of the checker on a proof file.
+//!
+//! Builds on `check_file` (the checker) and `cert_text`. Main guarantee: `verdict_on` says that the file is accepted,
+//! with the text of all of its facts and gaps, and then every fact holds on all runs of the program; or that it isn't,
+//! with the text of the first refusal.
 #![tactic(auto)]
 
 mod facts;

@@ -1,21 +1,21 @@
-//! The text of a proof's text that is refused.
+//! The text of the refusal of a proof's text.
 
 ghost use Rattle.std.specs.Prelude.{◌≡◌, IfOk, IfSome, IsErr, None};
-ghost use Rattle.proof_text.specs.Told.{refusal_in};
+ghost use Rattle.cert_text.specs.Told.{refusal_in};
 ghost use Rattle.check_text.specs.Texts.{proof_refusal_line, proof_refusal_text};
 
+use cert_text::ProofTextError;
 use itoa::Buffer;
 use model::Memory;
-use proof_text::ProofTextError;
 use std::alloc::{AllocError, Global};
 
-/// What stands first against a proof's text, and at which byte.
+/// The first fault of a proof's text, and its byte.
 ///
 /// # Errors
 ///
-/// `Memory` where an allocation fails, and where the text wasn't read for want of memory.
+/// `Memory` where an allocation fails, and where the text wasn't read because memory ran out.
 pub fn refusal_text(alloc: Global, error: &ProofTextError) -> Result<Vec<u8>, Memory>
-    ensures told { IfOk result (λ text. IfSome (refusal_in error.now) (λ x. text.items ≡ proof_refusal_text x)) }
+    ensures result_is { IfOk result (λ text. IfSome (refusal_in error.now) (λ x. text.items ≡ proof_refusal_text x)) }
     ensures memory { refusal_in error.now ≡ None → IsErr result }
 {
     match error {

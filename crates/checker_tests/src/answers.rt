@@ -6,14 +6,14 @@ ghost use Rattle.its_model.specs.Views.{program_of};
 
 use crate::gaps::gap;
 use crate::lemmas::lemma;
+use cert_types::{Fact, ProofFile};
+use check_file::{CheckError, can_be_numbered, check};
 use its_model::Program;
 use its_reader::{ReadError, read};
 use model::Memory;
-use proof_check::{CheckError, can_be_numbered, check};
-use proof_tree::{Fact, ProofFile};
 use std::alloc::{AllocError, Global};
 
-/// What the checker says of a line.
+/// The verdict of the checker on a line.
 pub(crate) fn answer(alloc: Global, line: &str) -> Result<String, Memory> {
     let Some((proofs, rules)) = line.split_once(';') else {
         return String::from_str(alloc, line);
@@ -60,7 +60,7 @@ fn listed_file(alloc: Global, text: &str) -> Result<ProofFile, Memory> {
     Ok(ProofFile { lemmas, gaps })
 }
 
-// What the checker says of a file.
+// The verdict of the checker on a file.
 fn verdict(alloc: Global, p: &Program, file: &ProofFile) -> Result<String, Memory>
     requires { IsValid (program_of p.now) }
 {

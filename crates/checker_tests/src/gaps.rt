@@ -2,9 +2,9 @@
 //! MOVES and KEPT are points divided by `/`, and a point is its parts and then its denominator.
 
 use crate::words::{number, numbers, part, parts_of, signed};
+use cert_types::Gap;
 use farkas_cert::Scaled;
 use model::Memory;
-use proof_tree::Gap;
 use std::alloc::Global;
 
 /// The gap of a word.

@@ -1,16 +1,15 @@
-//! Lemmas as lines write them: the words of their nodes, each behind those of its children. What a word is behind its
-//! kind, colons divide:
-//! `start`, `cite:LEMMA`, `empty:RULE:MULTIPLIERS`, `unreached:RULE:USES`, `never`, `weaken:BOUND`,
-//! `rank:RULE:SET:DEN:FORMS:MOVES:FLOOR:USES`, `spread:RULE:PLACE:UP:LOW:USES`, `cycle:MEMBERS:USES`,
-//! `cost:RULE:BY:USES`, where USES says how many of the nodes before are its uses. A bound is a term, or several that `+`
-//! divides: a number, `v` with the number of an input from 0, or `b` with a base, which is raised to 1; a number and `x`
-//! before a term tell how often it stands there.
+//! Lemmas as lines write them: the words of their nodes, each behind those of its children. The fields of a word,
+//! behind its kind, are divided by colons: `start`, `cite:LEMMA`, `empty:RULE:MULTIPLIERS`, `unreached:RULE:USES`,
+//! `never`, `weaken:BOUND`, `rank:RULE:SET:DEN:FORMS:MOVES:FLOOR:USES`, `spread:RULE:PLACE:UP:LOW:USES`,
+//! `cycle:MEMBERS:USES`, `cost:RULE:BY:USES`, where USES says how many of the nodes before are its uses. A bound is a
+//! term, or several that `+` divides: a number, `v` with the number of an input from 0, or `b` with a base, which is
+//! raised to 1; a number and `x` before a term repeat it so often.
 
 use crate::nodes::{cost_node, cycle_node, empty_node, rank_node, spread_node};
 use crate::words::{number, part, parts_of, wide};
 use bound_expr::Bound;
+use cert_types::{Proof, UnreachedNode};
 use model::Memory;
-use proof_tree::{Proof, UnreachedNode};
 use std::alloc::Global;
 
 /// The lemma whose nodes these words are, where there is a word.
@@ -39,7 +38,7 @@ fn node(alloc: Global, word: &str, stack: &mut Vec<Proof>) -> Result<Proof, Memo
     }
 }
 
-// The node of a word that tells how many uses it has; of any other word, `start`.
+// The node of a word that says how many uses it has; for any other word, `start`.
 fn keyed_node(
     alloc: Global,
     kind: &str,
@@ -81,7 +80,7 @@ fn child(stack: &mut Vec<Proof>) -> Proof {
     stack.pop().unwrap_or(Proof::Start)
 }
 
-// So many of the last nodes, in order.
+// This many of the last nodes, in order.
 fn last(alloc: Global, stack: &mut Vec<Proof>, count: u32) -> Result<Vec<Proof>, Memory> {
     let mut reversed = Vec::new(alloc);
     for _ in 0..count {
@@ -110,7 +109,7 @@ fn bound(alloc: Global, text: &str) -> Result<Bound, Memory> {
     Ok(terms.pop().unwrap_or(Bound::Const(0)))
 }
 
-// Appends a term of a bound, as often as its word tells.
+// Appends a term of a bound, as often as its word says.
 fn push_terms(alloc: Global, terms: &mut Vec<Bound>, word: &str) -> Result<(), Memory> {
     let (count, one) = word.split_once('x').unwrap_or(("1", word));
     for _ in 0..number(count) {

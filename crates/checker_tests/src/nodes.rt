@@ -1,15 +1,15 @@
 //! Nodes by the parts of their words.
 //! MULTIPLIERS, SET and FLOOR are numbers divided by commas; MOVES are such lists divided by `/`; FORMS are divided by
-//! `/` too, each a symbol, the constant and the coefficients. An arm is `poly`, or a denominator, the constant and the
+//! `/` too, each a symbol, the constant and the coefficients. A side bound is `poly`, or a denominator, the constant and the
 //! coefficients, and behind a `/` the multipliers. MEMBERS are divided by `+`, each RULE=PLACE=UP=LOW. BY is `never`,
-//! `empty=` with multipliers, or an arm.
+//! `empty=` with multipliers, or a side bound.
 
 use crate::words::{first_and_rest, number, numbers, part, parts_of, signed, wide, wides};
-use model::Memory;
-use proof_tree::{
-    Arm, CostBy, CostNode, CycleNode, EmptyNode, Form, LocalBound, Member, Proof, RankNode, Spot,
-    SpreadNode,
+use cert_types::{
+    CostBy, CostNode, CycleNode, EmptyNode, Form, LocalBound, Member, Proof, RankNode,
+    ResultVariable, SideBound, SpreadNode,
 };
+use model::Memory;
 use std::alloc::Global;
 
 /// A rule without a point.
@@ -62,16 +62,16 @@ fn moves(alloc: Global, text: &str) -> Result<Vec<Vec<u64>>, Memory> {
     Ok(found)
 }
 
-// An arm.
-fn arm(alloc: Global, text: &str) -> Result<Arm, Memory> {
+// A side bound.
+fn side_bound(alloc: Global, text: &str) -> Result<SideBound, Memory> {
     if text == "poly" {
-        return Ok(Arm::Poly);
+        return Ok(SideBound::Poly);
     }
     let (form, multipliers) = text.split_once('/').unwrap_or((text, ""));
     let all = signed(alloc, form)?;
     let (den, behind) = first_and_rest(alloc, &all)?;
     let (constant, coefs) = first_and_rest(alloc, &behind)?;
-    Ok(Arm::Linear {
+    Ok(SideBound::Linear {
         den: den.unsigned_abs(),
         coefs,
         constant,
@@ -79,16 +79,16 @@ fn arm(alloc: Global, text: &str) -> Result<Arm, Memory> {
     })
 }
 
-// A spot with its arms, by their parts.
+// A result variable with its side bounds, by their parts.
 fn member(alloc: Global, parts: &[&str]) -> Result<Member, Memory> {
     Ok(Member {
-        spot: Spot {
+        result_variable: ResultVariable {
             rule: number(part(parts, 0)),
             place: number(part(parts, 1)),
         },
         local: LocalBound {
-            up: arm(alloc, part(parts, 2))?,
-            low: arm(alloc, part(parts, 3))?,
+            up: side_bound(alloc, part(parts, 2))?,
+            low: side_bound(alloc, part(parts, 3))?,
         },
     })
 }
@@ -99,8 +99,15 @@ pub(crate) fn spread_node(
     parts: &[&str],
     uses: Vec<Proof>,
 ) -> Result<SpreadNode, Memory> {
-    let Member { spot, local } = member(alloc, parts)?;
-    Ok(SpreadNode { spot, local, uses })
+    let Member {
+        result_variable,
+        local,
+    } = member(alloc, parts)?;
+    Ok(SpreadNode {
+        result_variable,
+        local,
+        uses,
+    })
 }
 
 /// The sizes of the members of a loop.
@@ -130,7 +137,7 @@ pub(crate) fn cost_node(
         None => if text == "never" {
             CostBy::Never
         } else {
-            CostBy::Arm(arm(alloc, text)?)
+            CostBy::SideBound(side_bound(alloc, text)?)
         },
     };
     Ok(CostNode {

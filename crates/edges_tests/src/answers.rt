@@ -106,7 +106,7 @@ fn whole_texts_are_refused_at_their_byte(rt: HostRuntime) -> Result<(), Fail> {
     Ok(())
 }
 
-// Few pivots are told of where they don't do.
+// Too few pivots are reported.
 #[test]
 fn a_budget_of_pivots_is_kept(rt: HostRuntime) -> Result<(), Fail> {
     let alloc = rt.alloc();
@@ -217,7 +217,8 @@ fn words_are_answered_by_their_command(rt: HostRuntime) -> Result<(), Fail> {
     Ok(())
 }
 
-// Of what `generate 6` writes `analyse` reports thirteen times, the total that `selfrun 6` tells, and the first size.
+// `analyse` is run on the output of `generate 6`: it reports thirteen times, the total of `selfrun 6`, and the first
+// size.
 #[test]
 fn generated_programs_are_analysed(rt: HostRuntime) -> Result<(), Fail> {
     let alloc = rt.alloc();

@@ -91,8 +91,7 @@ fn note_cut(alloc: Global, others: &mut Vec<String>) -> Result<(), AllocError> {
     Ok(())
 }
 
-// What stands before a text of parts, the part that opens, what they enclose, the part that closes, and what stands
-// behind.
+// The text before the nesting, the part that opens, the innermost text, the part that closes, and the text behind.
 const BRACKETS: &[&str; 5] = &[
     "(STARTTERM (FUNCTIONSYMBOLS l0))(RULES l0(A) -> Com_1(l1(",
     "(",
@@ -111,7 +110,7 @@ const WEAKENED: &[&str; 5] = &[
 
 const BLANKS: &[&str; 5] = &["", " ", "", "", ""];
 
-// Words, a text of parts, how often they stand, and the answer.
+// Words, a text of parts, how often they are nested, and the answer.
 const NESTS: &[(&[&str], &[&str; 5], usize, Status, &str)] = &[
     (
         &["analyse", "q"],

@@ -1,5 +1,5 @@
-//! Tests of public calls: shelves and sinks, words, and the answers of the program. They stand
-//! here so that the crates that they call are proved without them.
+//! Tests of public calls: shelves and sinks, the command line, and the answers of the program. They have a crate of
+//! their own so that the crates that they call are proved without them.
 #![tactic(auto)]
 
 #[cfg(test)]

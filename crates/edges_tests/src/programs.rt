@@ -150,7 +150,7 @@ pub(crate) const PROGRAMS: &[(&str, Status, &str)] = &[
          \x20 kept 4: (1) / 1\n",
     ),
     // A new value of degree 2 counts as a variable of its own, which may be any number: so there is a gap, where that
-    // variable is 1, though A ranks rule 2; and what is never over 0 is loose up. A variable that nothing reads, such
+    // variable is 1, though A ranks rule 2; and what is never above 0 is loose up. A variable that nothing reads, such
     // as that of the square at the floor, and C in the second program, leaves its line empty, and its part of the dual
     // is 1.
     (
@@ -166,8 +166,8 @@ pub(crate) const PROGRAMS: &[(&str, Status, &str)] = &[
         "bounded\ntime 1: 1\ntotal: 1\nsize 1.1: unknown\nwhy size 1.1: loose up\n  ray: (0, 1, 1)\n\
          \x20 kept: (1, 1, 1) / 1\n",
     ),
-    // The first pivot of rule 2's emptiness question makes 60000 * 60000. The rank questions of the cycle don't come to
-    // its rows: rule 3 alone leads round, so they have no solution, and a gap would need a point of rule 2.
+    // The first pivot of rule 2's emptiness question makes 60000 * 60000. The rank questions of the cycle don't involve
+    // its rows: only rule 3 leads back, so they have no solution, and a gap would need a point of rule 2.
     (
         "l0(A,B) -> Com_1(l1(A,B)) l1(A,B) -> Com_1(l2(A,B)) :|: A - B >= 60000 && A + 60000*B >= 0 \
          l1(A,B) -> Com_1(l2(A,B)) l2(A,B) -> Com_1(l1(A,B))",
@@ -222,6 +222,18 @@ pub(crate) const PROGRAMS: &[(&str, Status, &str)] = &[
         "l0(A) -> Com_2(l1(A),l2(A))",
         Status::ProgramRefused,
         "program refused at 48: ManyTargets\n",
+    ),
+    // That X + Y is at most 0 is shown over the denominator 268435399*268435459, which is between 2^55 and 2^56. Where
+    // it takes 268435459*268435463, which is over 2^56, it isn't shown.
+    (
+        "l0(A) -> Com_1(l1(X+Y)) :|: 268435399*X <= U && U <= 0 && 268435459*Y <= V && V <= 0 && X >= 0 && Y >= 0",
+        Status::Done,
+        "bounded\ntime 1: 1\ntotal: 1\nsize 1.1: 0\n",
+    ),
+    (
+        "l0(A) -> Com_1(l1(X+Y)) :|: 268435459*X <= U && U <= 0 && 268435463*Y <= V && V <= 0 && X >= 0 && Y >= 0",
+        Status::Done,
+        "bounded\ntime 1: 1\ntotal: 1\nsize 1.1: unknown\nwhy size 1.1: local 1.1 scale\n",
     ),
     (
         "l0(A,A) -> Com_1(l0(A,A))",

@@ -87,7 +87,19 @@ lemma cost 1 lin 1 [1 0] [0] uses {start; cite 1}
 end
 ";
 
-// The same with an arm below the cost, and with the first line of files without costs.
+// A program whose cost is shown over a denominator between 2^55 and 2^56 alone, 268435399*268435459, and a proof file
+// that does.
+const SCALED: &str = "(STARTTERM (FUNCTIONSYMBOLS l0))(RULES l0(A) -{X+Y}> Com_1(l1(A)) :|: \
+     268435399*X <= U && U <= 0 && 268435459*Y <= V && V <= 0)";
+
+const SCALED_COST: &str = "koat-proof 2
+lemma rank 1 set [1] den 1 forms [l0 [0 1]; l1 [0 0]] moves [[0 0 0 0]] floor [0 0 0 0] uses {start}
+lemma spread 1.1 up lin 1 [1 0] [0 0 0 0] low lin 1 [-1 0] [0 0 0 0] uses {start}
+lemma cost 1 lin 72057579542413141 [0 0] [268435459 268435459 268435399 268435399 0] uses {cite 1}
+end
+";
+
+// The file of the program with a cost, with an arm below the cost, and with the first line of files without costs.
 const TOO_CHEAP: &str = "koat-proof 2
 lemma rank 1 set [1] den 1 forms [l0 [0 1]; l1 [0 0]] moves [[]] floor [] uses {start}
 lemma spread 1.1 up lin 1 [1 0] [] low lin 1 [-1 0] [] uses {start}
@@ -134,6 +146,12 @@ const CHECKS: &[(&str, &str, Status, &str)] = &[
         CHARGED,
         Status::Done,
         "accepted\ntime 1: 1\nsize 1.1: A\ncost 1: A\n",
+    ),
+    (
+        SCALED,
+        SCALED_COST,
+        Status::Done,
+        "accepted\ntime 1: 1\nsize 1.1: A\ncost 1: 0\n",
     ),
     (
         PRICED,
@@ -191,13 +209,19 @@ const CHECKS: &[(&str, &str, Status, &str)] = &[
     ),
     (
         ENTERING,
-        "koat-proof 1\nlemma empty 1 [36028797018963968]\nend\n",
+        "koat-proof 1\nlemma empty 1 [36028797018963969]\nend\n",
         Status::No,
         "no lemma 1 node 1: shape\n",
     ),
     (
         ENTERING,
-        "koat-proof 1\nlemma empty 1 [36028797018963969]\nend\n",
+        "koat-proof 1\nlemma empty 1 [72057594037927936]\nend\n",
+        Status::No,
+        "no lemma 1 node 1: shape\n",
+    ),
+    (
+        ENTERING,
+        "koat-proof 1\nlemma empty 1 [72057594037927937]\nend\n",
         Status::ProofRefused,
         "proof refused at 28: NumberTooLarge\n",
     ),
@@ -206,6 +230,12 @@ const CHECKS: &[(&str, &str, Status, &str)] = &[
         "koat-proof 1\nlemma cite 1\nend\n",
         Status::ProofRefused,
         "proof refused at 24: BadReference\n",
+    ),
+    (
+        COUNTING,
+        "koat-proof 1\nlemma cite 72057594037927937\nend\n",
+        Status::ProofRefused,
+        "proof refused at 24: NumberTooLarge\n",
     ),
     (
         COUNTING,
@@ -336,7 +366,7 @@ fn proof_files_are_made(rt: HostRuntime) -> Result<(), Fail> {
     Ok(())
 }
 
-// The files that are asked for, the calls that fail, and how many files are fetched: where the first can't be had, the
+// The files of the request, the calls that fail, and how many files are fetched: where the first can't be read, the
 // second isn't fetched.
 const FAULTS: &[(&str, &str, &[u64], u64)] = &[
     ("r", "q", &[], 1),
@@ -345,7 +375,7 @@ const FAULTS: &[(&str, &str, &[u64], u64)] = &[
     ("p", "q", &[2], 2),
 ];
 
-// Whether a check ends otherwise than with a fault of reading after so many fetches.
+// Whether a check ends otherwise than with a fault of reading after this many fetches.
 fn is_no_fault(
     alloc: Global,
     first: &str,
@@ -378,7 +408,7 @@ fn either_file_of_a_check_may_be_missing(rt: HostRuntime) -> Result<(), Fail> {
     Ok(())
 }
 
-// What a call writes that ends with status 0, where a shelf holds a program and a proof; nothing where it ends
+// The output of a call that ends with status 0, where a shelf holds a program and a proof; nothing where it ends
 // otherwise.
 fn written(
     alloc: Global,

@@ -208,8 +208,8 @@ fn runs_stand_beside_bounds_or_are_refused(rt: HostRuntime) -> Result<(), Fail> 
     Ok(())
 }
 
-// The file and the run that are asked for, the calls that fail, and how many files are fetched: where the first can't
-// be had, or isn't a program, the second isn't fetched.
+// The file and the run of the request, the calls that fail, and how many files are fetched: where the first can't be
+// read, or isn't a program, the second isn't fetched.
 const FAULTS: &[(&str, &str, &[u64], u64)] = &[
     ("q", "r", &[], 1),
     ("p", "q", &[], 2),
@@ -217,7 +217,7 @@ const FAULTS: &[(&str, &str, &[u64], u64)] = &[
     ("p", "r", &[2], 2),
 ];
 
-// Whether a replay ends otherwise than with a fault of reading after so many fetches.
+// Whether a replay ends otherwise than with a fault of reading after this many fetches.
 fn is_no_fault(
     alloc: Global,
     file: &str,
@@ -255,7 +255,7 @@ const BLANKS: &[(usize, &str)] = &[
     (67_108_865, "run refused: too long\n"),
 ];
 
-// Whether a run's file of so many blanks is answered otherwise.
+// Whether a run's file of this many blanks is answered otherwise.
 fn is_otherwise_refused(alloc: Global, count: usize, text: &str) -> Result<bool, AllocError> {
     let mut files = Vec::new(alloc);
     files.push(file(alloc, "p", COUNTING)?)?;

@@ -5,8 +5,8 @@ use outside_io::{Held, MemoryShelf, MemorySink};
 use std::alloc::{AllocError, Global};
 use std::test::Fail;
 
-// The program of so many rules with so many places each: a chain, in which each rule leads from a symbol to the next,
-// or a star, in which each leads from the start to a symbol of its own.
+// The program of this many rules with this many places each: a chain, in which each rule leads from a symbol to the
+// next, or a star, in which each leads from the start to a symbol of its own.
 fn program(alloc: Global, is_chain: bool, rules: u32, places: u32) -> Result<String, AllocError> {
     let mut text = String::from_str(alloc, "(STARTTERM (FUNCTIONSYMBOLS l0))(RULES")?;
     for rule in 0..rules {
@@ -19,7 +19,7 @@ fn program(alloc: Global, is_chain: bool, rules: u32, places: u32) -> Result<Str
     Ok(text)
 }
 
-// So many arguments in brackets: `(A0,A1,A2)`.
+// This many arguments in brackets: `(A0,A1,A2)`.
 fn arguments(alloc: Global, places: u32) -> Result<String, AllocError> {
     let mut text = String::from_str(alloc, "(")?;
     for place in 0..places {

@@ -1,10 +1,10 @@
 //! The top call on a shelf and a sink without faults: a fault of writing never comes, and one of reading only where the
-//! shelf lacks a file of what is asked for.
+//! shelf lacks a file of the request.
 
 ghost use Rattle.std.specs.Prelude.{◌≡◌, ◌≢◌, ◌⊎◌, ℕ, List, Some, map, string_bytes};
 ghost use Rattle.outside_io.specs.Files.{Lacks};
 ghost use Rattle.outside_io.specs.SteadyShelf.{held_files};
-ghost use Rattle.asks.specs.Requests.{Request, Asks};
+ghost use Rattle.command_line.specs.Requests.{Request, Asks};
 ghost use Rattle.koat_cli.specs.Ends.{IsFirstFile, IsSecondFile};
 
 use koat_cli::{Status, run};

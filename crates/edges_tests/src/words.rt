@@ -1,10 +1,10 @@
 //! What words ask for, and which ask for nothing.
 
-use asks::asks;
+use command_line::asks;
 use std::alloc::{AllocError, Global};
 use std::test::Fail;
 
-// Words, and what they ask for.
+// Words, and their requests.
 const LINES: &[(&[&str], &str)] = &[
     (&["analyse", "p"], ANALYSE_P),
     (&["analyse", "p", "--"], ANALYSE_P),

@@ -22,7 +22,7 @@ use Rattle.expr_text.specs.GuardFronts.{truth_in, truth_of, atoms_with, compared
 use Rattle.expr_text.specs.FrontNames.{with_conjoined, operates, is_front}
 use Rattle.expr_text.specs.TermFronts.{limited}
 use Rattle.expr_reader.specs.declared.guard.Related as code
-use Rattle.expr_reader.specs.declared.guard.GuardPlace.TheVariants as places
+use Rattle.expr_reader.specs.declared.guard.GuardState.TheVariants as places
 use Rattle.expr_reader.specs.declared.guard.GuardReader.{GuardReader}
 use Rattle.expr_reader.specs.declared.expression.Expression.{Expression}
 use Rattle.expr_reader.specs.Views.{term_in}
@@ -31,9 +31,9 @@ use Rattle.expr_reader.specs.Faults.{ends_before, compared_fault, atom_fault}
 use Rattle.expr_reader.specs.Standing.{Stands, Clears}
 use Rattle.expr_reader.specs.GuardStanding.{limited_atom, atoms_of, atoms_before, atoms_in, Relating, relating_of}
 use Rattle.expr_reader.specs.GuardStanding.{relating_in, is_operating, IsInRight, IsAtTruth, IsEnded, Reads}
-use Rattle.expr_reader.specs.GuardStanding.{reading_none, reading_left, reading_right, reading_truth, IsSettled}
-use Rattle.expr_reader.specs.GuardStanding.{settled_none, settled_left, settled_right, settled_end, joined_only}
-use Rattle.expr_reader.specs.GuardStanding.{Settles}
+use Rattle.expr_reader.specs.GuardStanding.{reading_none, reading_left, reading_right, reading_truth, IsPartEnded}
+use Rattle.expr_reader.specs.GuardStanding.{part_ended_none, part_ended_left, part_ended_right, part_ended_end, joined_only}
+use Rattle.expr_reader.specs.GuardStanding.{EndsPart}
 use Rattle.expr_reader.specs.GuardParts.{is_right, can_end, goes_on, ends_right}
 use Rattle.expr_reader.proofs.LimitedFaults.{limited_differences}
 use Rattle.expr_reader.proofs.Endings.{goes_on_is, can_end_is, finished_names, finish_ends}
@@ -157,7 +157,7 @@ truth_ended next before g names r at =
     record {
       atoms = atoms_with at.conjoined at.atom;
       finish_is = ap finish at.front_is ∙ ap (λ o. fronts.ended at.conjoined o) at.truth_is;
-      place_is = at.place_is;
+      state_is = at.state_is;
       names_are = at.names_are ∙ sym (ended_names before at.conjoined at.atom ∙ ap (λ a. with_atom (with_conjoined before at.conjoined) a) always);
       atoms_are = at.atoms_are ∙ sym (ended_terms names at.conjoined at.atom ∙ ap (λ a. atoms_before names at.conjoined ++ limited_atom (atom_term names a) ∷ []) always);
       expression = at.expression;
@@ -165,19 +165,19 @@ truth_ended next before g names r at =
     }
 
 -- where no right side ends the reader stays as it is, and there is no fault
-pub stays : (next : Option Piece) (r : GuardReader) → ends_right r next ≡ false → Settles next r None r
-stays next r h = record { settled = settled; fault_is = fault }
+pub stays : (next : Option Piece) (r : GuardReader) → ends_right r next ≡ false → EndsPart next r None r
+stays next r h = record { part_ended = part_ended; fault_is = fault }
   where
     open_tests : (before : List Name) (g : GuardFront) (names : List Name) (right : IsInRight before g names r) → is_some (inner.finish right.read) && ends_before right.read next ≡ false
     open_tests before g names right =
         sym (tests_are (with_sum (with_conjoined before right.conjoined) right.left) right.read names r.expression next right.expression)
-        ∙ rest_false (is_right r.place) (can_end r.expression) (not (goes_on r.expression next)) h (ap is_right right.place_is)
+        ∙ rest_false (is_right r.state) (can_end r.expression) (not (goes_on r.expression next)) h (ap is_right right.state_is)
 
-    settled : (before : List Name) (g : GuardFront) (names : List Name) → Reads next before g names r → IsSettled next before g names r
-    settled before g names (reading_none at) = settled_none at
-    settled before g names (reading_left at) = settled_left at
-    settled before g names (reading_right at) = settled_right (record { right = at; goes_on = unfinished (inner.finish at.read) (ends_before at.read next) (open_tests before g names at) })
-    settled before g names (reading_truth at) = settled_end (truth_ended next before g names r at)
+    part_ended : (before : List Name) (g : GuardFront) (names : List Name) → Reads next before g names r → IsPartEnded next before g names r
+    part_ended before g names (reading_none at) = part_ended_none at
+    part_ended before g names (reading_left at) = part_ended_left at
+    part_ended before g names (reading_right at) = part_ended_right (record { right = at; goes_on = unfinished (inner.finish at.read) (ends_before at.read next) (open_tests before g names at) })
+    part_ended before g names (reading_truth at) = part_ended_end (truth_ended next before g names r at)
 
     fault : (before : List Name) (g : GuardFront) (names : List Name) → Reads next before g names r → None ≡ atom_fault names g next
     fault before g names (reading_none at) = sym (ap (λ g. atom_fault names g next) at.front_is)
@@ -235,11 +235,11 @@ module _ (next : Option Piece) (before : List Name) (g : GuardFront) (names : Li
       subst (λ g. step g p ≡ joined_only (finish g) p) (sym at.front_is)
       (right_joins at.conjoined at.left at.sign at.read p (before_step at.read next p (ending (inner.finish at.read) (ends_before at.read next) tests) same))
 
-  right_ended : q.place ≡ places.AtomRead → atoms_in q ≡ atoms_in r ++ plain.Compare (term_of rel.left) (relation_of rel.rel) (term_in r.expression) ∷ [] → Clears r.expression q.expression → IsEnded next before g names q
-  right_ended place atoms clears = record {
+  right_ended : q.state ≡ places.AtomRead → atoms_in q ≡ atoms_in r ++ plain.Compare (term_of rel.left) (relation_of rel.rel) (term_in r.expression) ∷ [] → Clears r.expression q.expression → IsEnded next before g names q
+  right_ended state atoms clears = record {
     atoms = atoms_with at.conjoined (Compared at.left at.sign done.sum);
     finish_is = ap finish at.front_is ∙ ap (λ o. fronts.ended at.conjoined (compared at.left at.sign o)) done.same;
-    place_is = place;
+    state_is = state;
     names_are = names_same;
     atoms_are = atoms ∙ (ap (λ found. found ++ plain.Compare (term_of rel.left) (relation_of rel.rel) (term_in r.expression) ∷ []) at.atoms_are
         ∙ (ap (λ a. atoms_before names at.conjoined ++ a ∷ []) atom_same ∙ sym (ended_terms names at.conjoined (Compared at.left at.sign done.sum))));
@@ -257,27 +257,27 @@ module _ (next : Option Piece) (before : List Name) (g : GuardFront) (names : Li
       ∙ ap (compared_fault names at.left at.sign) done.same))))
 
 -- where a right side ends its atom is one more, and the fault is the first of its differences
-pub ends : (next : Option Piece) (r q : GuardReader) (rel : code.Related) (fault : Option Fault) → ends_right r next ≡ true → r.related ≡ Some rel → q.place ≡ places.AtomRead
+pub ends : (next : Option Piece) (r q : GuardReader) (rel : code.Related) (fault : Option Fault) → ends_right r next ≡ true → r.related ≡ Some rel → q.state ≡ places.AtomRead
     → atoms_in q ≡ atoms_in r ++ plain.Compare (term_of rel.left) (relation_of rel.rel) (term_in r.expression) ∷ [] → Clears r.expression q.expression
-    → fault ≡ first_of_all (differences (term_of rel.left) (relation_of rel.rel) (term_in r.expression)) → Settles next r fault q
-ends next r q rel fault h related place atoms clears found = record { settled = settled; fault_is = faults }
+    → fault ≡ first_of_all (differences (term_of rel.left) (relation_of rel.rel) (term_in r.expression)) → EndsPart next r fault q
+ends next r q rel fault h related state atoms clears found = record { part_ended = part_ended; fault_is = faults }
   where
-    misplaced : is_right r.place ≡ false → ⊥
-    misplaced e = let t = (all_true (is_right r.place) (can_end r.expression) (not (goes_on r.expression next)) h).0 in cc
+    misplaced : is_right r.state ≡ false → ⊥
+    misplaced e = let t = (all_true (is_right r.state) (can_end r.expression) (not (goes_on r.expression next)) h).0 in cc
 
     tests : (before : List Name) (g : GuardFront) (names : List Name) (at : IsInRight before g names r) → is_some (inner.finish at.read) && ends_before at.read next ≡ true
     tests before g names at =
         sym (tests_are (with_sum (with_conjoined before at.conjoined) at.left) at.read names r.expression next at.expression)
-        ∙ (all_true (is_right r.place) (can_end r.expression) (not (goes_on r.expression next)) h).1
+        ∙ (all_true (is_right r.state) (can_end r.expression) (not (goes_on r.expression next)) h).1
 
-    settled : (before : List Name) (g : GuardFront) (names : List Name) → Reads next before g names r → IsSettled next before g names q
-    settled before g names (reading_none at) = absurd (misplaced (ap is_right at.place_is))
-    settled before g names (reading_left at) = absurd (misplaced (ap is_right at.place_is))
-    settled before g names (reading_right at) = settled_end (right_ended next before g names r q rel at (tests before g names at) related place atoms clears)
-    settled before g names (reading_truth at) = absurd (misplaced (ap is_right at.place_is))
+    part_ended : (before : List Name) (g : GuardFront) (names : List Name) → Reads next before g names r → IsPartEnded next before g names q
+    part_ended before g names (reading_none at) = absurd (misplaced (ap is_right at.state_is))
+    part_ended before g names (reading_left at) = absurd (misplaced (ap is_right at.state_is))
+    part_ended before g names (reading_right at) = part_ended_end (right_ended next before g names r q rel at (tests before g names at) related state atoms clears)
+    part_ended before g names (reading_truth at) = absurd (misplaced (ap is_right at.state_is))
 
     faults : (before : List Name) (g : GuardFront) (names : List Name) → Reads next before g names r → fault ≡ atom_fault names g next
-    faults before g names (reading_none at) = absurd (misplaced (ap is_right at.place_is))
-    faults before g names (reading_left at) = absurd (misplaced (ap is_right at.place_is))
+    faults before g names (reading_none at) = absurd (misplaced (ap is_right at.state_is))
+    faults before g names (reading_left at) = absurd (misplaced (ap is_right at.state_is))
     faults before g names (reading_right at) = found ∙ right_fault next before g names r q rel at (tests before g names at) related
-    faults before g names (reading_truth at) = absurd (misplaced (ap is_right at.place_is))
+    faults before g names (reading_truth at) = absurd (misplaced (ap is_right at.state_is))

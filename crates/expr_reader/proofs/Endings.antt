@@ -22,7 +22,7 @@ last_stands : (levels : List terms.Level) (l : terms.Level) → terms.is_empty (
 last_stands [] l = refl
 last_stands (k ∷ levels) l = refl
 
--- a level stands before an open bracket in both
+-- a level comes before an open bracket in both
 turned_stands : (names : List Name) (l : Level) (outer : List Level) → terms.is_empty (reverse (map (level_terms names) (l ∷ outer))) ≡ false
 turned_stands names l outer = ap terms.is_empty (reverse_cons (level_terms names l) (map (level_terms names) outer)) ∙ last_stands (reverse (map (level_terms names) outer)) (level_terms names l)
 

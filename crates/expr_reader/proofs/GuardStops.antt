@@ -18,8 +18,8 @@ use Rattle.expr_text.proofs.Ending.{related_ends, related_step}
 use Rattle.expr_reader.specs.declared.guard.GuardReader.{GuardReader}
 use Rattle.expr_reader.specs.Views.{front_of, term_in}
 use Rattle.expr_reader.specs.Standing.{Stands, IsFresh, IsModest}
-use Rattle.expr_reader.specs.GuardStanding.{Relating, IsOpen, Reads, reading_right, IsSettled, settled_none}
-use Rattle.expr_reader.specs.GuardStanding.{settled_left, settled_right, settled_end, LeadsTo, Takes}
+use Rattle.expr_reader.specs.GuardStanding.{Relating, IsOpen, Reads, reading_right, IsPartEnded, part_ended_none}
+use Rattle.expr_reader.specs.GuardStanding.{part_ended_left, part_ended_right, part_ended_end, LeadsTo, Takes}
 use Rattle.expr_reader.specs.GuardParts.{is_left, is_read, sign_read, Relates, can_end, IsRelated, IsUnrelated}
 use Rattle.expr_reader.proofs.Standing.{fresh_stands}
 use Rattle.expr_reader.proofs.Endings.{goes_on_is, can_end_is, finished_names, finish_ends}
@@ -72,7 +72,7 @@ true_false : (a b : Bool) → a && b ≡ false → a ≡ true → b ≡ false
 true_false true b h e = h
 true_false false b h e = absurd cc
 
-module _ (old : List Name) (r : GuardReader) (p : Piece) (unread : is_read r.place ≡ false) (stops : terms.goes_on_from (front_of r.expression).outer (front_of r.expression).operand p ≡ false) where
+module _ (old : List Name) (r : GuardReader) (p : Piece) (unread : is_read r.state ≡ false) (stops : terms.goes_on_from (front_of r.expression).outer (front_of r.expression).operand p ≡ false) where
   unstepped : (base : List Name) (e : Front) → Stands base e old r.expression → inner.step e p ≡ None
   unstepped base e stands = no_step (inner.step e p) (sym (goes_on_is base e old r.expression p stands) ∙ stops)
 
@@ -87,23 +87,23 @@ module _ (old : List Name) (r : GuardReader) (p : Piece) (unread : is_read r.pla
 
   -- a piece that is no relation and goes on with nothing isn't taken, and nothing changes
   pub takes_none : (behind : Option Piece) (new : List Name) (q : GuardReader) → sign_read p ≡ None → new ≡ old → q ≡ r → Takes old r p behind false new q
-  takes_none behind new q other names same = record { each = λ before g settled modest. unchanged behind before (step g p) old new r q (none before g settled) names same }
+  takes_none behind new q other names same = record { each = λ before g part_ended modest. unchanged behind before (step g p) old new r q (none before g part_ended) names same }
     where
-      none : (before : List Name) (g : GuardFront) → IsSettled (Some p) before g old r → step g p ≡ None
-      none before g (settled_none at) = ap (λ g. step g p) at.front_is ∙ left_stuck at.conjoined beginning p (fresh_none before at.conjoined at.names_are at.expression) other (λ h. refl)
-      none before g (settled_left at) = ap (λ g. step g p) at.front_is ∙ left_stuck at.conjoined at.read p (unstepped (with_conjoined before at.conjoined) at.read at.expression) other at.follows
-      none before g (settled_right at) = right_none before g at
-      none before g (settled_end at) = absurd (read_unread r unread at.place_is)
+      none : (before : List Name) (g : GuardFront) → IsPartEnded (Some p) before g old r → step g p ≡ None
+      none before g (part_ended_none at) = ap (λ g. step g p) at.front_is ∙ left_stuck at.conjoined beginning p (fresh_none before at.conjoined at.names_are at.expression) other (λ h. refl)
+      none before g (part_ended_left at) = ap (λ g. step g p) at.front_is ∙ left_stuck at.conjoined at.read p (unstepped (with_conjoined before at.conjoined) at.read at.expression) other at.follows
+      none before g (part_ended_right at) = right_none before g at
+      none before g (part_ended_end at) = absurd (read_unread r unread at.state_is)
 
 -- a relation is taken behind a left side that can end
 takes_related : (old new : List Name) (r q : GuardReader) (sign : Sign) (behind : Option Piece) → new ≡ old → IsRelated r sign q → Takes old r (Related sign) behind true new q
 takes_related old new r q sign behind names is = record { each = each }
   where
-    misplaced : is_left r.place ≡ false → ⊥
+    misplaced : is_left r.state ≡ false → ⊥
     misplaced e = let t = ap is_left is.was_left in cc
 
-    each : (before : List Name) (g : GuardFront) → IsSettled (Some (Related sign)) before g old r → IsModest (Related sign) → LeadsTo true behind before (step g (Related sign)) old r new q
-    each before g (settled_left at) modest =
+    each : (before : List Name) (g : GuardFront) → IsPartEnded (Some (Related sign)) before g old r → IsModest (Related sign) → LeadsTo true behind before (step g (Related sign)) old r new q
+    each before g (part_ended_left at) modest =
         let base = with_conjoined before at.conjoined in
         let s = a_sum (inner.finish at.read) (sym (can_end_is base at.read old r.expression at.expression) ∙ is.ended) in
         let left : term_in r.expression ≡ limited (sum_term old s.0) = (finish_ends r.expression (term_in r.expression) refl).each base old at.read s.0 at.expression s.1 in
@@ -113,7 +113,7 @@ takes_related old new r q sign behind names is = record { each = each }
           sign = sign;
           read = beginning;
           front_is = refl;
-          place_is = is.place_is;
+          state_is = is.state_is;
           atoms_are = ap (λ (v : _). map atom_of v.items) is.atoms_are ∙ at.atoms_are;
           related_is = is.related_is ∙ ap (λ t. let x : Relating = record { left = t; relation = guards.relation_of sign } in Some x) left;
           expression = subst (λ ns. Stands (with_sum base s.0) beginning ns q.expression) (sym (at.expression.names_are ∙ finished_names base at.read s.0 s.1))
@@ -121,22 +121,22 @@ takes_related old new r q sign behind names is = record { each = each }
         }) in
         changed behind before (step g (Related sign)) (RightSide at.conjoined s.0 sign beginning) old new r q
         (ap (λ g. step g (Related sign)) at.front_is ∙ related_step at.conjoined at.read s.0 sign s.1) (subst (λ ns. Reads behind before (RightSide at.conjoined s.0 sign beginning) ns q) (sym names) reads)
-    each before g (settled_none at) modest = absurd (misplaced (ap is_left at.place_is))
-    each before g (settled_right at) modest = absurd (misplaced (ap is_left at.right.place_is))
-    each before g (settled_end at) modest = absurd (misplaced (ap is_left at.place_is))
+    each before g (part_ended_none at) modest = absurd (misplaced (ap is_left at.state_is))
+    each before g (part_ended_right at) modest = absurd (misplaced (ap is_left at.right.state_is))
+    each before g (part_ended_end at) modest = absurd (misplaced (ap is_left at.state_is))
 
-takes_unrelated : (old new : List Name) (r q : GuardReader) (sign : Sign) (behind : Option Piece) → is_read r.place ≡ false
+takes_unrelated : (old new : List Name) (r q : GuardReader) (sign : Sign) (behind : Option Piece) → is_read r.state ≡ false
     → terms.goes_on_from (front_of r.expression).outer (front_of r.expression).operand (Related sign) ≡ false → new ≡ old → IsUnrelated r q → Takes old r (Related sign) behind false new q
-takes_unrelated old new r q sign behind unread stops names is = record { each = λ before g settled modest. unchanged behind before (step g (Related sign)) old new r q (none before g settled) names is.kept }
+takes_unrelated old new r q sign behind unread stops names is = record { each = λ before g part_ended modest. unchanged behind before (step g (Related sign)) old new r q (none before g part_ended) names is.kept }
   where
-    none : (before : List Name) (g : GuardFront) → IsSettled (Some (Related sign)) before g old r → step g (Related sign) ≡ None
-    none before g (settled_none at) = ap (λ g. step g (Related sign)) at.front_is
-    none before g (settled_left at) =
+    none : (before : List Name) (g : GuardFront) → IsPartEnded (Some (Related sign)) before g old r → step g (Related sign) ≡ None
+    none before g (part_ended_none at) = ap (λ g. step g (Related sign)) at.front_is
+    none before g (part_ended_left at) =
         ap (λ g. step g (Related sign)) at.front_is
         ∙ unrelated_step at.conjoined at.read sign (no_sum (inner.finish at.read)
-        (sym (can_end_is (with_conjoined before at.conjoined) at.read old r.expression at.expression) ∙ true_false (is_left r.place) (can_end r.expression) is.not_left (ap is_left at.place_is)))
-    none before g (settled_right at) = right_none old r (Related sign) unread stops before g at
-    none before g (settled_end at) = absurd (read_unread r unread at.place_is)
+        (sym (can_end_is (with_conjoined before at.conjoined) at.read old r.expression at.expression) ∙ true_false (is_left r.state) (can_end r.expression) is.not_left (ap is_left at.state_is)))
+    none before g (part_ended_right at) = right_none old r (Related sign) unread stops before g at
+    none before g (part_ended_end at) = absurd (read_unread r unread at.state_is)
 
 -- the piece whose sign is read
 sign_is : (p : Piece) (sign : Sign) → Some sign ≡ sign_read p → p ≡ Related sign
@@ -152,7 +152,7 @@ sign_is Caret sign h = absurd cc
 sign_is (Joining j) sign h = absurd cc
 
 -- a relation is taken behind a left side that can end, and elsewhere nothing changes
-pub takes_relation : (old new : List Name) (r q : GuardReader) (p : Piece) (sign : Sign) (behind : Option Piece) (taken : Bool) → is_read r.place ≡ false
+pub takes_relation : (old new : List Name) (r q : GuardReader) (p : Piece) (sign : Sign) (behind : Option Piece) (taken : Bool) → is_read r.state ≡ false
     → terms.goes_on_from (front_of r.expression).outer (front_of r.expression).operand p ≡ false → Some sign ≡ sign_read p → new ≡ old → Relates r sign taken q → Takes old r p behind taken new q
 takes_relation old new r q p sign behind taken unread stops read names relates =
     let same = sign_is p sign read in

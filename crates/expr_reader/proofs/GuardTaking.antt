@@ -18,13 +18,13 @@ use Rattle.expr_text.specs.GuardFronts.{related, step, within}
 use Rattle.expr_text.specs.FrontNames.{with_conjoined, is_front, token_count, truth_worded}
 use Rattle.expr_text.specs.TermFronts as terms
 use Rattle.expr_text.proofs.Stability.{extended, sum_extends}
-use Rattle.expr_reader.specs.declared.guard.GuardPlace.TheVariants as places
+use Rattle.expr_reader.specs.declared.guard.GuardState.TheVariants as places
 use Rattle.expr_reader.specs.declared.guard.GuardReader.{GuardReader}
 use Rattle.expr_reader.specs.Views.{front_of}
 use Rattle.expr_reader.specs.Standing.{Stands, IsFresh, IsModest, Leads}
 use Rattle.expr_reader.specs.GuardStanding.{atoms_of, atoms_before, atoms_in, Relating, relating_in, is_operating}
 use Rattle.expr_reader.specs.GuardStanding.{IsInRight, Reads, reading_none, reading_left, reading_right, reading_truth}
-use Rattle.expr_reader.specs.GuardStanding.{IsSettled, settled_none, settled_left, settled_right, settled_end}
+use Rattle.expr_reader.specs.GuardStanding.{IsPartEnded, part_ended_none, part_ended_left, part_ended_right, part_ended_end}
 use Rattle.expr_reader.specs.GuardStanding.{joined_only, LeadsTo, Takes}
 use Rattle.expr_reader.specs.GuardParts.{is_wanting, is_read, begun_at, is_joining, names_truth}
 use Rattle.expr_text.proofs.NamesRead.{Extends}
@@ -73,7 +73,7 @@ no_step None h = refl
 no_step (Some f) h = absurd cc
 
 -- an atom has been read or not
-pub read_unread : (r : GuardReader) → is_read r.place ≡ false → r.place ≡ places.AtomRead → ⊥
+pub read_unread : (r : GuardReader) → is_read r.state ≡ false → r.state ≡ places.AtomRead → ⊥
 read_unread r h e = let t = ap is_read e in cc
 
 -- nothing has changed
@@ -86,51 +86,51 @@ changed behind before o g old new r q to reads = subst (λ o. LeadsTo true behin
 
 -- the word of the atom that always holds
 truth_leads : (behind : Option Piece) (before : List Name) (c : Conjoined) (old new : List Name) (r q : GuardReader) (p : Piece)
-    → names_truth p ≡ true → is_operating behind ≡ false → new ≡ with_conjoined before c → q.place ≡ places.AtomRead → atoms_in q ≡ atoms_before new c ++ plain.Always ∷ [] → IsFresh q.expression
+    → names_truth p ≡ true → is_operating behind ≡ false → new ≡ with_conjoined before c → q.state ≡ places.AtomRead → atoms_in q ≡ atoms_before new c ++ plain.Always ∷ [] → IsFresh q.expression
     → LeadsTo true behind before (step (LeftSide c beginning) p) old r new q
-truth_leads behind before c old new r q (Word n) truth follows names place atoms fresh =
+truth_leads behind before c old new r q (Word n) truth follows names state atoms fresh =
     let named = named_truth n truth in
-    reading_truth (record { conjoined = c; read = word_front n; atom = named.0; front_is = refl; truth_is = named.1; place_is = place; names_are = names; atoms_are = atoms; expression = fresh; follows = follows })
-truth_leads behind before c old new r q (Digits ds) truth follows names place atoms fresh = absurd cc
-truth_leads behind before c old new r q Open truth follows names place atoms fresh = absurd cc
-truth_leads behind before c old new r q Close truth follows names place atoms fresh = absurd cc
-truth_leads behind before c old new r q Plus truth follows names place atoms fresh = absurd cc
-truth_leads behind before c old new r q Minus truth follows names place atoms fresh = absurd cc
-truth_leads behind before c old new r q Times truth follows names place atoms fresh = absurd cc
-truth_leads behind before c old new r q Caret truth follows names place atoms fresh = absurd cc
-truth_leads behind before c old new r q (Related s) truth follows names place atoms fresh = absurd cc
-truth_leads behind before c old new r q (Joining j) truth follows names place atoms fresh = absurd cc
+    reading_truth (record { conjoined = c; read = word_front n; atom = named.0; front_is = refl; truth_is = named.1; state_is = state; names_are = names; atoms_are = atoms; expression = fresh; follows = follows })
+truth_leads behind before c old new r q (Digits ds) truth follows names state atoms fresh = absurd cc
+truth_leads behind before c old new r q Open truth follows names state atoms fresh = absurd cc
+truth_leads behind before c old new r q Close truth follows names state atoms fresh = absurd cc
+truth_leads behind before c old new r q Plus truth follows names state atoms fresh = absurd cc
+truth_leads behind before c old new r q Minus truth follows names state atoms fresh = absurd cc
+truth_leads behind before c old new r q Times truth follows names state atoms fresh = absurd cc
+truth_leads behind before c old new r q Caret truth follows names state atoms fresh = absurd cc
+truth_leads behind before c old new r q (Related s) truth follows names state atoms fresh = absurd cc
+truth_leads behind before c old new r q (Joining j) truth follows names state atoms fresh = absurd cc
 
 -- where an atom is wanted, a word of the one that always holds is taken unless an operator follows
 pub takes_truth : (old new : List Name) (r q : GuardReader) (p : Piece) (behind : Option Piece)
-    → is_wanting r.place && names_truth p && not (is_operating behind) ≡ true → new ≡ old → q.place ≡ places.AtomRead → atoms_in q ≡ atoms_in r ++ plain.Always ∷ [] → q.expression ≡ r.expression → Takes old r p behind true new q
-takes_truth old new r q p behind test names place atoms expression = record { each = each }
+    → is_wanting r.state && names_truth p && not (is_operating behind) ≡ true → new ≡ old → q.state ≡ places.AtomRead → atoms_in q ≡ atoms_in r ++ plain.Always ∷ [] → q.expression ≡ r.expression → Takes old r p behind true new q
+takes_truth old new r q p behind test names state atoms expression = record { each = each }
   where
-    tests : (is_wanting r.place ≡ true) × (names_truth p ≡ true) × (not (is_operating behind) ≡ true)
-    tests = both_true (is_wanting r.place) (names_truth p) (not (is_operating behind)) test
+    tests : (is_wanting r.state ≡ true) × (names_truth p ≡ true) × (not (is_operating behind) ≡ true)
+    tests = both_true (is_wanting r.state) (names_truth p) (not (is_operating behind)) test
 
-    misplaced : is_wanting r.place ≡ false → ⊥
+    misplaced : is_wanting r.state ≡ false → ⊥
     misplaced e = let t = tests.0 in cc
 
-    each : (before : List Name) (g : GuardFront) → IsSettled (Some p) before g old r → IsModest p → LeadsTo true behind before (step g p) old r new q
-    each before g (settled_none at) modest =
+    each : (before : List Name) (g : GuardFront) → IsPartEnded (Some p) before g old r → IsModest p → LeadsTo true behind before (step g p) old r new q
+    each before g (part_ended_none at) modest =
         subst (λ g. LeadsTo true behind before (step g p) old r new q) (sym at.front_is)
-        (truth_leads behind before at.conjoined old new r q p tests.1 (not_true (is_operating behind) tests.2) (names ∙ at.names_are) place
+        (truth_leads behind before at.conjoined old new r q p tests.1 (not_true (is_operating behind) tests.2) (names ∙ at.names_are) state
         (atoms ∙ (ap (λ found. found ++ plain.Always ∷ []) at.atoms_are ∙ ap (λ ns. atoms_before ns at.conjoined ++ plain.Always ∷ []) (sym names))) (subst IsFresh (sym expression) at.expression))
-    each before g (settled_left at) modest = absurd (misplaced (ap is_wanting at.place_is))
-    each before g (settled_right at) modest = absurd (misplaced (ap is_wanting at.right.place_is))
-    each before g (settled_end at) modest = absurd (misplaced (ap is_wanting at.place_is))
+    each before g (part_ended_left at) modest = absurd (misplaced (ap is_wanting at.state_is))
+    each before g (part_ended_right at) modest = absurd (misplaced (ap is_wanting at.right.state_is))
+    each before g (part_ended_end at) modest = absurd (misplaced (ap is_wanting at.state_is))
 
 -- what joins
 joint_leads : (behind : Option Piece) (before : List Name) (atoms : Atoms) (old new : List Name) (r q : GuardReader) → new ≡ with_atoms before atoms → atoms_in r ≡ atoms_of new atoms → IsFresh r.expression → new ≡ old
-    → (p : Piece) → (is_joining p ≡ true → q ≡ record { place = places.AtomWanted; atoms = r.atoms; related = r.related; expression = r.expression }) → (is_joining p ≡ false → q ≡ r)
+    → (p : Piece) → (is_joining p ≡ true → q ≡ record { state = places.AtomWanted; atoms = r.atoms; related = r.related; expression = r.expression }) → (is_joining p ≡ false → q ≡ r)
     → LeadsTo (is_joining p) behind before (joined_only (Some atoms) p) old r new q
 joint_leads behind before atoms old new r q names are fresh same (Joining j) taken kept =
     let q_is = taken refl in
     reading_none (record {
       conjoined = JointAfter atoms j;
       front_is = refl;
-      place_is = ap (λ (q : GuardReader). q.place) q_is;
+      state_is = ap (λ (q : GuardReader). q.state) q_is;
       names_are = names;
       atoms_are = ap atoms_in q_is ∙ are;
       expression = subst IsFresh (sym (ap (λ (q : GuardReader). q.expression) q_is)) fresh;
@@ -146,22 +146,22 @@ joint_leads behind before atoms old new r q names are fresh same Caret taken kep
 joint_leads behind before atoms old new r q names are fresh same (Related s) taken kept = (same, kept refl)
 
 -- behind an atom only what joins is taken, and then the next atom is wanted
-pub takes_joint : (old new : List Name) (r q : GuardReader) (p : Piece) (behind : Option Piece) (b : Bool) → is_read r.place ≡ true → new ≡ old → b ≡ is_joining p
-    → (IsTrue b → q ≡ record { place = places.AtomWanted; atoms = r.atoms; related = r.related; expression = r.expression }) → (IsFalse b → q ≡ r) → Takes old r p behind b new q
+pub takes_joint : (old new : List Name) (r q : GuardReader) (p : Piece) (behind : Option Piece) (b : Bool) → is_read r.state ≡ true → new ≡ old → b ≡ is_joining p
+    → (IsTrue b → q ≡ record { state = places.AtomWanted; atoms = r.atoms; related = r.related; expression = r.expression }) → (IsFalse b → q ≡ r) → Takes old r p behind b new q
 takes_joint old new r q p behind b test names is taken kept = record { each = each }
   where
-    misplaced : is_read r.place ≡ false → ⊥
+    misplaced : is_read r.state ≡ false → ⊥
     misplaced e = let t = test in cc
 
-    each : (before : List Name) (g : GuardFront) → IsSettled (Some p) before g old r → IsModest p → LeadsTo b behind before (step g p) old r new q
-    each before g (settled_end at) modest =
+    each : (before : List Name) (g : GuardFront) → IsPartEnded (Some p) before g old r → IsModest p → LeadsTo b behind before (step g p) old r new q
+    each before g (part_ended_end at) modest =
         subst (λ v. LeadsTo v behind before (step g p) old r new q) (sym is)
         (subst (λ o. LeadsTo (is_joining p) behind before o old r new q) (sym (at.joins p refl ∙ ap (λ o. joined_only o p) at.finish_is))
         (joint_leads behind before at.atoms old new r q (names ∙ at.names_are) (at.atoms_are ∙ ap (λ ns. atoms_of ns at.atoms) (sym names)) at.expression names p
         (λ h. taken (is ∙ h)) (λ h. kept (is ∙ h))))
-    each before g (settled_none at) modest = absurd (misplaced (ap is_read at.place_is))
-    each before g (settled_left at) modest = absurd (misplaced (ap is_read at.place_is))
-    each before g (settled_right at) modest = absurd (misplaced (ap is_read at.right.place_is))
+    each before g (part_ended_none at) modest = absurd (misplaced (ap is_read at.state_is))
+    each before g (part_ended_left at) modest = absurd (misplaced (ap is_read at.state_is))
+    each before g (part_ended_right at) modest = absurd (misplaced (ap is_read at.right.state_is))
 
 -- what is no atom where it is there
 abbrev Untrue : Option Front → Type 0
@@ -203,13 +203,13 @@ taken_within c e f p to = ap (λ o. within (LeftSide c e) o p) to
 taken_right : (c : Conjoined) (l : Sum) (sign : Sign) (e f : Front) (p : Piece) → inner.step e p ≡ Some f → step (RightSide c l sign e) p ≡ Some (RightSide c l sign f)
 taken_right c l sign e f p to = ap (λ o. within (RightSide c l sign e) o p) to
 
-module _ (old new : List Name) (r q : GuardReader) (p : Piece) (behind : Option Piece) (test : is_wanting r.place && names_truth p && not (is_operating behind) ≡ false)
-    (leads : Leads old r.expression p new q.expression) (place : q.place ≡ begun_at r.place) (atoms : q.atoms ≡ r.atoms) (related_same : q.related ≡ r.related) where
+module _ (old new : List Name) (r q : GuardReader) (p : Piece) (behind : Option Piece) (test : is_wanting r.state && names_truth p && not (is_operating behind) ≡ false)
+    (leads : Leads old r.expression p new q.expression) (state : q.state ≡ begun_at r.state) (atoms : q.atoms ≡ r.atoms) (related_same : q.related ≡ r.related) where
   -- the atoms before the one that is being read stay
   atoms_same : (before : List Name) (c : Conjoined) → Extends (with_conjoined before c) old → Extends (with_conjoined before c) new → atoms_in r ≡ atoms_before old c → atoms_in q ≡ atoms_before new c
   atoms_same before c a b are = ap (λ (v : _). map atom_of v.items) atoms ∙ (are ∙ before_kept before old new c a b)
 
-  more_left : (before : List Name) (c : Conjoined) (e f : Front) → Stands (with_conjoined before c) e old r.expression → inner.step e p ≡ Some f → IsModest p → q.place ≡ places.LeftSide → atoms_in r ≡ atoms_before old c
+  more_left : (before : List Name) (c : Conjoined) (e f : Front) → Stands (with_conjoined before c) e old r.expression → inner.step e p ≡ Some f → IsModest p → q.state ≡ places.LeftSide → atoms_in r ≡ atoms_before old c
       → (is_operating behind ≡ false → truth_of f ≡ None) → Reads behind before (LeftSide c f) new q
   more_left before c e f stands to modest at are follows =
       let holds = leads.each (with_conjoined before c) e f stands to modest in
@@ -219,7 +219,7 @@ module _ (old new : List Name) (r q : GuardReader) (p : Piece) (behind : Option 
         read = f;
         front_is = refl;
         begun = omega (arith, counted);
-        place_is = at;
+        state_is = at;
         atoms_are = atoms_same before c (subst (Extends (with_conjoined before c)) (sym stands.names_are) (front_extends (with_conjoined before c) e)) (subst (Extends (with_conjoined before c)) (sym holds.names_are) (front_extends (with_conjoined before c) f)) are;
         expression = holds;
         follows = follows;
@@ -238,14 +238,14 @@ module _ (old new : List Name) (r q : GuardReader) (p : Piece) (behind : Option 
         sign = at.sign;
         read = f;
         front_is = refl;
-        place_is = place ∙ ap begun_at at.place_is;
+        state_is = state ∙ ap begun_at at.state_is;
         atoms_are = atoms_same before at.conjoined (extended names sums old (sum_extends names at.left) was) (extended names sums new (sum_extends names at.left) is) at.atoms_are;
         related_is = ap relating_in related_same ∙ (at.related_is ∙ ap (λ t. let x : Relating = record { left = t; relation = guards.relation_of at.sign } in Some x) (sum_kept names old new at.left was is));
         expression = holds;
       })
 
   -- a piece that goes on with the expression of a side is taken
-  pub takes_more : is_read r.place ≡ false → terms.goes_on_from (front_of r.expression).outer (front_of r.expression).operand p ≡ true → Takes old r p behind true new q
+  pub takes_more : is_read r.state ≡ false → terms.goes_on_from (front_of r.expression).outer (front_of r.expression).operand p ≡ true → Takes old r p behind true new q
   takes_more unread goes = record { each = each }
     where
       wanted : (before : List Name) (c : Conjoined) → old ≡ with_conjoined before c → IsFresh r.expression → Stands (with_conjoined before c) beginning old r.expression
@@ -254,20 +254,20 @@ module _ (old new : List Name) (r q : GuardReader) (p : Piece) (behind : Option 
       stepped : (base : List Name) (e : Front) → Stands base e old r.expression → (f : Front) × (inner.step e p ≡ Some f)
       stepped base e stands = a_step (inner.step e p) (sym (goes_on_is base e old r.expression p stands) ∙ goes)
 
-      each : (before : List Name) (g : GuardFront) → IsSettled (Some p) before g old r → IsModest p → LeadsTo true behind before (step g p) old r new q
-      each before g (settled_none at) modest =
+      each : (before : List Name) (g : GuardFront) → IsPartEnded (Some p) before g old r → IsModest p → LeadsTo true behind before (step g p) old r new q
+      each before g (part_ended_none at) modest =
           let stands = wanted before at.conjoined at.names_are at.expression in
           let to = stepped (with_conjoined before at.conjoined) beginning stands in
           changed behind before (step g p) (LeftSide at.conjoined to.0) old new r q (ap (λ g. step g p) at.front_is ∙ taken_within at.conjoined beginning to.0 p to.1)
-          (more_left before at.conjoined beginning to.0 stands to.1 modest (place ∙ ap begun_at at.place_is) at.atoms_are
-          (λ other. first_untrue p to.0 to.1 (middle_false (is_wanting r.place) (names_truth p) (not (is_operating behind)) test (ap is_wanting at.place_is) (ap not other))))
-      each before g (settled_left at) modest =
+          (more_left before at.conjoined beginning to.0 stands to.1 modest (state ∙ ap begun_at at.state_is) at.atoms_are
+          (λ other. first_untrue p to.0 to.1 (middle_false (is_wanting r.state) (names_truth p) (not (is_operating behind)) test (ap is_wanting at.state_is) (ap not other))))
+      each before g (part_ended_left at) modest =
           let to = stepped (with_conjoined before at.conjoined) at.read at.expression in
           changed behind before (step g p) (LeftSide at.conjoined to.0) old new r q (ap (λ g. step g p) at.front_is ∙ taken_within at.conjoined at.read to.0 p to.1)
-          (more_left before at.conjoined at.read to.0 at.expression to.1 modest (place ∙ ap begun_at at.place_is) at.atoms_are (λ other. later_untrue at.read to.0 p at.begun to.1))
-      each before g (settled_right at) modest =
+          (more_left before at.conjoined at.read to.0 at.expression to.1 modest (state ∙ ap begun_at at.state_is) at.atoms_are (λ other. later_untrue at.read to.0 p at.begun to.1))
+      each before g (part_ended_right at) modest =
           let right = at.right in
           let to = stepped (with_sum (with_conjoined before right.conjoined) right.left) right.read right.expression in
           changed behind before (step g p) (RightSide right.conjoined right.left right.sign to.0) old new r q (ap (λ g. step g p) right.front_is ∙ taken_right right.conjoined right.left right.sign right.read to.0 p to.1)
           (more_right before g to.0 right to.1 modest)
-      each before g (settled_end at) modest = absurd (read_unread r unread at.place_is)
+      each before g (part_ended_end at) modest = absurd (read_unread r unread at.state_is)

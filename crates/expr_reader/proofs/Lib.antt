@@ -1,6 +1,8 @@
+-- the code's parser of expressions and guards follows the one of `expr_text`
 pub mod NameSets
 pub mod FrontNames
 pub mod TermLaws
+pub mod Numbers
 pub mod Simulation
 pub mod Standing
 pub mod Endings

@@ -38,7 +38,7 @@ front_made u o l op is =
     let mk : List terms.Level → terms.Level → terms.Operand → terms.Front = λ o l op. record { outer = o; level = l; operand = op } in
     ap (λ o. mk o u.level u.operand) is.outer_is ∙ (ap (λ l. mk o l u.operand) is.level_is ∙ ap (λ op. mk o l op) is.operand_is)
 
--- a new name stands at the position that it had behind the others
+-- a new name has the position behind the others
 position_with : (n : Name) (names : List Name) → position_of n (with_name names n) ≡ position_of n names
 position_with n names = go (is_among n names) refl
   where
@@ -56,7 +56,7 @@ position_with n names = go (is_among n names) refl
     go false e = last names e
 
 module _ (before : List Name) (outer : List Level) (level : Level) where
-  -- the variables once what stands before an operand is read
+  -- the variables once all that comes before an operand has been read
   abbrev names_before : List Name
   names_before = with_level (with_outer before outer) level
 

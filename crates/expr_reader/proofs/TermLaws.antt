@@ -42,6 +42,6 @@ last_is xs ys x y e = (firsts.0, sym (reverse-reverse xs) ∙ (ap reverse firsts
     firsts : (x ≡ y) × (reverse xs ≡ reverse ys)
     firsts = (cc turned, cc turned)
 
--- the innermost level stands last
+-- the innermost level is last
 pub reverse_cons : {X : Type 0} (x : X) (xs : List X) → reverse (x ∷ xs) ≡ reverse xs ++ x ∷ []
 reverse_cons x xs = reverse-append (x ∷ []) xs

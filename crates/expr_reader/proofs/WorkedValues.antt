@@ -1,6 +1,7 @@
 -- What was worked out by hand holds.
 use Rattle.std.specs.Prelude.{refl}
 use Rattle.expr_reader.specs.Worked.{Differences, AtomFaults, WorkedValues}
+use Rattle.expr_reader.specs.WorkedSigns.{NumbersAreTold, SignsAreTold}
 
 relations : Differences
 relations = record { at_least = refl; more_than = refl; at_most = refl; less_than = refl; equal = refl }
@@ -17,5 +18,24 @@ faults = record {
   on_the_left = refl;
 }
 
+numbers : NumbersAreTold
+numbers = record {
+  exponent = refl;
+  ninth = refl;
+  beyond = refl;
+  literal = refl;
+  greatest = refl;
+  too_great = refl;
+  behind_base = refl;
+  behind_exponent = refl;
+  digits = refl;
+  caret = refl;
+  caret_twice = refl;
+  caret_first = refl;
+}
+
+signs : SignsAreTold
+signs = record { plus = refl; minus = refl; times = refl; minus_first = refl }
+
 pub worked_values : WorkedValues
-worked_values = record { relations = relations; faults = faults }
+worked_values = record { relations = relations; faults = faults; numbers = numbers; signs = signs }

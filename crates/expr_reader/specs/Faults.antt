@@ -1,4 +1,4 @@
--- What stands in the way of expanding an expression or an atom, as plain data.
+-- The faults that prevent the expansion of an expression or an atom, as plain data.
 use Rattle.std.specs.Prelude.{Bool, true, false, not, List, Option, Some, None, if◌then◌else◌}
 use Rattle.model.specs.Programs.{Name}
 use Rattle.model.specs.Terms.{Term, Literal, Variable, Negation, Addition, Subtraction, Multiplication, Exponentiation}

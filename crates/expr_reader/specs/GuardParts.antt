@@ -1,4 +1,4 @@
--- What the code tests of a guard.
+-- The tests that the code makes on a guard.
 use Rattle.std.specs.Prelude.{◌≡◌, Bool, true, false, not, ◌&&◌, Option, Some, None}
 use Rattle.expr_text.specs.Pieces.{Sign, Piece, Word, Digits, Open, Close, Plus, Minus, Times, Caret, Related, Joining}
 use Rattle.expr_text.specs.Guards.{relation_of}
@@ -6,8 +6,8 @@ use Rattle.expr_text.specs.FrontNames.{truth_worded}
 use Rattle.expr_text.specs.TermFronts as terms
 use Rattle.expr_reader.specs.declared.piece.Piece as code
 use Rattle.expr_reader.specs.declared.piece.Sign as signs
-use Rattle.expr_reader.specs.declared.guard.GuardPlace.{GuardPlace}
-use Rattle.expr_reader.specs.declared.guard.GuardPlace.TheVariants.{AtomWanted, LeftSide, RightSide, AtomRead}
+use Rattle.expr_reader.specs.declared.guard.GuardState.{GuardState}
+use Rattle.expr_reader.specs.declared.guard.GuardState.TheVariants.{AtomWanted, LeftSide, RightSide, AtomRead}
 use Rattle.expr_reader.specs.declared.guard.GuardReader.{GuardReader}
 use Rattle.expr_reader.specs.declared.expression.Expression.{Expression}
 use Rattle.expr_reader.specs.Views.{front_of, sign_of, piece_of, term_in}
@@ -20,35 +20,35 @@ piece_in None = None
 piece_in (Some p) = Some (piece_of p)
 
 -- an atom is wanted
-abbrev pub is_wanting : GuardPlace → Bool
+abbrev pub is_wanting : GuardState → Bool
 is_wanting AtomWanted = true
 is_wanting LeftSide = false
 is_wanting RightSide = false
 is_wanting AtomRead = false
 
 -- some of a left side has been read
-abbrev pub is_left : GuardPlace → Bool
+abbrev pub is_left : GuardState → Bool
 is_left AtomWanted = false
 is_left LeftSide = true
 is_left RightSide = false
 is_left AtomRead = false
 
 -- the relation has been read
-abbrev pub is_right : GuardPlace → Bool
+abbrev pub is_right : GuardState → Bool
 is_right AtomWanted = false
 is_right LeftSide = false
 is_right RightSide = true
 is_right AtomRead = false
 
 -- an atom has been read
-abbrev pub is_read : GuardPlace → Bool
+abbrev pub is_read : GuardState → Bool
 is_read AtomWanted = false
 is_read LeftSide = false
 is_read RightSide = false
 is_read AtomRead = true
 
 -- the place once a piece of an expression is read
-abbrev pub begun_at : GuardPlace → GuardPlace
+abbrev pub begun_at : GuardState → GuardState
 begun_at AtomWanted = LeftSide
 begun_at LeftSide = LeftSide
 begun_at RightSide = RightSide
@@ -107,13 +107,13 @@ goes_on e (Some p) = terms.goes_on_from (front_of e).outer (front_of e).operand 
 
 -- the right side ends before the next piece
 abbrev pub ends_right : GuardReader → Option Piece → Bool
-ends_right r next = is_right r.place && can_end r.expression && not (goes_on r.expression next)
+ends_right r next = is_right r.state && can_end r.expression && not (goes_on r.expression next)
 
 -- the left side ends at a relation
 pub record IsRelated (old : GuardReader) (sign : Sign) (new : GuardReader) : Type 0 where
-  pub was_left : old.place ≡ LeftSide
+  pub was_left : old.state ≡ LeftSide
   pub ended : can_end old.expression ≡ true
-  pub place_is : new.place ≡ RightSide
+  pub state_is : new.state ≡ RightSide
   pub related_is : relating_in new.related
       ≡ Some (record { left = term_in old.expression; relation = relation_of sign })
   pub cleared : Clears old.expression new.expression
@@ -122,7 +122,7 @@ pub record IsRelated (old : GuardReader) (sign : Sign) (new : GuardReader) : Typ
 -- a relation is taken behind a left side that can end; elsewhere nothing changes
 pub record IsUnrelated (old new : GuardReader) : Type 0 where
   pub kept : new ≡ old
-  pub not_left : is_left old.place && can_end old.expression ≡ false
+  pub not_left : is_left old.state && can_end old.expression ≡ false
 
 abbrev pub Relates : GuardReader → Sign → Bool → GuardReader → Type 0
 Relates old sign true new = IsRelated old sign new

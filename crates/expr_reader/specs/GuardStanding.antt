@@ -1,4 +1,4 @@
--- What the code's part of a guard stands for: a written front, over the variables so far.
+-- Which written front the code's state within a guard represents, over the variables so far.
 use Rattle.std.specs.Prelude.{◌≡◌, ◌<◌, Bool, true, false, List, [], ◌∷◌, ◌++◌, map, Option, Some, None}
 use Rattle.poly_terms.specs.Views.{term_of}
 use Rattle.poly_terms.specs.Faults.{Fault}
@@ -17,7 +17,7 @@ use Rattle.expr_text.specs.GuardFronts.{Conjoined, NoAtoms, JointAfter, GuardFro
 use Rattle.expr_text.specs.GuardFronts.{joined, finish, step}
 use Rattle.expr_text.specs.FrontNames.{with_conjoined, operates, token_count}
 use Rattle.expr_text.specs.TermFronts.{limited}
-use Rattle.expr_reader.specs.declared.guard.GuardPlace.TheVariants as places
+use Rattle.expr_reader.specs.declared.guard.GuardState.TheVariants as places
 use Rattle.expr_reader.specs.declared.guard.Related.{Related}
 use Rattle.expr_reader.specs.declared.guard.GuardReader.{GuardReader}
 use Rattle.expr_reader.specs.Faults.{ends_before, atom_fault}
@@ -62,7 +62,7 @@ is_operating (Some p) = operates p
 pub record IsWanting (before : List Name) (g : GuardFront) (names : List Name) (r : GuardReader) : Type 0 where
   pub conjoined : Conjoined
   pub front_is : g ≡ LeftSide conjoined beginning
-  pub place_is : r.place ≡ places.AtomWanted
+  pub state_is : r.state ≡ places.AtomWanted
   pub names_are : names ≡ with_conjoined before conjoined
   pub atoms_are : atoms_in r ≡ atoms_before names conjoined
   pub expression : IsFresh r.expression
@@ -75,7 +75,7 @@ pub record IsInLeft (next : Option Piece) (before : List Name) (g : GuardFront) 
   pub read : Front
   pub front_is : g ≡ LeftSide conjoined read
   pub begun : 0 < token_count read
-  pub place_is : r.place ≡ places.LeftSide
+  pub state_is : r.state ≡ places.LeftSide
   pub atoms_are : atoms_in r ≡ atoms_before names conjoined
   pub expression : Stands (with_conjoined before conjoined) read names r.expression
   pub follows : is_operating next ≡ false → truth_of read ≡ None
@@ -87,7 +87,7 @@ pub record IsInRight (before : List Name) (g : GuardFront) (names : List Name) (
   pub sign : Sign
   pub read : Front
   pub front_is : g ≡ RightSide conjoined left sign read
-  pub place_is : r.place ≡ places.RightSide
+  pub state_is : r.state ≡ places.RightSide
   pub atoms_are : atoms_in r ≡ atoms_before names conjoined
   pub related_is : relating_in r.related
       ≡ Some (record { left = limited (sum_term names left); relation = guards.relation_of sign })
@@ -101,7 +101,7 @@ pub record IsAtTruth (next : Option Piece) (before : List Name) (g : GuardFront)
   pub atom : guards.Atom
   pub front_is : g ≡ LeftSide conjoined read
   pub truth_is : truth_of read ≡ Some atom
-  pub place_is : r.place ≡ places.AtomRead
+  pub state_is : r.state ≡ places.AtomRead
   pub names_are : names ≡ with_conjoined before conjoined
   pub atoms_are : atoms_in r ≡ atoms_before names conjoined ++ plain.Always ∷ []
   pub expression : IsFresh r.expression
@@ -125,7 +125,7 @@ pub record IsEnded (next : Option Piece) (before : List Name) (g : GuardFront) (
     (r : GuardReader) : Type 0 where
   pub atoms : Atoms
   pub finish_is : finish g ≡ Some atoms
-  pub place_is : r.place ≡ places.AtomRead
+  pub state_is : r.state ≡ places.AtomRead
   pub names_are : names ≡ with_atoms before atoms
   pub atoms_are : atoms_in r ≡ atoms_of names atoms
   pub expression : IsFresh r.expression
@@ -138,17 +138,17 @@ pub record IsOpen (next : Option Piece) (before : List Name) (g : GuardFront) (n
   pub goes_on : ends_before right.read next ≡ true → inner.finish right.read ≡ None
 
 -- the same once an atom that ends before the next piece has ended
-pub data IsSettled (next : Option Piece) (before : List Name) (g : GuardFront) (names : List Name)
+pub data IsPartEnded (next : Option Piece) (before : List Name) (g : GuardFront) (names : List Name)
     (r : GuardReader) : Type 0 where
-  settled_none : IsWanting before g names r → IsSettled next before g names r
-  settled_left : IsInLeft next before g names r → IsSettled next before g names r
-  settled_right : IsOpen next before g names r → IsSettled next before g names r
-  settled_end : IsEnded next before g names r → IsSettled next before g names r
+  part_ended_none : IsWanting before g names r → IsPartEnded next before g names r
+  part_ended_left : IsInLeft next before g names r → IsPartEnded next before g names r
+  part_ended_right : IsOpen next before g names r → IsPartEnded next before g names r
+  part_ended_end : IsEnded next before g names r → IsPartEnded next before g names r
 
 -- an atom ends where it ends in the written front, and the fault is that of the atom
-pub record Settles (next : Option Piece) (old : GuardReader) (fault : Option Fault) (new : GuardReader) : Type 0 where
-  pub settled : (before : List Name) (g : GuardFront) (names : List Name) → Reads next before g names old
-      → IsSettled next before g names new
+pub record EndsPart (next : Option Piece) (old : GuardReader) (fault : Option Fault) (new : GuardReader) : Type 0 where
+  pub part_ended : (before : List Name) (g : GuardFront) (names : List Name) → Reads next before g names old
+      → IsPartEnded next before g names new
   pub fault_is : (before : List Name) (g : GuardFront) (names : List Name) → Reads next before g names old
       → fault ≡ atom_fault names g next
 
@@ -162,5 +162,5 @@ LeadsTo false behind before (Some g) old r new q = ⊥
 
 pub record Takes (old : List Name) (r : GuardReader) (p : Piece) (behind : Option Piece) (taken : Bool)
     (new : List Name) (q : GuardReader) : Type 0 where
-  pub each : (before : List Name) (g : GuardFront) → IsSettled (Some p) before g old r → IsModest p
+  pub each : (before : List Name) (g : GuardFront) → IsPartEnded (Some p) before g old r → IsModest p
       → LeadsTo taken behind before (step g p) old r new q

@@ -2,11 +2,11 @@
 pub mod Views
 pub mod Variables
 pub mod Operators
+pub mod FrontSteps
 pub mod Faults
 pub mod Standing
 pub mod GuardStanding
 pub mod GuardParts
 -- laws, and values that were worked out by hand
+pub mod WorkedSigns
 pub mod Worked
--- the machinery of the functions inside and of the proofs
-pub mod FrontSteps

@@ -1,4 +1,4 @@
--- What the code's part of an expression stands for: a written front, over the variables so far.
+-- Which written front the code's state within an expression represents, over the variables so far.
 use Rattle.std.specs.Prelude.{◌≡◌, ◌-◌, ◌<◌, ◌≤◌, ◌^◌, List, [], length, Some, IsTrue, ⊤}
 use Rattle.std.specs.List.{list_all}
 use Rattle.std.specs.Char.{is_ascii_digit}

@@ -1,4 +1,4 @@
--- What the code's part of an expression is as plain data.
+-- The code's state within an expression as plain data.
 use Rattle.std.specs.Prelude.{map}
 use Rattle.model.specs.Terms.{Term}
 use Rattle.poly_terms.specs.Views.{term_of}
@@ -19,7 +19,7 @@ use Rattle.expr_reader.specs.declared.expression.Operand.{Operand}
 use Rattle.expr_reader.specs.declared.expression.Operand.TheVariants.{Wanted, BaseRead, CaretRead, ExponentRead}
 use Rattle.expr_reader.specs.declared.expression.Expression.{Expression}
 
--- what stands before a product, and before a factor
+-- what comes before a product, and before a factor
 abbrev pub summed_of : Summed → terms.Summed
 summed_of NoSum = terms.NoSum
 summed_of (PlusAfter e) = terms.PlusAfter (term_of e)
@@ -29,7 +29,7 @@ abbrev pub factored_of : Factored → terms.Factored
 factored_of NoProduct = terms.NoProduct
 factored_of (TimesAfter e) = terms.TimesAfter (term_of e)
 
--- what stands before an operand
+-- what comes before an operand
 abbrev pub level_of : Level → terms.Level
 level_of l = record { sum = summed_of l.sum; product = factored_of l.product; minuses = l.minuses }
 

@@ -1,4 +1,4 @@
--- What was worked out by hand of the faults of atoms.
+-- What was worked out by hand: differences of relations, faults of atoms, and what single signs do.
 use Rattle.std.specs.Prelude.{◌≡◌, List, [], ◌∷◌, pos, Some, None}
 use Rattle.model.specs.Programs.{Name, AtLeast, MoreThan, AtMost, LessThan, EqualTo}
 use Rattle.model.specs.Terms.{Literal, Variable, Subtraction}
@@ -9,6 +9,7 @@ use Rattle.expr_text.specs.Fronts.{Operand, BaseRead, CaretRead, ExponentRead, e
 use Rattle.expr_text.specs.GuardFronts.{GuardFront, LeftSide, RightSide, NoAtoms}
 use Rattle.expr_text.specs.Differences.{differences}
 use Rattle.expr_reader.specs.Faults.{atom_fault}
+use Rattle.expr_reader.specs.WorkedSigns.{NumbersAreTold, SignsAreTold}
 
 -- the variable A, the number 1, and the left side 1
 abbrev pub a : Base
@@ -54,3 +55,5 @@ pub record AtomFaults : Type 0 where
 pub record WorkedValues : Type 0 where
   pub relations : Differences
   pub faults : AtomFaults
+  pub numbers : NumbersAreTold
+  pub signs : SignsAreTold

@@ -1,4 +1,4 @@
-//! What stands in the way of expanding an expression, or the difference of an atom.
+//! The fault that prevents the expansion of an expression, or of the difference of an atom.
 
 ghost use Rattle.std.specs.Prelude.{◌≡◌, IfOk, IsTrue, pos};
 ghost use Rattle.model.specs.Terms.{Literal, Subtraction};
@@ -21,7 +21,7 @@ pub enum Unexpanded {
     DegreeTooHigh,
 }
 
-/// The fault that stands in the way of expanding an expression.
+/// The fault that prevents the expansion of an expression, if there is one.
 ///
 /// # Errors
 ///
@@ -38,7 +38,7 @@ pub fn expansion_fault(alloc: Global, e: &Expr) -> Result<Option<Unexpanded>, Me
     }
 }
 
-/// Two expressions, and the fault that stands in the way of expanding a difference of them.
+/// Two expressions, and the fault that prevents the expansion of a difference of them.
 #[derive(Drop)]
 pub struct Subtracted {
     pub minuend: Expr,
@@ -122,7 +122,7 @@ fn both(alloc: Global, left: Expr, right: Expr) -> Result<Subtracted, Memory>
     Ok(turned(again))
 }
 
-/// The sides of an atom, and the fault that stands in the way of expanding its differences.
+/// The sides of an atom, and the fault that prevents the expansion of its differences.
 ///
 /// # Errors
 ///

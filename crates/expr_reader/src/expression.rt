@@ -1,7 +1,6 @@
-//! An expression while it is read: a stack of what stands before each open bracket.
+//! The state of parsing an expression: a stack with what comes before each open bracket.
 
-ghost use Rattle.std.specs.Prelude.{◌≡◌, ◌-◌, ◌^◌, ◌<◌, ◌∷◌, ◌++◌, [], map, IfOk, OnOk, IsTrue, IsFalse};
-ghost use Rattle.std.specs.Prelude.{◌&&◌, length};
+ghost use Rattle.std.specs.Prelude.{◌≡◌, ◌-◌, ◌^◌, ◌<◌, ◌&&◌, IfOk, OnOk, IsTrue, length};
 ghost use Rattle.std.specs.List.{list_all};
 ghost use Rattle.std.specs.Char.{is_ascii_digit};
 ghost use Rattle.model.specs.Terms.{Variable};
@@ -10,21 +9,20 @@ ghost use Rattle.poly_terms.specs.Views.{term_of};
 ghost use Rattle.expr_text.specs.TermFronts as terms;
 ghost use Rattle.expr_text.specs.Terms.{with_name};
 ghost use Rattle.expr_reader.specs.Variables.{names_in};
-ghost use Rattle.expr_reader.specs.FrontSteps.{StepsTo, Closes, with_piece, behind_plus, behind_minus, behind_times};
+ghost use Rattle.expr_reader.specs.FrontSteps.{StepsTo, with_piece};
 ghost use Rattle.expr_reader.specs.Standing.{Leads, Ends, Clears, IsFresh, HasRoom};
-ghost use Rattle.expr_reader.specs.Views.{summed_of, factored_of, level_of, operand_of, front_of, piece_of, term_in};
+ghost use Rattle.expr_reader.specs.Views.{operand_of, front_of, piece_of, term_in};
 
 use crate::Memory;
-use crate::making::{empty_level, factor_of, negated, product_with, sum_with};
+use crate::making::empty_level;
 use crate::piece::Piece;
 use crate::variables::Variables;
-use model::{COEFFICIENT_LIMIT, DEGREE_LIMIT};
+use model::COEFFICIENT_LIMIT;
 use poly_terms::Expr;
 use std::alloc::Global;
-use std::mem;
 use text_core::value_up_to;
 
-/// What stands before a product in its brackets.
+/// What comes before a product inside its brackets.
 #[derive(Drop)]
 pub enum Summed {
     NoSum,
@@ -32,14 +30,14 @@ pub enum Summed {
     MinusAfter(Expr),
 }
 
-/// What stands before a factor in its product.
+/// What comes before a factor in its product.
 #[derive(Drop)]
 pub enum Factored {
     NoProduct,
     TimesAfter(Expr),
 }
 
-/// What stands before an operand in its brackets: a sum, a product, and so many `-`.
+/// What comes before an operand inside its brackets: a sum, a product, and a number of `-`.
 #[derive(Drop)]
 pub struct Level {
     pub sum: Summed,
@@ -59,7 +57,7 @@ pub enum Operand {
 /// The part of an expression that has been read.
 #[derive(Drop)]
 pub struct Expression {
-    /// What stands before each open bracket, the innermost last.
+    /// What comes before each open bracket, the innermost last.
     pub outer: Vec<Level>,
     pub level: Level,
     pub operand: Operand,
@@ -180,7 +178,7 @@ impl Expression {
                 self.take_number(digits);
                 Ok(())
             }
-            Piece::Open => self.open(),
+            Piece::Open => self.open_bracket(),
             Piece::Minus => self.take_minus(alloc),
             Piece::Plus => self.take_plus(alloc),
             Piece::Times => self.take_times(alloc),
@@ -204,69 +202,7 @@ impl Expression {
         ensures outer { self.new.outer ≡ self.old.outer }
     {
         let number = variables.number(name)?;
-        self.operand = Operand::BaseRead(Expr::Var(number as u32));
-        Ok(())
-    }
-
-    fn take_minus(&mut self, alloc: Global) -> Result<(), Memory>
-        requires { self.old.level.minuses < 2 ^ 32 - 1 }
-        ensures level { OnOk result (level_of self.new.level
-            ≡ behind_minus (level_of self.old.level) (operand_of self.old.operand)) }
-        ensures operand { OnOk result (operand_of self.new.operand ≡ terms.Wanted) }
-        ensures outer { self.new.outer ≡ self.old.outer }
-    {
-        match &self.operand {
-            Operand::Wanted => {
-                self.negate();
-                Ok(())
-            }
-            Operand::BaseRead(_) => self.subtract(alloc),
-            Operand::CaretRead(_) => self.subtract(alloc),
-            Operand::ExponentRead(_, _) => self.subtract(alloc),
-        }
-    }
-
-    // One `-` more before the operand.
-    fn negate(&mut self)
-        requires { self.old.level.minuses < 2 ^ 32 - 1 }
-        ensures level { level_of self.new.level ≡ behind_minus (level_of self.old.level) terms.Wanted }
-        ensures outer { self.new.outer ≡ self.old.outer }
-        ensures operand { self.new.operand ≡ self.old.operand }
-    {
-        self.level.minuses += 1;
-    }
-
-    // A `-` behind a sum.
-    fn subtract(&mut self, alloc: Global) -> Result<(), Memory>
-        ensures level { OnOk result (level_of self.new.level
-            ≡ record { sum = terms.MinusAfter (term_in self.old); product = terms.NoProduct; minuses = 0 }) }
-        ensures operand { OnOk result (operand_of self.new.operand ≡ terms.Wanted) }
-        ensures outer { self.new.outer ≡ self.old.outer }
-    {
-        let sum = self.sum_made(alloc)?;
-        self.level.sum = Summed::MinusAfter(sum);
-        Ok(())
-    }
-
-    fn take_plus(&mut self, alloc: Global) -> Result<(), Memory>
-        ensures level { OnOk result (level_of self.new.level
-            ≡ behind_plus (level_of self.old.level) (operand_of self.old.operand)) }
-        ensures operand { OnOk result (operand_of self.new.operand ≡ terms.Wanted) }
-        ensures outer { self.new.outer ≡ self.old.outer }
-    {
-        let sum = self.sum_made(alloc)?;
-        self.level.sum = Summed::PlusAfter(sum);
-        Ok(())
-    }
-
-    fn take_times(&mut self, alloc: Global) -> Result<(), Memory>
-        ensures level { OnOk result (level_of self.new.level
-            ≡ behind_times (level_of self.old.level) (operand_of self.old.operand)) }
-        ensures operand { OnOk result (operand_of self.new.operand ≡ terms.Wanted) }
-        ensures outer { self.new.outer ≡ self.old.outer }
-    {
-        let product = self.product_made(alloc)?;
-        self.level.product = Factored::TimesAfter(product);
+        self.take_variable(number as u32);
         Ok(())
     }
 
@@ -289,92 +225,7 @@ impl Expression {
         ensures level { self.new.level ≡ self.old.level }
         ensures outer { self.new.outer ≡ self.old.outer }
     {
-        self.operand = match mem::replace(&mut self.operand, Operand::Wanted) {
-            Operand::CaretRead(base) => Operand::ExponentRead(
-                base,
-                value_up_to(u128::from(DEGREE_LIMIT) + 1, digits) as u32,
-            ),
-            _ => Operand::BaseRead(Expr::Num(
-                value_up_to(u128::from(COEFFICIENT_LIMIT) + 1, digits) as i128,
-            )),
-        };
-    }
-
-    fn take_caret(&mut self)
-        ensures operand { operand_of self.new.operand ≡ terms.with_caret (operand_of self.old.operand) }
-        ensures level { self.new.level ≡ self.old.level }
-        ensures outer { self.new.outer ≡ self.old.outer }
-    {
-        self.operand = match mem::replace(&mut self.operand, Operand::Wanted) {
-            Operand::BaseRead(base) => Operand::CaretRead(base),
-            other => other,
-        };
-    }
-
-    fn open(&mut self) -> Result<(), Memory>
-        ensures outer { OnOk result (map level_of self.new.outer.items
-            ≡ map level_of self.old.outer.items ++ level_of self.old.level ∷ []) }
-        ensures level { OnOk result (level_of self.new.level ≡ terms.empty_level) }
-        ensures operand { self.new.operand ≡ self.old.operand }
-    {
-        let level = mem::replace(&mut self.level, empty_level());
-        self.outer.push(level)?;
-        Ok(())
-    }
-
-    // The innermost bracket closes, where one is open.
-    fn close_bracket(&mut self, alloc: Global) -> Result<(), Memory>
-        ensures { IsFalse (terms.is_empty (front_of self.old).outer)
-            → OnOk result (Closes (front_of self.old) (front_of self.new)) }
-    {
-        if self.outer.is_empty() {
-            Ok(())
-        } else {
-            self.close(alloc)
-        }
-    }
-
-    fn close(&mut self, alloc: Global) -> Result<(), Memory>
-        requires { 0 < length self.old.outer.items }
-        ensures outer { OnOk result (map level_of self.old.outer.items
-            ≡ map level_of self.new.outer.items ++ level_of self.new.level ∷ []) }
-        ensures operand { OnOk result (operand_of self.new.operand ≡ terms.BaseRead (term_in self.old)) }
-    {
-        let sum = self.sum_made(alloc)?;
-        if let Some(level) = self.outer.pop() {
-            self.level = level;
-        }
-        self.operand = Operand::BaseRead(sum);
-        Ok(())
-    }
-
-    // The product that the factor ends; an operand is wanted behind it.
-    fn product_made(&mut self, alloc: Global) -> Result<Expr, Memory>
-        ensures made { IfOk result (λ made.
-            term_of made ≡ terms.product_made (level_of self.old.level) (operand_of self.old.operand)) }
-        ensures level { OnOk result (level_of self.new.level
-            ≡ record { sum = summed_of self.old.level.sum; product = terms.NoProduct; minuses = 0 }) }
-        ensures sum { OnOk result (self.new.level.sum ≡ self.old.level.sum) }
-        ensures operand { OnOk result (operand_of self.new.operand ≡ terms.Wanted) }
-        ensures outer { self.new.outer ≡ self.old.outer }
-    {
-        let factor = factor_of(alloc, mem::replace(&mut self.operand, Operand::Wanted))?;
-        let factor = negated(alloc, self.level.minuses, factor)?;
-        self.level.minuses = 0;
-        let product = mem::replace(&mut self.level.product, Factored::NoProduct);
-        product_with(alloc, product, factor)
-    }
-
-    // The sum that the factor ends; nothing stands before the operand that is wanted behind it.
-    fn sum_made(&mut self, alloc: Global) -> Result<Expr, Memory>
-        ensures made { IfOk result (λ made. term_of made ≡ term_in self.old) }
-        ensures level { OnOk result (level_of self.new.level ≡ terms.empty_level) }
-        ensures operand { OnOk result (operand_of self.new.operand ≡ terms.Wanted) }
-        ensures outer { self.new.outer ≡ self.old.outer }
-    {
-        let product = self.product_made(alloc)?;
-        let sum = mem::replace(&mut self.level.sum, Summed::NoSum);
-        sum_with(alloc, sum, product)
+        self.take_value(value_up_to(u128::from(COEFFICIENT_LIMIT) + 1, digits));
     }
 
     /// The expression that ends here. Nothing has been read then.

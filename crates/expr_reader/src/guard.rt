@@ -1,4 +1,4 @@
-//! A guard while it is read.
+//! The state of parsing a guard.
 
 ghost use Rattle.std.specs.Prelude.{◌≡◌, ◌++◌, ◌∷◌, [], not, ◌&&◌, List, IfOk, OnOk, IsTrue, IsFalse, Some};
 ghost use Rattle.poly_terms.specs.Views.{term_of};
@@ -13,7 +13,7 @@ ghost use Rattle.expr_reader.specs.Faults.{fault_of};
 ghost use Rattle.expr_reader.specs.Variables.{names_in};
 ghost use Rattle.expr_reader.specs.Views.{piece_of, sign_of, term_in};
 ghost use Rattle.expr_reader.specs.Standing.{Leads, Clears, IsFresh, HasRoom};
-ghost use Rattle.expr_reader.specs.GuardStanding.{atoms_in, relating_in, is_operating, IsWanting, Settles, Takes};
+ghost use Rattle.expr_reader.specs.GuardStanding.{atoms_in, relating_in, is_operating, IsWanting, EndsPart, Takes};
 ghost use Rattle.expr_reader.specs.GuardParts.{is_wanting, is_read, begun_at, sign_read, sign_in as sign_view};
 ghost use Rattle.expr_reader.specs.GuardParts.{piece_in, is_joining, names_truth, ends_right, Relates};
 
@@ -29,7 +29,7 @@ use std::mem;
 
 /// What was read last.
 #[derive(Clone, Copy, Debug, PartialEq, Eq)]
-pub enum GuardPlace {
+pub enum GuardState {
     /// Nothing, or what joins; an atom is wanted.
     AtomWanted,
     /// Some of an atom's left side.
@@ -50,7 +50,7 @@ pub struct Related {
 /// The part of a guard that has been read.
 #[derive(Drop)]
 pub struct GuardReader {
-    pub place: GuardPlace,
+    pub state: GuardState,
     pub atoms: Vec<Atom>,
     pub related: Option<Related>,
     pub expression: Expression,
@@ -87,14 +87,14 @@ fn sign_in(piece: Piece<'_>) -> Option<Sign>
 }
 
 // The place once a piece of an expression is read.
-fn begun(place: GuardPlace) -> GuardPlace
-    ensures { result ≡ begun_at place }
+fn begun(state: GuardState) -> GuardState
+    ensures { result ≡ begun_at state }
 {
-    match place {
-        GuardPlace::AtomWanted => GuardPlace::LeftSide,
-        GuardPlace::LeftSide => GuardPlace::LeftSide,
-        GuardPlace::RightSide => GuardPlace::RightSide,
-        GuardPlace::AtomRead => GuardPlace::AtomRead,
+    match state {
+        GuardState::AtomWanted => GuardState::LeftSide,
+        GuardState::LeftSide => GuardState::LeftSide,
+        GuardState::RightSide => GuardState::RightSide,
+        GuardState::AtomRead => GuardState::AtomRead,
     }
 }
 
@@ -124,7 +124,7 @@ impl GuardReader {
         ensures { (before : List Name) → IsWanting before no_atoms before result }
     {
         GuardReader {
-            place: GuardPlace::AtomWanted,
+            state: GuardState::AtomWanted,
             atoms: Vec::new(alloc),
             related: None,
             expression: Expression::new(alloc),
@@ -136,22 +136,22 @@ impl GuardReader {
         ensures atoms { result.items ≡ self.old.atoms.items }
         ensures fresh { IsFresh self.old.expression → (before : List Name) → IsWanting before no_atoms before self.new }
     {
-        self.place = GuardPlace::AtomWanted;
+        self.state = GuardState::AtomWanted;
         mem::replace(&mut self.atoms, Vec::new(alloc))
     }
 
-    /// An atom ends where its right side can end and the next piece doesn't go on with it. The answer is the fault that
-    /// stands in the way of expanding its differences.
+    /// Ends the atom that is being read, if its right side can end here and the next piece doesn't continue it. Returns
+    /// the fault that prevents the expansion of its differences, if there is one.
     ///
     /// # Errors
     ///
     /// `Memory` where an allocation fails.
-    pub fn settle(
+    pub fn end_part(
         &mut self,
         alloc: Global,
         next: Option<Piece<'_>>,
     ) -> Result<Option<Unexpanded>, Memory>
-        ensures { IfOk result (λ fault. Settles (piece_in next.entry) self.old (fault_of fault) self.new) }
+        ensures { IfOk result (λ fault. EndsPart (piece_in next.entry) self.old (fault_of fault) self.new) }
     {
         if !self.ends_before(next) {
             return Ok(None);
@@ -169,7 +169,7 @@ impl GuardReader {
     fn ends_before(&self, next: Option<Piece<'_>>) -> bool
         ensures { result ≡ ends_right self.now (piece_in next.entry) }
     {
-        if self.place != GuardPlace::RightSide || !self.expression.can_end() {
+        if self.state != GuardState::RightSide || !self.expression.can_end() {
             return false;
         }
         match next {
@@ -180,7 +180,7 @@ impl GuardReader {
 
     // The atom whose right side ends.
     fn end_atom(&mut self, alloc: Global, related: Related) -> Result<Option<Unexpanded>, Memory>
-        ensures place { OnOk result (self.new.place ≡ GuardPlace.AtomRead) }
+        ensures state { OnOk result (self.new.state ≡ GuardState.AtomRead) }
         ensures atoms { OnOk result (atoms_in self.new ≡ atoms_in self.old
             ++ plain.Compare (term_of related.left) (relation_view related.rel) (term_in self.old.expression) ∷ []) }
         ensures clears { OnOk result (Clears self.old.expression self.new.expression) }
@@ -195,16 +195,16 @@ impl GuardReader {
             rel,
             right: found.subtrahend,
         })?;
-        self.place = GuardPlace::AtomRead;
+        self.state = GuardState::AtomRead;
         Ok(found.fault)
     }
 
     /// Whether a word is the atom that always holds, before a piece that is no operator and no relation.
     pub fn reads_truth(&self, piece: Piece<'_>, behind: Option<Piece<'_>>) -> bool
-        ensures { result ≡ (is_wanting self.now.place && names_truth (piece_of piece.entry)
+        ensures { result ≡ (is_wanting self.now.state && names_truth (piece_of piece.entry)
             && not (is_operating (piece_in behind.entry))) }
     {
-        self.place == GuardPlace::AtomWanted && is_truth_word(piece) && !operates(behind)
+        self.state == GuardState::AtomWanted && is_truth_word(piece) && !operates(behind)
     }
 
     /// One piece more, with the one behind it. False where it can't follow.
@@ -245,19 +245,19 @@ impl GuardReader {
 
     // Whether an atom has been read.
     fn has_read(&self) -> bool
-        ensures { result ≡ is_read self.now.place }
+        ensures { result ≡ is_read self.now.state }
     {
-        self.place == GuardPlace::AtomRead
+        self.state == GuardState::AtomRead
     }
 
     // The atom that always holds.
     fn take_truth(&mut self) -> Result<(), Memory>
-        ensures place { OnOk result (self.new.place ≡ GuardPlace.AtomRead) }
+        ensures state { OnOk result (self.new.state ≡ GuardState.AtomRead) }
         ensures atoms { OnOk result (atoms_in self.new ≡ atoms_in self.old ++ plain.Always ∷ []) }
         ensures expression { self.new.expression ≡ self.old.expression }
     {
         self.atoms.push(Atom::Always)?;
-        self.place = GuardPlace::AtomRead;
+        self.state = GuardState::AtomRead;
         Ok(())
     }
 
@@ -265,7 +265,7 @@ impl GuardReader {
     fn take_joint(&mut self, piece: Piece<'_>) -> bool
         ensures joins { result ≡ is_joining (piece_of piece.entry) }
         ensures taken { IsTrue result → self.new ≡ record {
-          place = GuardPlace.AtomWanted;
+          state = GuardState.AtomWanted;
           atoms = self.old.atoms;
           related = self.old.related;
           expression = self.old.expression;
@@ -274,7 +274,7 @@ impl GuardReader {
     {
         match piece {
             Piece::Joining(_) => {
-                self.place = GuardPlace::AtomWanted;
+                self.state = GuardState::AtomWanted;
                 true
             }
             _ => false,
@@ -291,12 +291,12 @@ impl GuardReader {
         requires { HasRoom (names_in variables.old) self.old.expression }
         ensures leads { OnOk result (Leads (names_in variables.old) self.old.expression (piece_of piece.entry)
             (names_in variables.new) self.new.expression) }
-        ensures place { OnOk result (self.new.place ≡ begun_at self.old.place) }
+        ensures state { OnOk result (self.new.state ≡ begun_at self.old.state) }
         ensures atoms { self.new.atoms ≡ self.old.atoms }
         ensures related { self.new.related ≡ self.old.related }
     {
         self.expression.take(alloc, variables, piece)?;
-        self.place = begun(self.place);
+        self.state = begun(self.state);
         Ok(())
     }
 
@@ -304,7 +304,7 @@ impl GuardReader {
     fn take_relation(&mut self, alloc: Global, sign: Sign) -> Result<bool, Memory>
         ensures { IfOk result (λ taken. Relates self.old (sign_of sign) taken self.new) }
     {
-        if self.place != GuardPlace::LeftSide || !self.expression.can_end() {
+        if self.state != GuardState::LeftSide || !self.expression.can_end() {
             return Ok(false);
         }
         self.relate(alloc, sign)?;
@@ -313,7 +313,7 @@ impl GuardReader {
 
     // The left side and its relation.
     fn relate(&mut self, alloc: Global, sign: Sign) -> Result<(), Memory>
-        ensures place { OnOk result (self.new.place ≡ GuardPlace.RightSide) }
+        ensures state { OnOk result (self.new.state ≡ GuardState.RightSide) }
         ensures related { OnOk result (relating_in self.new.related
             ≡ Some (record { left = term_in self.old.expression; relation = relation_signed (sign_of sign) })) }
         ensures clears { OnOk result (Clears self.old.expression self.new.expression) }
@@ -324,7 +324,7 @@ impl GuardReader {
             left,
             rel: relation_of(sign),
         });
-        self.place = GuardPlace::RightSide;
+        self.state = GuardState::RightSide;
         Ok(())
     }
 }

@@ -1,4 +1,9 @@
-//! Expressions and guards while they are read.
+//! Parses expressions and guards piece by piece, without recursion, while a reader of a larger text goes through its
+//! tokens.
+//!
+//! Builds on `expr_text`, which says what is written, and on `poly_terms` and `its_model`, whose expressions and atoms
+//! are made. Main guarantee: the state of parsing always represents the written front of `expr_text`, so what is made
+//! is the term of the pieces that were read.
 #![tactic(auto)]
 
 mod expansion;
@@ -7,11 +12,12 @@ mod guard;
 mod law;
 mod making;
 mod piece;
+mod signs;
 mod variables;
 
 pub use expansion::{Unexpanded, expansion_fault};
 pub use expression::Expression;
-pub use guard::{GuardPlace, GuardReader};
+pub use guard::{GuardReader, GuardState};
 pub use law::worked_values_hold;
 pub use model::Memory;
 pub use piece::{Joint, Piece, Sign};

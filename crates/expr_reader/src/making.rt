@@ -1,4 +1,4 @@
-//! The factor, the product and the sum that a level makes where an operand ends.
+//! Builds the factor, the product and the sum of a level where an operand ends.
 
 ghost use Rattle.std.specs.Prelude.{◌≡◌, IfOk};
 ghost use Rattle.poly_terms.specs.Views.{term_of};

@@ -76,7 +76,7 @@ begins_from (Joining joint) f same = cc
 pub first_begins : (e f : Front) (p : Piece) → token_count e ≡ 0 → step e p ≡ Some f → begins_expression p ≡ true
 first_begins e f p h same = begins_from p f (subst (λ g. step g p ≡ Some f) (nothing_read e h) same)
 
--- the variables once a factor is read behind so many `-`, in its product, and in its sum
+-- the variables once a factor is read behind this many `-`, in its product, and in its sum
 negated_names : (names : List Name) (n : ℕ) (f : Factor) → with_factor names (negated n f) ≡ with_factor names f
 negated_names names zero f = refl
 negated_names names (suc n) f = negated_names names n (Negated f)

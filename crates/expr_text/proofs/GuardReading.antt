@@ -31,7 +31,7 @@ pub atoms_finish : (atoms : Atoms) → finish (behind_atoms atoms) ≡ Some atom
 atoms_finish (First a) = atom_finish NoAtoms a
 atoms_finish (Joined atoms joint a) = atom_finish (JointAfter atoms joint) a
 
--- a text stands at a guard's front behind some pieces, and each piece that goes on with the guard goes on there
+-- a text is at a guard's front behind some pieces, and each piece that continues the guard leads to such a front
 module _ {P : Type 0} (into : Piece → P) (At : List P → GuardFront → Type 0)
     (steps : (done : List P) (g h : GuardFront) (p : Piece) → At done g → step g p ≡ Some h → At (into p ∷ done) h) where
   atom_from : (c : Conjoined) (a : Atom) (done : List P) → At done (LeftSide c beginning) → At (atom_behind into a done) (behind_atom c a)

@@ -1,3 +1,4 @@
+-- laws of the parser of expressions and guards: its steps, its ends, completions and limits
 pub mod StepLaws
 pub mod GuardLaws
 pub mod Ending

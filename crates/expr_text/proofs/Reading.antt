@@ -8,11 +8,11 @@ use Rattle.expr_text.specs.Fronts.{Summed, NoSum, PlusAfter, MinusAfter, Factore
 use Rattle.expr_text.specs.Fronts.{BaseRead, CaretRead, ExponentRead, Front, beginning, negated, product_with, sum_with}
 use Rattle.expr_text.specs.Steps.{wanted, read, step_behind, step, finish}
 
--- a level with so many `-`
+-- a level with this many `-`
 abbrev pub at_level : Summed → Factored → ℕ → Level
 at_level sum product n = record { sum = sum; product = product; minuses = n }
 
--- the front behind a factor, with so many `-` before it
+-- the front behind a factor, with this many `-` before it
 abbrev pub behind_factor : List Level → Summed → Factored → ℕ → Factor → Front
 behind_factor outer sum product n (Plain b) = record { outer = outer; level = at_level sum product n; operand = BaseRead b }
 behind_factor outer sum product n (Raised b digits) = record { outer = outer; level = at_level sum product n; operand = ExponentRead b digits }
@@ -104,7 +104,8 @@ sum_finish (Alone p) = product_finish NoSum p
 sum_finish (Added s p) = product_finish (PlusAfter s) p
 sum_finish (Subtracted s p) = product_finish (MinusAfter s) p
 
--- a text stands at an expression's front behind some pieces, and each piece that goes on with the expression goes on there
+-- a text is at an expression's front behind some pieces, and each piece that continues the expression leads to such a
+-- front
 module _ {P : Type 0} (into : Piece → P) (At : List P → Front → Type 0)
     (steps : (done : List P) (e g : Front) (p : Piece) → At done e → step e p ≡ Some g → At (into p ∷ done) g) where
   mutual

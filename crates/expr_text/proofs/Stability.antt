@@ -19,7 +19,7 @@ among_more n (m ∷ names) more h = go (is_same n m) h (λ e. among_more n names
     go true e others = refl
     go false e others = others e
 
--- and stands at the same position
+-- and it is at the same position
 pub position_stays : (n : Name) (names more : List Name) → is_among n names ≡ true → position_of n (names ++ more) ≡ position_of n names
 position_stays n [] more h = cc
 position_stays n (m ∷ names) more h = go (is_same n m) refl h (λ e. position_stays n names more e)

@@ -1,4 +1,4 @@
--- Each piece that is taken stands behind those of the front before: what a front is written as is what was read.
+-- Each piece that is read is written last in the new front, so a front is written as exactly the pieces that were read.
 use Rattle.std.specs.Prelude.{◌≡◌, ℕ, zero, suc, List, [], ◌∷◌, Option, Some, None, ⊤, refl}
 use Rattle.std.proofs.Common.{ap}
 use Rattle.expr_text.specs.Pieces.{Piece, Word, Digits, Open, Close, Plus, Minus, Times, Caret, Related, Joining}
@@ -10,7 +10,7 @@ use Rattle.expr_text.specs.Fronts.{product_with, sum_made}
 use Rattle.expr_text.specs.Steps.{closed, step_behind, step_from, step, finish_from, finish}
 
 module _ {P : Type 0} (into : Piece → P) where
-  -- the pieces of a factor behind so many `-`
+  -- the pieces of a factor behind this many `-`
   pub negated_pieces : (n : ℕ) (f : Factor) (before : List P) → factor_behind into (negated n f) before ≡ factor_behind into f (minuses_behind into n before)
   negated_pieces zero f before = refl
   negated_pieces (suc n) f before = negated_pieces n (Negated f) before
@@ -63,7 +63,7 @@ module _ {P : Type 0} (into : Piece → P) where
   step_behind_adds outer level f (Related sign) before = tt
   step_behind_adds outer level f (Joining joint) before = tt
 
-  -- each piece that is taken stands behind
+  -- each piece that is read is written last in the new front
   step_from_adds : (outer : List Level) (level : Level) (operand : Operand) (p : Piece) (before : List P) →
       Adds before (record { outer = outer; level = level; operand = operand }) p (step_from outer level operand p)
   step_from_adds outer level Wanted (Digits ds) before = refl

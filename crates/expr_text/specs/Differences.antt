@@ -1,4 +1,4 @@
--- The differences of an atom, and what stands in the way of expanding them.
+-- The differences of an atom, and the faults that prevent their expansion.
 use Rattle.std.specs.Prelude.{List, [], ◌∷◌, Option, None}
 use Rattle.its_model.specs.model.Programs.{Relation, EqualTo}
 use Rattle.its_model.specs.model.Terms.{Term}

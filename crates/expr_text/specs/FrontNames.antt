@@ -1,4 +1,4 @@
--- The variables of what has been read, and how many tokens it has.
+-- The variables of what has been read, and the number of its tokens.
 use Rattle.std.specs.Prelude.{ℕ, Bool, true, false, ◌||◌, codes, List, [], ◌∷◌, length, Option, Some, None}
 use Rattle.its_model.specs.model.Programs.{Name}
 use Rattle.its_model.specs.text_core.Names.{is_same}

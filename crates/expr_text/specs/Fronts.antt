@@ -1,21 +1,21 @@
--- The part of an expression that has been read.
+-- The state of parsing an expression.
 use Rattle.std.specs.Prelude.{ℕ, zero, suc, List, [], ◌∷◌}
 use Rattle.expr_text.specs.Pieces.{Piece, Digits, Open, Plus, Minus, Times, Caret}
 use Rattle.expr_text.specs.Trees.{Sum, Alone, Added, Subtracted, Product, Single, Multiplied, Factor, Negated, Base}
 use Rattle.expr_text.specs.Trees.{sum_behind, product_behind, base_behind}
 
--- what stands before a product in its brackets: nothing, or a sum and its operator
+-- what comes before a product inside its brackets: nothing, or a sum and its operator
 pub data Summed : Type 0 where
   NoSum : Summed
   PlusAfter : Sum → Summed
   MinusAfter : Sum → Summed
 
--- what stands before a factor in its product: nothing, or a product and a `*`
+-- what comes before a factor in its product: nothing, or a product and a `*`
 pub data Factored : Type 0 where
   NoProduct : Factored
   TimesAfter : Product → Factored
 
--- what stands before an operand in its brackets: a sum, a product, and so many `-`
+-- what comes before an operand inside its brackets: a sum, a product, and a number of `-`
 pub record Level : Type 0 where
   pub sum : Summed
   pub product : Factored
@@ -28,14 +28,14 @@ pub data Operand : Type 0 where
   CaretRead : Base → Operand
   ExponentRead : Base → List ℕ → Operand
 
--- the part that has been read: what stands before each open bracket, the innermost first, what stands before the
--- operand, and what was read last of it
+-- the state of parsing an expression: what comes before each open bracket, the innermost first; what comes before the
+-- operand; and the part of the operand that was read last
 pub record Front : Type 0 where
   pub outer : List Level
   pub level : Level
   pub operand : Operand
 
--- nothing stands before an operand
+-- nothing comes before an operand
 abbrev pub empty_level : Level
 empty_level = record { sum = NoSum; product = NoProduct; minuses = 0 }
 
@@ -74,7 +74,7 @@ module _ {P : Type 0} (into : Piece → P) where
   abbrev pub front_behind : Front → List P → List P
   front_behind f before = operand_behind f.operand (level_behind f.level (outer_behind f.outer before))
 
--- a factor behind so many `-`
+-- a factor behind this many `-`
 abbrev pub negated : ℕ → Factor → Factor
 negated zero f = f
 negated (suc n) f = negated n (Negated f)

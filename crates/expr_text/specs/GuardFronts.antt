@@ -1,4 +1,4 @@
--- The part of a guard that has been read, and where each piece leads within a guard.
+-- The state of parsing a guard, and its steps.
 use Rattle.std.specs.Prelude.{ℕ, zero, List, [], ◌∷◌, codes, if◌then◌else◌, Option, Some, None}
 use Rattle.its_model.specs.model.Programs.{Name}
 use Rattle.its_model.specs.text_core.Names.{is_same}
@@ -9,7 +9,7 @@ use Rattle.expr_text.specs.Fronts.{front_behind}
 use Rattle.expr_text.specs.Steps as inner
 use Rattle.expr_text.specs.Guards.{Capitals, Smalls, Atom, Always, Compared, Atoms, First, Joined, atoms_behind}
 
--- what stands before an atom: nothing, or atoms and what joins
+-- what comes before an atom: nothing, or atoms and a conjunction sign
 pub data Conjoined : Type 0 where
   NoAtoms : Conjoined
   JointAfter : Atoms → Joint → Conjoined

@@ -1,4 +1,4 @@
--- What the limit on exponents changes: nothing of what is refused, and nothing of what isn't.
+-- Limiting exponents changes no refusal.
 use Rattle.std.specs.Prelude.{◌≡◌, None}
 use Rattle.its_model.specs.model.Terms.{Term}
 use Rattle.its_model.specs.poly_terms.Faults.{first_fault}

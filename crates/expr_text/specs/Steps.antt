@@ -1,4 +1,4 @@
--- Where each piece leads within an expression.
+-- The steps of parsing an expression.
 use Rattle.std.specs.Prelude.{suc, List, [], ◌∷◌, Option, Some, None}
 use Rattle.expr_text.specs.Pieces.{Piece, Word, Digits, Open, Close, Plus, Minus, Times, Caret}
 use Rattle.expr_text.specs.Trees.{Sum, Factor, Plain, Raised, Base, Number, Named, Bracketed}

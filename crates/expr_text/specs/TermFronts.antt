@@ -111,12 +111,17 @@ sum_made l o = sum_with l.sum (product_made l o)
 abbrev pub empty_level : Level
 empty_level = record { sum = NoSum; product = NoProduct; minuses = 0 }
 
--- what a word, digits, a `-` or a `^` makes of an operand
+-- what a number makes of an operand: an exponent behind `^`, and elsewhere a literal, where a number over the limit on
+-- degrees, or on coefficients, counts as the one behind it
+abbrev pub with_number : Operand → ℕ → Operand
+with_number (CaretRead t) n = ExponentRead t (min n (degree_limit + 1))
+with_number Wanted n = BaseRead (Literal (pos (min n (coefficient_limit + 1))))
+with_number (BaseRead t) n = BaseRead (Literal (pos (min n (coefficient_limit + 1))))
+with_number (ExponentRead t k) n = BaseRead (Literal (pos (min n (coefficient_limit + 1))))
+
+-- what digits or a `^` make of it
 abbrev pub with_digits : Operand → List ℕ → Operand
-with_digits (CaretRead t) digits = ExponentRead t (min (number_of digits) (degree_limit + 1))
-with_digits Wanted digits = BaseRead (Literal (pos (min (number_of digits) (coefficient_limit + 1))))
-with_digits (BaseRead t) digits = BaseRead (Literal (pos (min (number_of digits) (coefficient_limit + 1))))
-with_digits (ExponentRead t n) digits = BaseRead (Literal (pos (min (number_of digits) (coefficient_limit + 1))))
+with_digits operand digits = with_number operand (number_of digits)
 
 abbrev pub with_caret : Operand → Operand
 with_caret (BaseRead t) = CaretRead t

@@ -1,4 +1,4 @@
--- What a written expression stands for: variables by number, and no brackets.
+-- The term of a written expression: numbered variables, and no brackets.
 use Rattle.std.specs.Prelude.{ℕ, List, [], ◌∷◌, ◌++◌, pos, if◌then◌else◌}
 use Rattle.std.specs.Str.Parse.{digits_value}
 use Rattle.its_model.specs.model.Programs.{Name}

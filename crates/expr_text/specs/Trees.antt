@@ -1,4 +1,4 @@
--- Expressions as they are written: brackets are kept, and what binds tighter stands deeper.
+-- Expressions as they are written: brackets are kept, and operators that bind tighter are deeper in the tree.
 use Rattle.std.specs.Prelude.{ℕ, List, ◌∷◌}
 use Rattle.its_model.specs.model.Programs.{Name}
 use Rattle.expr_text.specs.Pieces.{Piece, Word, Digits, Open, Close, Plus, Minus, Times, Caret}
@@ -27,7 +27,7 @@ mutual
     Named : Name → Base
     Bracketed : Sum → Base
 
--- an expression stands among pieces of a larger text: `into` tells what each of its pieces is there
+-- an expression among the pieces of a larger text: `into` maps each of its pieces to one of the larger text
 module _ {P : Type 0} (into : Piece → P) where
   abbrev mutual
     -- the pieces of an expression behind those that come before it, the last one first

@@ -1,4 +1,4 @@
--- What was worked out by hand of expressions and guards as they are written.
+-- Worked values of written expressions and guards.
 use Rattle.std.specs.Prelude.{◌≡◌, List, [], ◌∷◌, codes, pos, Option, Some, None}
 use Rattle.its_model.specs.model.Programs as plain
 use Rattle.its_model.specs.model.Programs.{AtLeast, LessThan}

@@ -1,8 +1,9 @@
-//! Expressions and guards as they are written: the pieces of their texts, the trees, the terms that they stand for, and
-//! where each piece leads. Contract to the layers above: small ones are what was worked out by hand
-//! (`worked_values_hold`), and limited exponents change no refusal (`limited_alike`); the lemmas of `proofs` say that
-//! each expression and each guard can be read, that what was read is what is written, and that each beginning can be
-//! completed.
+//! How expressions and guards are written: the pieces of their texts, their trees, the terms of `model` that these
+//! mean, and the state of parsing behind each piece.
+//!
+//! Builds on `its_model`. Main guarantee: small texts are as worked out by hand (`worked_values_hold`), and limiting
+//! exponents changes no refusal (`limited_alike`); the lemmas of `proofs` show that each expression and each guard can
+//! be read, that what was read is what is written, and that each beginning can be completed.
 #![tactic(auto)]
 
 mod law;

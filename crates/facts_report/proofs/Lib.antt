@@ -1,6 +1,6 @@
 -- what is found with facts, and that it is one
 pub mod StrengthenedReports
-pub mod OneFind
+pub mod OneDerivation
 -- texts of facts, as they are written
 pub mod Places
 pub mod EachLines

@@ -1,4 +1,4 @@
--- What is found of a program that is strengthened by facts that hold is so of the program itself.
+-- What is found of a program that is strengthened by facts that hold is true of the program itself.
 use Rattle.std.proofs.Common.{◌≡◌, ℕ, List, [], ◌∷◌, length, map, refl, sym, ◌∙◌, ap, subst}
 use Rattle.std.proofs.lemmas.List.{length-map}
 use Rattle.model.specs.Facts.{Time, Size}

@@ -3,9 +3,9 @@ use Rattle.std.proofs.Common.{refl}
 use Rattle.std.specs.Fmt.{digits}
 use Rattle.report_text.specs.Reports.{text_of_report}
 use Rattle.facts_report.specs.FactTexts.{text_with_facts}
-use Rattle.facts_report.specs.WorkedFactTexts.{DifferencesAreTold, FactLinesAreTold, FactTextsAreWorkedOut}
+use Rattle.facts_report.specs.WorkedFactTexts.{DifferencesAreWorkedOut, FactLinesAreWorkedOut, FactTextsAreWorkedOut}
 
-differences : DifferencesAreTold
+differences : DifferencesAreWorkedOut
 unfolding digits
 differences = record {
   place = refl;
@@ -16,7 +16,7 @@ differences = record {
   negative = refl;
 }
 
-lines : FactLinesAreTold
+lines : FactLinesAreWorkedOut
 unfolding text_with_facts text_of_report digits
 lines = record {
   none = refl;

@@ -1,5 +1,5 @@
--- Facts as text: for each symbol and each two places with facts that are kept the line of the greatest least; and
--- behind them a report.
+-- Facts as text: for each symbol and each two places with kept facts the line of the strongest one; and a report behind
+-- them.
 use Rattle.std.specs.Prelude.{ℕ, zero, suc, List, [], ◌∷◌, ◌++◌, Option, Some, None, ℤ, codes, decimal}
 use Rattle.std.specs.Fmt.{signed_decimal}
 use Rattle.std.specs.List.{range_with_len}

@@ -10,10 +10,10 @@ use Rattle.location_facts.specs.Strengthening.{strengthened}
 use Rattle.time_bounds.specs.Analysis.{IsAnalysis}
 use Rattle.time_bounds.specs.Whys.{ReasonsAreTrue}
 
--- the facts are those that are kept within so many pivots, and each holds on every run of the program, from any
--- integers and by any choice of rules; the report is that of the analysis of the program that they strengthen, with so
--- many pivots for each linear program; it has the entries of a report on the program, and every bound in it holds on
--- every run of the program itself; and each reason in it, why a bound is missing, is so of the strengthened program
+-- the facts are those that are kept within this many pivots, and each holds on every run of the program, from any
+-- integers and by any choice of rules; the report is that of the analysis of the program that they strengthen, with
+-- this many pivots for each linear program; it has the entries of a report on the program, and every bound in it holds
+-- on every run of the program itself; and each reason in it why a bound is missing is true of the strengthened program
 pub record IsFoundWithFacts (p : Program) (pivots : ℕ) (facts : List LocFact) (report : Report) : Type 0 where
   pub kept : AreKept p pivots facts
   pub held : AreHeld p facts
@@ -23,11 +23,11 @@ pub record IsFoundWithFacts (p : Program) (pivots : ℕ) (facts : List LocFact) 
   pub reasons : ReasonsAreTrue (strengthened facts p) pivots report
 
 -- two lists of facts are the same, and so are two reports
-pub record AreOneFind (facts others : List LocFact) (r q : Report) : Type 0 where
+pub record AreOneDerivation (facts others : List LocFact) (r q : Report) : Type 0 where
   pub facts_same : facts ≡ others
   pub report_same : r ≡ q
 
 -- within a number of pivots a program has one list of kept facts at most, and one report with them
 pub record ReportsWithFactsAreOne : Type 0 where
   pub each : (p : Program) (pivots : ℕ) (facts others : List LocFact) (r q : Report)
-      → IsFoundWithFacts p pivots facts r → IsFoundWithFacts p pivots others q → AreOneFind facts others r q
+      → IsFoundWithFacts p pivots facts r → IsFoundWithFacts p pivots others q → AreOneDerivation facts others r q

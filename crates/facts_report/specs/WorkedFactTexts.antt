@@ -20,8 +20,9 @@ three_symbols = record {
   rules = [];
 }
 
--- a place and the opposite of one stand alone, and a difference has both places; the sign of a number is told
-pub record DifferencesAreTold : Type 0 where
+-- a place alone and the opposite of one are printed as such, and a difference has both places; the sign of a number is
+-- printed
+pub record DifferencesAreWorkedOut : Type 0 where
   pub place : difference_text 2 0 ≡ codes "x2"
   pub opposite : difference_text 0 2 ≡ codes "-x2"
   pub difference : difference_text 1 2 ≡ codes "x1 - x2"
@@ -29,9 +30,9 @@ pub record DifferencesAreTold : Type 0 where
   pub line : location_line (codes "l1") 1 2 (pos 0) ≡ codes "fact l1: x1 - x2 >= 0\n"
   pub negative : location_line (codes "l1") 0 2 (negsuc 0) ≡ codes "fact l1: -x2 >= -1\n"
 
--- of the facts that a value is at least -1, 0 and 1 the last one alone is told, also where it stands first; lines go by
--- symbol, by plus and then by minus, whatever the order of the facts; and behind them stands the report
-pub record FactLinesAreTold : Type 0 where
+-- of the facts that a value is at least -1, 0 and 1 only the last one is printed, also where it comes first; lines go
+-- by symbol, by plus and then by minus, whatever the order of the facts; and the report follows them
+pub record FactLinesAreWorkedOut : Type 0 where
   pub none : location_lines three_symbols [] ≡ []
   pub greatest : location_lines three_symbols (fact 1 2 0 (negsuc 0) ∷ fact 1 2 0 (pos 0) ∷ fact 1 2 0 (pos 1) ∷ [])
       ≡ codes "fact l1: x2 >= 1\n"
@@ -46,5 +47,5 @@ pub record FactLinesAreTold : Type 0 where
 
 -- all of it
 pub record FactTextsAreWorkedOut : Type 0 where
-  pub differences : DifferencesAreTold
-  pub lines : FactLinesAreTold
+  pub differences : DifferencesAreWorkedOut
+  pub lines : FactLinesAreWorkedOut

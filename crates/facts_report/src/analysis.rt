@@ -1,11 +1,11 @@
-//! The analysis of a program with the facts at its locations.
+//! Analyses a program with the facts at its locations.
 
 ghost use Rattle.std.specs.Prelude.{length, IfOk};
 ghost use Rattle.its_model.specs.Valid.{IsValid};
 ghost use Rattle.its_model.specs.Views.{program_of};
 ghost use Rattle.outcome.specs.Printing.{IsPrintableOutcome};
 ghost use Rattle.outcome.specs.Views.{report_of};
-ghost use Rattle.proof_tree.specs.Composing.{AreRowsOf};
+ghost use Rattle.cert_types.specs.Composing.{AreRowsOf};
 ghost use Rattle.facts_report.specs.WithFacts.{IsFoundWithFacts};
 
 use guard_prep::{RuleRows, rows};
@@ -15,17 +15,17 @@ use model::Memory;
 use outcome::Outcome;
 use std::alloc::Global;
 
-/// What an analysis finds of a program with the facts at its locations.
+/// The analysis of a program with the facts at its locations.
 #[derive(Debug, Drop)]
 pub struct WithFacts {
     /// The facts that are kept, in order.
     pub kept: Vec<LocFact>,
-    /// What is found of the program that they strengthen.
+    /// The outcome of the program that they strengthen.
     pub outcome: Outcome,
 }
 
-/// The facts that are kept at a program's locations, and what an analysis finds of the program that they strengthen,
-/// where each linear program may take so many pivots.
+/// Finds the facts that are kept at a program's locations, and analyses the program that they strengthen, where each
+/// linear program may take this many pivots.
 ///
 /// # Errors
 ///
@@ -36,8 +36,8 @@ pub fn analyse(alloc: Global, p: &Program, pivots: u32) -> Result<WithFacts, Mem
         IsFoundWithFacts (program_of p.now) pivots w.kept.items (report_of w.outcome)) }
     ensures printable { IfOk result (λ w. IsPrintableOutcome (length p.now.start_names.items) w.outcome) }
 {
-    let preps = all_rows(alloc, p)?;
-    let found = facts(alloc, p, &preps, pivots)?;
+    let prepared_rules = all_rows(alloc, p)?;
+    let found = facts(alloc, p, &prepared_rules, pivots)?;
     let stronger = strengthen(alloc, p, &found)?;
     let outcome = time_bounds::analyse(alloc, &stronger, pivots)?;
     Ok(WithFacts {
@@ -49,11 +49,11 @@ pub fn analyse(alloc: Global, p: &Program, pivots: u32) -> Result<WithFacts, Mem
 // The rows of each rule, in order.
 fn all_rows(alloc: Global, p: &Program) -> Result<Vec<RuleRows>, Memory>
     requires { IsValid (program_of p.now) }
-    ensures { IfOk result (λ preps. AreRowsOf preps.items (program_of p.now)) }
+    ensures { IfOk result (λ prepared_rules. AreRowsOf prepared_rules.items (program_of p.now)) }
 {
-    let mut preps = Vec::new(alloc);
+    let mut prepared_rules = Vec::new(alloc);
     for rule in &p.rules {
-        preps.push(rows(alloc, rule)?)?;
+        prepared_rules.push(rows(alloc, rule)?)?;
     }
-    Ok(preps)
+    Ok(prepared_rules)
 }

@@ -1,15 +1,15 @@
-//! That a program has one report with facts, and texts of facts that were worked out by hand.
+//! A program has one report with facts, and worked values of the texts of facts.
 
 ghost use Rattle.facts_report.specs.WithFacts.{ReportsWithFactsAreOne};
 ghost use Rattle.facts_report.specs.WorkedFactTexts.{FactTextsAreWorkedOut};
 
-/// The law that within a number of pivots a program has one list of kept facts at most, and one report with them. It
-/// has no code: its contract is the law.
+/// The law that within a number of pivots a program has at most one list of kept facts, and one report with them. The
+/// function has no code: its contract is the law.
 pub fn reports_with_facts_are_one()
     ensures { ReportsWithFactsAreOne }
 {}
 
-/// Texts of facts were worked out by hand. It has no code: its contract is these values.
+/// Worked values of the texts of facts. The function has no code: its contract is these values.
 pub fn fact_texts_are_worked_out()
     ensures { FactTextsAreWorkedOut }
 {}

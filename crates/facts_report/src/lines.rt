@@ -1,4 +1,4 @@
-//! Facts as text: for each two places the line of the greatest least.
+//! Prints facts: for each two places the line of the strongest one.
 
 ghost use Rattle.std.specs.Prelude.{◌≡◌, ◌++◌, length, map, decimal, IfOk, OnOk};
 ghost use Rattle.its_model.specs.Views.{name_of, symbol_of, program_of};
@@ -16,8 +16,8 @@ use location_facts::{LocFact, facts_at, greatest_least};
 use model::Memory;
 use std::alloc::{AllocError, Global};
 
-/// The text of what an analysis finds of a program with facts: a line for each two places of a symbol with facts that
-/// are kept, with the greatest least, in order, and then the report.
+/// The text of the analysis of a program with facts: a line for each two places of a symbol with kept facts, which
+/// gives the strongest one, in order, and then the report.
 ///
 /// # Errors
 ///
@@ -137,7 +137,7 @@ fn push_fact(
     push_end(text, least)
 }
 
-// Appends what stands before the difference.
+// Appends the text before the difference.
 fn push_head(text: &mut Vec<u8>, name: &Name) -> Result<(), Memory>
     ensures { OnOk result (text.new.items ≡ text.old.items ++ fact_head (name_of name.now)) }
 {
@@ -146,7 +146,7 @@ fn push_head(text: &mut Vec<u8>, name: &Name) -> Result<(), Memory>
     text.extend_from_slice(b": ")
 }
 
-// Appends what stands behind it.
+// Appends the text behind the difference.
 fn push_end(text: &mut Vec<u8>, least: i64) -> Result<(), Memory>
     ensures { OnOk result (text.new.items ≡ text.old.items ++ fact_end least) }
 {

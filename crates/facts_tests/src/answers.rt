@@ -12,13 +12,11 @@ use location_facts::{LocFact, LocFacts, facts, facts_fault, strengthen};
 use model::Memory;
 use std::alloc::Global;
 
-/// What a line asks for.
-///
-/// `faults` is answered by what is wrong first with the facts: `nothing`, or the number of a fact and of a rule.
-/// `strengthened` is answered by the canonical text of the program that is strengthened by them, with `/` for a line
-/// feed, where nothing is wrong with them. The other calls have a number of pivots in place of facts, and speak of the
-/// facts that are kept within it: `kept` is answered by these facts, as a line writes them, or `none`, and by what is
-/// wrong first with them; and `found` by the text of the program that is strengthened by them.
+/// Answers a line. `faults` is answered by the first fault of the facts: `nothing`, or the number of a fact and of a
+/// rule. `strengthened` is answered by the canonical text of the program that is strengthened by them, with `/` for a
+/// line feed, if they have no fault. The other calls have a number of pivots in place of facts, and are about the facts
+/// that are kept within it: `kept` is answered by these facts, as a line writes them, or `none`, and by their first
+/// fault; and `found` by the text of the program that is strengthened by them.
 pub(crate) fn answer(alloc: Global, line: &str) -> Result<String, Memory> {
     let Some((call, rest)) = line.split_once(' ') else {
         return String::from_str(alloc, line);
@@ -43,7 +41,7 @@ fn pivots_of(text: &str) -> u32 {
     text.trim().parse::<u32>().unwrap_or(0)
 }
 
-// What is wrong first with facts, as text.
+// The first fault of facts, as text.
 fn fault_text(alloc: Global, p: &Program, facts: &LocFacts) -> Result<String, Memory>
     requires { IsValid (program_of p.now) }
 {
@@ -63,7 +61,7 @@ fn strengthened_text(alloc: Global, p: &Program, facts: &LocFacts) -> Result<Str
     }
 }
 
-// The facts that are kept within a number of pivots, and what is wrong first with them.
+// The facts that are kept within a number of pivots, and their first fault.
 fn kept_text(alloc: Global, p: &Program, pivots: u32) -> Result<String, Memory>
     requires { IsValid (program_of p.now) }
 {

@@ -1,10 +1,10 @@
--- How large the numbers of rows, multipliers and points may be.
+-- Bounds on the numbers of rows, multipliers and points.
 use Rattle.std.specs.Prelude.{ℕ, ◌+◌, ◌^◌, ◌<◌, ◌≤◌, List, [], ◌∷◌, length, ℤ, unsigned_abs}
 use Rattle.std.specs.List.{All}
 use Rattle.linear_forms.specs.Forms.{Form, at}
 use Rattle.linear_forms.specs.Limits.{certificate_limit, point_limit}
 
--- multipliers are at most 2^55
+-- multipliers are at most 2^56
 abbrev pub AreWithinLimit : List ℕ → Type 0
 AreWithinLimit ms = All (λ m. m ≤ certificate_limit) ms
 

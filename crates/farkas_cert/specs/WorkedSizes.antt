@@ -1,4 +1,4 @@
--- How large numbers may be, worked out by hand at the limits, on both sides.
+-- Worked values of the bounds on numbers, at the limits, on both sides.
 use Rattle.std.specs.Prelude.{◌+◌, ◌-◌, ◌^◌, [], ◌∷◌, ℤ, pos, negsuc}
 use Rattle.linear_forms.specs.Forms.{Form}
 use Rattle.farkas_cert.specs.Sizes.{AreWithinLimit, AreSmall, HasRowNumbers, AreParts}
@@ -7,10 +7,10 @@ use Rattle.farkas_cert.specs.Sizes.{AreWithinLimit, AreSmall, HasRowNumbers, Are
 abbrev pub line : ℤ → ℤ → Form
 line a c = record { coefs = a ∷ []; constant = c }
 
--- multipliers up to 2^55, and parts up to 2^45 in absolute value; numbers of a row up to 2^63 - 1 in absolute value
+-- multipliers up to 2^56, and parts up to 2^45 in absolute value; numbers of a row up to 2^63 - 1 in absolute value
 pub record LimitsAreWorkedOut : Type 0 where
-  pub multiplier : AreWithinLimit ((2 ^ 55) ∷ 0 ∷ [])
-  pub large_multiplier : ¬ (AreWithinLimit (0 ∷ (2 ^ 55 + 1) ∷ []))
+  pub multiplier : AreWithinLimit ((2 ^ 56) ∷ 0 ∷ [])
+  pub large_multiplier : ¬ (AreWithinLimit (0 ∷ (2 ^ 56 + 1) ∷ []))
   pub part : AreParts (pos (2 ^ 45) ∷ negsuc (2 ^ 45 - 1) ∷ [])
   pub large_part : ¬ (AreParts (pos 0 ∷ negsuc (2 ^ 45) ∷ []))
   pub number : HasRowNumbers (line (pos (2 ^ 63 - 1)) (negsuc (2 ^ 63 - 2)))
@@ -19,7 +19,7 @@ pub record LimitsAreWorkedOut : Type 0 where
 
 -- one number of 2^70 + 2^10 in a column, or two of opposite signs that are together as large; one more in a column or
 -- among the constants is too much
-pub record ColumnsAreTold : Type 0 where
+pub record ColumnsAreWorkedOut : Type 0 where
   pub one : AreSmall (line (pos (2 ^ 70 + 2 ^ 10)) (pos 0) ∷ [])
   pub two : AreSmall (line (pos (2 ^ 70)) (pos 3) ∷ line (negsuc (2 ^ 10 - 1)) (negsuc 4) ∷ [])
   pub large_column : ¬ (AreSmall (line (pos (2 ^ 70)) (pos 0) ∷ line (negsuc (2 ^ 10)) (pos 0) ∷ []))
@@ -28,4 +28,4 @@ pub record ColumnsAreTold : Type 0 where
 -- all of it
 pub record SizesAreWorkedOut : Type 0 where
   pub limits : LimitsAreWorkedOut
-  pub columns : ColumnsAreTold
+  pub columns : ColumnsAreWorkedOut

@@ -1,4 +1,4 @@
-//! Whether multipliers show that a form follows from rows.
+//! Checks whether multipliers certify that a form follows from rows.
 
 ghost use Rattle.std.specs.Prelude.{◌≡◌, ℕ, ◌<◌, ◌≤◌, ◌↔◌, map, length, All, IsTrue};
 ghost use Rattle.linear_forms.specs.Forms.{at};

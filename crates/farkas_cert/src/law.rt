@@ -1,4 +1,4 @@
-//! The rows of one rule are small enough for certificates, and limits are what was worked out.
+//! The rows of one rule are small enough for certificates, and worked values of limits.
 
 ghost use Rattle.std.specs.Prelude.{◌≡◌};
 ghost use Rattle.linear_forms.specs.Limits.{certificate_limit};

@@ -1,7 +1,10 @@
-//! Certificates by Farkas' lemma, and points of rows, as numbers of the code. Contract to the layer above: `implies` and
-//! `empty` answer yes exactly where the multipliers show that a form follows from rows, or that the rows have no point,
-//! and `on_rows` exactly where a scaled point is on them. What such a yes is worth is the law
-//! `linear_forms::certificates_hold`. No sum wraps, and no call takes memory.
+//! Checks certificates by Farkas' lemma and points of linear inequalities ("rows"), in machine integers without
+//! overflow.
+//!
+//! Builds on `linear_forms` (definitions and laws) and `poly_terms` (rows). Main guarantee: `implies` and `empty`
+//! answer yes exactly where the multipliers certify that a form follows from rows, or that the rows have no point;
+//! `on_rows` answers yes exactly where a scaled point satisfies all rows. What such a yes implies is the law
+//! `linear_forms::certificates_hold`. No sum wraps, and no call allocates memory.
 #![tactic(auto)]
 
 mod combination;

@@ -15,7 +15,7 @@ use Rattle.frac128.specs.Lowest.{IsLowest}
 narrow_prop : (z : ℤ) → IsProp (IsNarrow z)
 narrow_prop z = hlevel props
 
--- a number is over 0 in one way alone
+-- a number is above 0 in one way alone
 positive_prop : (z : ℤ) → IsProp (pos 0 <ℤ z)
 positive_prop z = hlevel props
 

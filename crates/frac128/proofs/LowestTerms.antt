@@ -14,7 +14,7 @@ use Rattle.int_laws.proofs.RingLaws.{mul_assoc_ℤ, mul_comm_ℤ}
 use Rattle.frac128.specs.Lowest.{IsLowest}
 use Rattle.frac128.specs.Narrow.{IsNarrow}
 
--- a number that is not 0 has a size over 0
+-- a number that is not 0 has a size above 0
 pub size-positive : (z : ℤ) → z ≢ pos 0 → 0 < unsigned_abs z
 size-positive z h = omega (arith, ints, h)
 
@@ -56,7 +56,7 @@ quotient-narrow a g n nonzero of_a narrow =
     let m = mul-le-mul_left (unsigned_abs n) size in
     omega (arith, m, e)
 
--- a factor of a square is over 0 where the product is
+-- a factor of a square is above 0 where the product is
 square_factor-positive : (d g : ℤ) → pos 0 <ℤ (d *ℤ (g *ℤ g)) → pos 0 <ℤ d
 square_factor-positive (pos zero) (pos g) h = absurd (omega (arith, ints, h))
 square_factor-positive (pos zero) (negsuc g) h = absurd (omega (arith, ints, h))
@@ -64,12 +64,12 @@ square_factor-positive (pos (suc d)) g h = omega (arith, ints)
 square_factor-positive (negsuc d) (pos g) h = absurd (omega (arith, ints, h))
 square_factor-positive (negsuc d) (negsuc g) h = absurd (omega (arith, ints, h))
 
--- the quotient by a number of the same sign is over 0
+-- the quotient by a number of the same sign is above 0
 pub quotient-positive : (b g d : ℤ) → d *ℤ g ≡ b → pos 0 <ℤ (b *ℤ g) → pos 0 <ℤ d
 quotient-positive b g d e h =
     square_factor-positive d g (subst (λ (z : ℤ). pos 0 <ℤ z) (ap (λ (z : ℤ). z *ℤ g) (sym e) ∙ mul_assoc_ℤ d g g) h)
 
--- a number below 0 times the negation of one over 0 is over 0
+-- a number below 0 times the negation of one above 0 is above 0
 pub negated_product-positive : (b g : ℤ) → b <ℤ pos 0 → pos 0 <ℤ g → pos 0 <ℤ (b *ℤ (pos 0 -ℤ g))
 negated_product-positive b g below above =
     let p = mul-positive_ℤ (pos 0 -ℤ b) g (omega (arith, ints)) above in
@@ -80,7 +80,7 @@ pub quotients-cross : (a b g n d : ℤ) → n *ℤ g ≡ a → d *ℤ g ≡ b �
 quotients-cross a b g n d of_a of_b =
     ap (λ (z : ℤ). n *ℤ z) (sym of_b ∙ mul_comm_ℤ d g) ∙ (sym (mul_assoc_ℤ n g d) ∙ ap (λ (z : ℤ). z *ℤ d) of_a)
 
--- a number whose product with another is over 0 is not 0
+-- a number whose product with another is above 0 is not 0
 pub factor_apart : (b g : ℤ) → pos 0 <ℤ (b *ℤ g) → g ≢ pos 0
 factor_apart b g h e = let p = ap (λ (z : ℤ). b *ℤ z) e in omega (arith, ints)
 
@@ -92,6 +92,6 @@ zero_is_whole num den lowest positive is_zero =
     from_size : (d : ℤ) → pos 0 <ℤ d → unsigned_abs d ≡ 1 → d ≡ pos 1
     from_size d h e = omega (arith, ints)
 
--- a whole number is in lowest terms
+-- an integer is in lowest terms
 pub whole_is_lowest : (num : ℤ) → IsLowest num (pos 1)
 whole_is_lowest num k divides_num divides_one = eq-one_of_dvd-one divides_one

@@ -122,7 +122,7 @@ product-zero a b c d c_zero d_one b_narrow =
     base : (a : ℤ) → a *ℤ pos 0 ≡ pos 0
     base a = omega (arith, ints)
 
--- the product of whole numbers
+-- the product of integers
 pub whole-product : (a b c d n m : ℤ) → b ≡ pos 1 → d ≡ pos 1 → n ≡ a *ℤ c → m ≡ pos 1 → IsNarrow (a *ℤ c)
     → AreNarrow ((a *ℤ c) ∷ (b *ℤ d) ∷ []) × (n *ℤ (b *ℤ d) ≡ (a *ℤ c) *ℤ m)
 whole-product a b c d n m b_one d_one n_is m_is product_narrow =

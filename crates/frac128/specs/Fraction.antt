@@ -1,4 +1,4 @@
--- What the calls on fractions answer.
+-- The results of operations on fractions, and when they are out of range.
 use Rattle.std.specs.Prelude.{◌≡◌, ℤ, pos, ◌+ℤ◌, ◌-ℤ◌, ◌*ℤ◌, ◌≤ℤ◌, ◌<ℤ◌, List, [], ◌∷◌, Result, MatchResult}
 use Rattle.std.specs.Ordering.{int_cmp}
 use Rattle.std.specs.declared.cmp.Ordering.{Ordering}
@@ -22,12 +22,12 @@ IsOrderOrRange result left right =
     MatchResult result (λ order. AreNarrow (left ∷ right ∷ []) × (order ≡ int_cmp left right))
     (λ _. ¬ AreNarrow (left ∷ right ∷ []))
 
--- the maximum whole number that is at most the fraction
+-- the maximum integer that is at most the fraction
 pub record IsFloor (f : Frac) (z : ℤ) : Type 0 where
   pub at_most : (z *ℤ f.den) ≤ℤ f.num
   pub maximum : f.num <ℤ ((z +ℤ pos 1) *ℤ f.den)
 
--- the least whole number that is at least the fraction
+-- the least integer that is at least the fraction
 pub record IsCeiling (f : Frac) (z : ℤ) : Type 0 where
   pub at_least : f.num ≤ℤ (z *ℤ f.den)
   pub least : ((z -ℤ pos 1) *ℤ f.den) <ℤ f.num

@@ -11,7 +11,7 @@ use Rattle.frac128.specs.Narrow.{IsNarrow}
 zero_is_narrow : IsNarrow (pos 0)
 zero_is_narrow = omega arith
 
--- 1 is over 0
+-- 1 is above 0
 one_is_positive : pos 0 <ℤ pos 1
 one_is_positive = omega (arith, ints)
 

@@ -1,4 +1,4 @@
-//! Division by the common divisor.
+//! Divides a fraction's numbers by their greatest common divisor.
 
 ghost use Rattle.std.specs.Prelude.{◌≡◌, ◌≢◌, ℕ, pos, ◌*ℤ◌, ◌<ℤ◌, unsigned_abs};
 ghost use Rattle.std.specs.Int.{IsGcd, ◌∣◌};

@@ -57,7 +57,7 @@ impl Frac {
         }
     }
 
-    /// The whole number `num`, whose absolute value is at most 2^127 - 1.
+    /// The integer `num`, whose absolute value is at most 2^127 - 1.
     pub fn whole(num: i128) -> Frac
         requires { IsNarrow num }
         ensures { (result.num ≡ num) × (result.den ≡ pos 1) }
@@ -189,14 +189,14 @@ impl Frac {
         }
     }
 
-    /// The maximum whole number that is at most the fraction.
+    /// The maximum integer that is at most the fraction.
     pub fn floor(self) -> i128
         ensures { IsFloor self result }
     {
         self.num.div_euclid(self.den)
     }
 
-    /// The least whole number that is at least the fraction.
+    /// The least integer that is at least the fraction.
     pub fn ceil(self) -> i128
         ensures { IsCeiling self result }
     {

@@ -1,6 +1,8 @@
-//! Exact fractions of 128 bits. Each call answers the exact value, or `Range` exactly where a
-//! number of its own formula, as written and before any reduction, has an absolute value over
-//! 2^127 - 1. Nothing takes memory.
+//! Exact fractions of 128-bit integers, for the numbers of the simplex method.
+//!
+//! Builds on the laws of `int_laws`. Main guarantee: each operation returns the exact value, or `Range` exactly where a
+//! number in its defining formula, evaluated as written and before any reduction, has an absolute value over 2^127 - 1.
+//! Nothing allocates memory.
 #![tactic(auto)]
 
 ghost use Rattle.frac128.specs.Fraction.{EqualFractionsAreIdentical};

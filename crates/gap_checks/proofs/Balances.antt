@@ -11,11 +11,11 @@ use Rattle.farkas_cert.specs.linear_forms.Combinations.{zero_form}
 use Rattle.farkas_cert.specs.linear_forms.RuleQuestions.{RuleForms, Coefficient, after_rule, at_source, at_target}
 use Rattle.farkas_cert.specs.model.Paths.{target_in, target_of}
 use Rattle.farkas_cert.specs.model.Programs.{Program, Rule, rule_at}
-use Rattle.proof_tree.specs.proof_setting.RankedSets.{forms_in, forms_at}
-use Rattle.proof_tree.specs.proof_nodes.AcceptsPlain.{IsRule}
-use Rattle.proof_tree.specs.proof_nodes.GapChecks.{value_at, net}
-use Rattle.proof_tree.specs.proof_nodes.Gaps.{ScaledPoint}
-use Rattle.proof_tree.proofs.proof_nodes.CheckLists.{each-append}
+use Rattle.cert_types.specs.cert_program.RankedSets.{forms_in, forms_at}
+use Rattle.cert_types.specs.cert_rules.AcceptsPlain.{IsRule}
+use Rattle.cert_types.specs.cert_rules.GapChecks.{value_at, net}
+use Rattle.cert_types.specs.cert_rules.Gaps.{ScaledPoint}
+use Rattle.cert_types.proofs.cert_rules.CheckLists.{each-append}
 use Rattle.gap_checks.specs.GapTests.{IsFirstFailing, coefficient_at}
 
 -- what fails first in a list fails first in a longer one
@@ -158,6 +158,6 @@ module _ (p : Program) (t : ℕ) (is : IsRule p t) where
         same = let g : Some s ≡ Some (forms_at p t).target = e ∙ target-is in cc
 
 -- new values that are the same give the same value
-pub after-same : (r s : RuleForms) (place : ℕ) → r.news ≡ s.news → after_rule r place ≡ after_rule s place
+pub after-same : (r s : RuleForms) (place : ℕ) → r.new_values ≡ s.new_values → after_rule r place ≡ after_rule s place
 after-same r s zero e = refl
 after-same r s (suc i) e = ap (λ (fs : List Form). slice_index_or fs i zero_form) e

@@ -5,40 +5,40 @@ use Rattle.farkas_cert.specs.linear_forms.Forms.{Form}
 use Rattle.farkas_cert.specs.model.Programs.{Program}
 use Rattle.farkas_cert.specs.declared.scaled.Scaled.{Scaled}
 use Rattle.guard_prep.specs.declared.rule_rows.RuleRows.{RuleRows}
-use Rattle.proof_tree.specs.proof_setting.RankedSets.{forms_at}
-use Rattle.proof_tree.specs.proof_nodes.GapChecks.{MoveOff, FloorOff, NotKept, Unbalanced, LosesNothing}
-use Rattle.proof_tree.specs.proof_nodes.GapChecks.{GapHolds, HasGapShape, MeetsAt, IsPointOf, point_of, gap_checks}
-use Rattle.proof_tree.specs.proof_nodes.GapChecks.{check_move, check_kept, check_balance, balanced}
-use Rattle.proof_tree.specs.proof_nodes.Gaps.{ScaledPoint}
-use Rattle.proof_tree.specs.proof_nodes.Reasons.{IsFirstAmong}
-use Rattle.proof_tree.proofs.proof_nodes.CheckLists.{passes_each}
-use Rattle.proof_tree.proofs.proof_nodes.GapsInLine.{passed-holds}
-use Rattle.proof_tree.specs.declared.gap.Gap.{Gap}
-use Rattle.proof_tree.specs.AnswerViews.{scaled_of, gap_of}
-use Rattle.proof_tree.specs.Composing.{AreRowsOf}
+use Rattle.cert_types.specs.cert_program.RankedSets.{forms_at}
+use Rattle.cert_types.specs.cert_rules.GapChecks.{MoveOff, FloorOff, NotKept, Unbalanced, LosesNothing}
+use Rattle.cert_types.specs.cert_rules.GapChecks.{GapHolds, HasGapShape, MeetsAt, IsPointOf, point_of, gap_checks}
+use Rattle.cert_types.specs.cert_rules.GapChecks.{check_move, check_kept, check_balance, balanced}
+use Rattle.cert_types.specs.cert_rules.Gaps.{ScaledPoint}
+use Rattle.cert_types.specs.cert_rules.Reasons.{IsFirstAmong}
+use Rattle.cert_types.proofs.cert_rules.CheckLists.{passes_each}
+use Rattle.cert_types.proofs.cert_rules.GapsInLine.{passed-holds}
+use Rattle.cert_types.specs.declared.gap.Gap.{Gap}
+use Rattle.cert_types.specs.AnswerViews.{scaled_of, gap_of}
+use Rattle.cert_types.specs.Composing.{AreRowsOf}
 use Rattle.gap_checks.specs.GapTests.{forms_by, IsFirstFailing, IsBalanced, coefficient_at}
 use Rattle.gap_checks.proofs.GapFaults.{failing-agree, all-agree, first-of-each, behind-each, forms-alike}
 
-module _ (p : Program) (preps : List RuleRows) (rows : AreRowsOf preps p) (g : Gap) where
+module _ (p : Program) (prepared_rules : List RuleRows) (rows : AreRowsOf prepared_rules p) (g : Gap) where
   -- the rows of a rule are those that were prepared
-  to-program : (t : ℕ) (z : ScaledPoint) → MeetsAt (forms_by preps t).rows z → MeetsAt (forms_at p t).rows z
-  to-program t z h = subst (λ (fs : List Form). MeetsAt fs z) (sym (forms-alike p preps rows t).rows) h
+  to-program : (t : ℕ) (z : ScaledPoint) → MeetsAt (forms_by prepared_rules t).rows z → MeetsAt (forms_at p t).rows z
+  to-program t z h = subst (λ (fs : List Form). MeetsAt fs z) (sym (forms-alike p prepared_rules rows t).rows) h
 
-  from-program : (t : ℕ) (z : ScaledPoint) → MeetsAt (forms_at p t).rows z → MeetsAt (forms_by preps t).rows z
-  from-program t z h = subst (λ (fs : List Form). MeetsAt fs z) (forms-alike p preps rows t).rows h
+  from-program : (t : ℕ) (z : ScaledPoint) → MeetsAt (forms_at p t).rows z → MeetsAt (forms_by prepared_rules t).rows z
+  from-program t z h = subst (λ (fs : List Form). MeetsAt fs z) (forms-alike p prepared_rules rows t).rows h
 
-  point-program : (t : ℕ) (z : ScaledPoint) → IsPointOf (forms_by preps t).rows z → IsPointOf (forms_at p t).rows z
-  point-program t z h = subst (λ (fs : List Form). IsPointOf fs z) (sym (forms-alike p preps rows t).rows) h
+  point-program : (t : ℕ) (z : ScaledPoint) → IsPointOf (forms_by prepared_rules t).rows z → IsPointOf (forms_at p t).rows z
+  point-program t z h = subst (λ (fs : List Form). IsPointOf fs z) (sym (forms-alike p prepared_rules rows t).rows) h
 
-  point-prepared : (t : ℕ) (z : ScaledPoint) → IsPointOf (forms_at p t).rows z → IsPointOf (forms_by preps t).rows z
-  point-prepared t z h = subst (λ (fs : List Form). IsPointOf fs z) (forms-alike p preps rows t).rows h
+  point-prepared : (t : ℕ) (z : ScaledPoint) → IsPointOf (forms_at p t).rows z → IsPointOf (forms_by prepared_rules t).rows z
+  point-prepared t z h = subst (λ (fs : List Form). IsPointOf fs z) (forms-alike p prepared_rules rows t).rows h
 
   -- the move of a rule, and its kept point, as they were judged and as they are to be
   abbrev Moves : List ℕ → List Scaled → ℕ → Type 0
-  Moves set zs t = MeetsAt (forms_by preps t).rows (point_of set (map scaled_of zs) t)
+  Moves set zs t = MeetsAt (forms_by prepared_rules t).rows (point_of set (map scaled_of zs) t)
 
   abbrev Keeps : List ℕ → List Scaled → ℕ → Type 0
-  Keeps set zs t = IsPointOf (forms_by preps t).rows (point_of set (map scaled_of zs) t)
+  Keeps set zs t = IsPointOf (forms_by prepared_rules t).rows (point_of set (map scaled_of zs) t)
 
   abbrev MovesRight : ℕ → Type 0
   MovesRight t = MeetsAt (forms_at p t).rows (point_of g.set.items (map scaled_of g.moves.items) t)
@@ -49,7 +49,7 @@ module _ (p : Program) (preps : List RuleRows) (rows : AreRowsOf preps p) (g : G
   module _ (shape : HasGapShape p (forms_at p) (gap_of g)) where
     -- the first move that isn't met is the first fault
     pub first-move : (xs : List ℕ) (zs : List Scaled) (u : ℕ) → xs ≡ g.set.items → zs ≡ g.moves.items
-        → IsFirstFailing (λ t. MeetsAt (forms_by preps t).rows (point_of xs (map scaled_of zs) t)) xs u
+        → IsFirstFailing (λ t. MeetsAt (forms_by prepared_rules t).rows (point_of xs (map scaled_of zs) t)) xs u
         → IsFirstAmong (gap_checks p (forms_at p) (gap_of g)) (MoveOff u)
     first-move xs zs u e f h = inr (
       shape,
@@ -63,7 +63,7 @@ module _ (p : Program) (preps : List RuleRows) (rows : AreRowsOf preps p) (g : G
 
     -- all moves are met
     module _ (xs : List ℕ) (zs : List Scaled) (xs-are : xs ≡ g.set.items) (zs-are : zs ≡ g.moves.items)
-        (moves : AllByRecursion (λ t. MeetsAt (forms_by preps t).rows (point_of xs (map scaled_of zs) t)) xs) where
+        (moves : AllByRecursion (λ t. MeetsAt (forms_by prepared_rules t).rows (point_of xs (map scaled_of zs) t)) xs) where
       moves-right : AllByRecursion MovesRight g.set.items
       moves-right =
           all-agree (Moves g.set.items g.moves.items) MovesRight
@@ -72,7 +72,7 @@ module _ (p : Program) (preps : List RuleRows) (rows : AreRowsOf preps p) (g : G
           (subst (λ (ts : List ℕ). AllByRecursion (Moves ts zs) ts) xs-are moves))
 
       -- then a floor that isn't met is
-      pub first-floor : ¬ (MeetsAt (forms_by preps g.rule).rows (scaled_of g.floor))
+      pub first-floor : ¬ (MeetsAt (forms_by prepared_rules g.rule).rows (scaled_of g.floor))
           → IsFirstAmong (gap_checks p (forms_at p) (gap_of g)) FloorOff
       first-floor n = inr (
         shape,
@@ -80,10 +80,10 @@ module _ (p : Program) (preps : List RuleRows) (rows : AreRowsOf preps p) (g : G
             (inl ((λ h. n (from-program g.rule (scaled_of g.floor) h)), refl)),
       )
 
-      module _ (floor : MeetsAt (forms_by preps g.rule).rows (scaled_of g.floor)) where
+      module _ (floor : MeetsAt (forms_by prepared_rules g.rule).rows (scaled_of g.floor)) where
         -- then the first kept point that isn't one
         pub first-kept : (ys : List ℕ) (ks : List Scaled) (u : ℕ) → ys ≡ g.set.items → ks ≡ g.kept.items
-            → IsFirstFailing (λ t. IsPointOf (forms_by preps t).rows (point_of ys (map scaled_of ks) t)) ys u
+            → IsFirstFailing (λ t. IsPointOf (forms_by prepared_rules t).rows (point_of ys (map scaled_of ks) t)) ys u
             → IsFirstAmong (gap_checks p (forms_at p) (gap_of g)) (NotKept u)
         first-kept ys ks u e f h = inr (
           shape,
@@ -100,7 +100,7 @@ module _ (p : Program) (preps : List RuleRows) (rows : AreRowsOf preps p) (g : G
 
         -- all kept points are points
         module _ (ys : List ℕ) (ks : List Scaled) (ys-are : ys ≡ g.set.items) (ks-are : ks ≡ g.kept.items)
-            (kept : AllByRecursion (λ t. IsPointOf (forms_by preps t).rows (point_of ys (map scaled_of ks) t)) ys) where
+            (kept : AllByRecursion (λ t. IsPointOf (forms_by prepared_rules t).rows (point_of ys (map scaled_of ks) t)) ys) where
           kept-right : AllByRecursion KeepsRight g.set.items
           kept-right =
               all-agree (Keeps g.set.items g.kept.items) KeepsRight

@@ -1,4 +1,4 @@
--- The first fault of a gap: what fails first, and what was prepared of the rules.
+-- The first fault of a gap: what fails first, and the prepared rows of the rules.
 use Rattle.std.proofs.Common.{◌≡◌, ◌≢◌, inl, inr, ℕ, zero, suc, ◌+◌, ◌<◌, ◌≤◌, ◌==◌, ◌||◌, Bool, true, cond}
 use Rattle.std.proofs.Common.{List, [], ◌∷◌, length, map, take, get_or, Option, Some, None, option_map, refl, sym, ap, ◌∙◌}
 use Rattle.std.proofs.Common.{subst, arith}
@@ -17,22 +17,22 @@ use Rattle.its_model.specs.Valid.{IsValid}
 use Rattle.farkas_cert.specs.Sizes.{row_limit, AreRowNumbers, HasRowNumbers}
 use Rattle.guard_prep.specs.declared.rule_rows.RuleRows.{RuleRows}
 use Rattle.guard_prep.specs.Laws.{IsSmallForm}
-use Rattle.guard_prep.specs.Prepared.{Prepared, prepared, rows_of, news_of, unknowns_of}
+use Rattle.guard_prep.specs.Prepared.{Prepared, prepared, rows_of, new_values_of, unknowns_of}
 use Rattle.guard_prep.specs.Views.{prepared_of}
 use Rattle.guard_prep.proofs.SizeLaws.{rows-are-small}
 use Rattle.guard_prep.proofs.StepLaws.{preparable}
-use Rattle.proof_tree.specs.proof_setting.RankedSets.{forms_in, forms_at}
-use Rattle.proof_tree.specs.proof_nodes.AcceptsPlain.{IsRule}
-use Rattle.proof_tree.specs.proof_nodes.GapChecks.{HasGapShape, IsGapPoint, point_of}
-use Rattle.proof_tree.specs.proof_nodes.Gaps.{ScaledPoint, Gap}
-use Rattle.proof_tree.specs.proof_nodes.Numbers.{IsAscending}
-use Rattle.proof_tree.specs.proof_nodes.Reasons.{CheckOf, for_each, IsFirstAmong}
-use Rattle.proof_tree.proofs.proof_nodes.CheckLists.{in-each}
-use Rattle.proof_tree.proofs.proof_nodes.GapPoints.{first-least, rest-ascends}
+use Rattle.cert_types.specs.cert_program.RankedSets.{forms_in, forms_at}
+use Rattle.cert_types.specs.cert_rules.AcceptsPlain.{IsRule}
+use Rattle.cert_types.specs.cert_rules.GapChecks.{HasGapShape, IsGapPoint, point_of}
+use Rattle.cert_types.specs.cert_rules.Gaps.{ScaledPoint, Gap}
+use Rattle.cert_types.specs.cert_rules.Numbers.{IsAscending}
+use Rattle.cert_types.specs.cert_rules.Reasons.{CheckOf, for_each, IsFirstAmong}
+use Rattle.cert_types.proofs.cert_rules.CheckLists.{in-each}
+use Rattle.cert_types.proofs.cert_rules.GapPoints.{first-least, rest-ascends}
 use Rattle.farkas_cert.specs.declared.scaled.Scaled.{Scaled}
-use Rattle.proof_tree.specs.AnswerViews.{scaled_of}
-use Rattle.proof_tree.specs.Composing.{AreRowsOf}
-use Rattle.gap_checks.specs.GapTests.{forms_by_prep, forms_by, IsNear, AreNearPoints, HaveSmallRows, IsFirstFailing}
+use Rattle.cert_types.specs.AnswerViews.{scaled_of}
+use Rattle.cert_types.specs.Composing.{AreRowsOf}
+use Rattle.gap_checks.specs.GapTests.{forms_by_prepared_rule, forms_by, IsNear, AreNearPoints, HaveSmallRows, IsFirstFailing}
 
 -- the element behind those that hold, which doesn't, is the first that fails
 pub failing-at : {A : Type 0} (P : A → Type 0) (xs : List A) (i : ℕ) (d : A) → i < length xs → All P (take i xs)
@@ -124,27 +124,27 @@ set-short p (x ∷ ys) a h = let k = rules-from p x ys a h in omega (arith, k, (
 pub record AreAlike (r s : RuleForms) : Type 0 where
   pub unknowns : r.unknowns ≡ s.unknowns
   pub rows : r.rows ≡ s.rows
-  pub news : r.news ≡ s.news
+  pub new_values : r.new_values ≡ s.new_values
 
--- what was prepared of the rules gives their forms
-pub forms-alike : (p : Program) (preps : List RuleRows) → AreRowsOf preps p → (t : ℕ)
-    → AreAlike (forms_at p t) (forms_by preps t)
-forms-alike p preps h zero = record { unknowns = refl; rows = refl; news = refl }
-forms-alike p preps h (suc t) =
-    go (slice_get preps t) (slice_get p.rules t)
-    (sym (slice_get-map prepared_of preps t)
+-- the prepared rows of the rules gives their forms
+pub forms-alike : (p : Program) (prepared_rules : List RuleRows) → AreRowsOf prepared_rules p → (t : ℕ)
+    → AreAlike (forms_at p t) (forms_by prepared_rules t)
+forms-alike p prepared_rules h zero = record { unknowns = refl; rows = refl; new_values = refl }
+forms-alike p prepared_rules h (suc t) =
+    go (slice_get prepared_rules t) (slice_get p.rules t)
+    (sym (slice_get-map prepared_of prepared_rules t)
     ∙ (ap (λ (ms : List Prepared). slice_get ms t) h ∙ slice_get-map prepared p.rules t))
   where
     go : (o : Option RuleRows) (q : Option Rule) → option_map prepared_of o ≡ option_map prepared q
-        → AreAlike (forms_in q) (forms_by_prep o)
-    go None None e = record { unknowns = refl; rows = refl; news = refl }
+        → AreAlike (forms_in q) (forms_by_prepared_rule o)
+    go None None e = record { unknowns = refl; rows = refl; new_values = refl }
     go None (Some r) e = absurd (let no : ⊥ = cc in no)
     go (Some m) None e = absurd (let no : ⊥ = cc in no)
     go (Some m) (Some r) e =
         let same : prepared_of m ≡ prepared r = cc in record {
           unknowns = ap (λ (x : Prepared). x.unknowns) (sym same);
           rows = ap (λ (x : Prepared). x.rows) (sym same);
-          news = ap (λ (x : Prepared). x.news) (sym same);
+          new_values = ap (λ (x : Prepared). x.new_values) (sym same);
         }
 
 -- a small form has numbers below 2^63
@@ -155,7 +155,7 @@ small-numbers n f h = record { coefs = each f.coefs h.coefs; constant = omega (a
     each [] k = All-nil (λ (x : ℤ). nat_abs x < row_limit)
     each (x ∷ xs) k = All-cons (λ (a : ℤ). nat_abs a < row_limit) x xs (omega (arith, k.0)) (each xs k.1)
 
--- so have all small forms of a list
+-- the same for all small forms of a list
 all-numbers : (n : ℕ) (fs : List Form) → AllByRecursion (IsSmallForm n) fs → All HasRowNumbers fs
 all-numbers n [] h = All-nil HasRowNumbers
 all-numbers n (f ∷ fs) h = All-cons HasRowNumbers f fs (small-numbers n f h.0) (all-numbers n fs h.1)
@@ -176,12 +176,12 @@ module _ (p : Program) (valid : IsValid p) where
       go None e = All-nil HasRowNumbers
       go (Some r) e = all-numbers (unknowns_of r) (rows_of r) (rows-are-small.rows r (preparable p t r valid e))
 
-  small-news : (t : ℕ) → All HasRowNumbers (forms_at p t).news
-  small-news t = go (rule_at p t) refl
+  small-new_values : (t : ℕ) → All HasRowNumbers (forms_at p t).new_values
+  small-new_values t = go (rule_at p t) refl
     where
-      go : (o : Option Rule) → rule_at p t ≡ o → All HasRowNumbers (forms_in o).news
+      go : (o : Option Rule) → rule_at p t ≡ o → All HasRowNumbers (forms_in o).new_values
       go None e = All-nil HasRowNumbers
-      go (Some r) e = all-numbers (unknowns_of r) (news_of r) (rows-are-small.news r (preparable p t r valid e))
+      go (Some r) e = all-numbers (unknowns_of r) (new_values_of r) (rows-are-small.new_values r (preparable p t r valid e))
 
   few-unknowns : (t : ℕ) → (forms_at p t).unknowns ≤ 128
   few-unknowns t = go (rule_at p t) refl
@@ -198,11 +198,11 @@ module _ (p : Program) (valid : IsValid p) where
     den_limit = h.den_limit;
   }
 
-  -- and what was prepared has small numbers
-  pub have-small : (preps : List RuleRows) → AreRowsOf preps p → HaveSmallRows preps
-  have-small preps h = record {
-    rows = λ t. subst (All HasRowNumbers) (forms-alike p preps h t).rows (small-rows t);
-    news = λ t. subst (All HasRowNumbers) (forms-alike p preps h t).news (small-news t);
+  -- and the prepared rows have small numbers
+  pub have-small : (prepared_rules : List RuleRows) → AreRowsOf prepared_rules p → HaveSmallRows prepared_rules
+  have-small prepared_rules h = record {
+    rows = λ t. subst (All HasRowNumbers) (forms-alike p prepared_rules h t).rows (small-rows t);
+    new_values = λ t. subst (All HasRowNumbers) (forms-alike p prepared_rules h t).new_values (small-new_values t);
   }
 
   -- the points of a gap whose shape is right are near

@@ -7,10 +7,10 @@ use Rattle.std.proofs.lemmas.Bool.{ne_eqb}
 use Rattle.std.proofs.lemmas.List.Elements.{All-more, All-get_or, All-from_recursion, recursion_from_All}
 use Rattle.std.proofs.Math.ListN.{get_or-map}
 use Rattle.farkas_cert.specs.declared.scaled.Scaled.{Scaled}
-use Rattle.proof_tree.specs.proof_nodes.GapChecks.{point_of}
-use Rattle.proof_tree.specs.proof_nodes.Gaps.{ScaledPoint}
-use Rattle.proof_tree.specs.proof_nodes.Numbers.{IsAscending}
-use Rattle.proof_tree.specs.AnswerViews.{scaled_of}
+use Rattle.cert_types.specs.cert_rules.GapChecks.{point_of}
+use Rattle.cert_types.specs.cert_rules.Gaps.{ScaledPoint}
+use Rattle.cert_types.specs.cert_rules.Numbers.{IsAscending}
+use Rattle.cert_types.specs.AnswerViews.{scaled_of}
 use Rattle.gap_checks.specs.GapTests.{IsFirstFailing}
 use Rattle.gap_checks.proofs.GapFaults.{failing-at, point-at}
 
@@ -52,7 +52,7 @@ module _ (Q : ℕ → ScaledPoint → Type 0) (set : List ℕ) (zs : List Scaled
   position-is =
       point-at set (map scaled_of zs) i 0 (scaled_of z) a l h ∙ (get_or-map scaled_of zs i z ∙ ap scaled_of (sym e))
 
-  -- what holds of the rule and its point holds of what stands at the position
+  -- what holds of each rule and its point holds of those at a position
   pub position-has : Q (get_or set i 0) (point_of set (map scaled_of zs) (get_or set i 0))
       → Q (get_or set i 0) (scaled_of z)
   position-has q = subst (Q (get_or set i 0)) position-is q

@@ -1,18 +1,18 @@
--- When the shape of a gap is right, as what was prepared of the rules tells it.
+-- The test of a gap's shape, over the rows of the rules, agrees with its definition.
 use Rattle.std.proofs.Common.{◌≡◌, ℕ, List, map, sym, ◌∙◌, subst}
 use Rattle.std.proofs.lemmas.List.{length-map}
 use Rattle.farkas_cert.specs.linear_forms.RuleQuestions.{RuleForms}
 use Rattle.farkas_cert.specs.model.Programs.{Program}
 use Rattle.farkas_cert.specs.declared.scaled.Scaled.{Scaled}
 use Rattle.guard_prep.specs.declared.rule_rows.RuleRows.{RuleRows}
-use Rattle.proof_tree.specs.proof_setting.RankedSets.{forms_at}
-use Rattle.proof_tree.specs.proof_nodes.AcceptsPlain.{IsRule}
-use Rattle.proof_tree.specs.proof_nodes.GapChecks.{HasGapShape, IsGapPoint, point_of}
-use Rattle.proof_tree.specs.proof_nodes.Gaps.{ScaledPoint}
-use Rattle.proof_tree.proofs.proof_nodes.CheckLists.{each-in, in-each}
-use Rattle.proof_tree.specs.declared.gap.Gap.{Gap}
-use Rattle.proof_tree.specs.AnswerViews.{scaled_of, gap_of}
-use Rattle.proof_tree.specs.Composing.{AreRowsOf}
+use Rattle.cert_types.specs.cert_program.RankedSets.{forms_at}
+use Rattle.cert_types.specs.cert_rules.AcceptsPlain.{IsRule}
+use Rattle.cert_types.specs.cert_rules.GapChecks.{HasGapShape, IsGapPoint, point_of}
+use Rattle.cert_types.specs.cert_rules.Gaps.{ScaledPoint}
+use Rattle.cert_types.proofs.cert_rules.CheckLists.{each-in, in-each}
+use Rattle.cert_types.specs.declared.gap.Gap.{Gap}
+use Rattle.cert_types.specs.AnswerViews.{scaled_of, gap_of}
+use Rattle.cert_types.specs.Composing.{AreRowsOf}
 use Rattle.gap_checks.specs.GapTests.{forms_by, IsGapSet, HaveGapPoints}
 use Rattle.gap_checks.proofs.GapFaults.{forms-alike}
 
@@ -20,12 +20,12 @@ use Rattle.gap_checks.proofs.GapFaults.{forms-alike}
 point-alike : (r s : RuleForms) (z : ScaledPoint) → r.unknowns ≡ s.unknowns → IsGapPoint r z → IsGapPoint s z
 point-alike r s z e h = record { long = h.long ∙ e; parts_limit = h.parts_limit; den_limit = h.den_limit }
 
-module _ (p : Program) (preps : List RuleRows) (rows : AreRowsOf preps p) where
-  to-prepared : (t : ℕ) (z : ScaledPoint) → IsGapPoint (forms_at p t) z → IsGapPoint (forms_by preps t) z
-  to-prepared t z h = point-alike (forms_at p t) (forms_by preps t) z (forms-alike p preps rows t).unknowns h
+module _ (p : Program) (prepared_rules : List RuleRows) (rows : AreRowsOf prepared_rules p) where
+  to-prepared : (t : ℕ) (z : ScaledPoint) → IsGapPoint (forms_at p t) z → IsGapPoint (forms_by prepared_rules t) z
+  to-prepared t z h = point-alike (forms_at p t) (forms_by prepared_rules t) z (forms-alike p prepared_rules rows t).unknowns h
 
-  from-prepared : (t : ℕ) (z : ScaledPoint) → IsGapPoint (forms_by preps t) z → IsGapPoint (forms_at p t) z
-  from-prepared t z h = point-alike (forms_by preps t) (forms_at p t) z (sym (forms-alike p preps rows t).unknowns) h
+  from-prepared : (t : ℕ) (z : ScaledPoint) → IsGapPoint (forms_by prepared_rules t) z → IsGapPoint (forms_at p t) z
+  from-prepared t z h = point-alike (forms_by prepared_rules t) (forms_at p t) z (sym (forms-alike p prepared_rules rows t).unknowns) h
 
   module _ (g : Gap) where
     -- where the shape is right, so is the set
@@ -33,26 +33,26 @@ module _ (p : Program) (preps : List RuleRows) (rows : AreRowsOf preps p) where
     shape-set h = record { ascending = h.ascending; rules = in-each (IsRule p) g.set.items h.rules; inside = h.inside }
 
     -- and so are the points
-    pub shape-moves : HasGapShape p (forms_at p) (gap_of g) → HaveGapPoints preps g.set.items g.moves.items
+    pub shape-moves : HasGapShape p (forms_at p) (gap_of g) → HaveGapPoints prepared_rules g.set.items g.moves.items
     shape-moves h = (
       sym (length-map g.moves.items scaled_of) ∙ h.one_move,
-      in-each (λ t. IsGapPoint (forms_by preps t) (point_of g.set.items (map scaled_of g.moves.items) t)) g.set.items
+      in-each (λ t. IsGapPoint (forms_by prepared_rules t) (point_of g.set.items (map scaled_of g.moves.items) t)) g.set.items
           (λ t i. to-prepared t (point_of g.set.items (map scaled_of g.moves.items) t) (h.moves t i)),
     )
 
-    pub shape-kept : HasGapShape p (forms_at p) (gap_of g) → HaveGapPoints preps g.set.items g.kept.items
+    pub shape-kept : HasGapShape p (forms_at p) (gap_of g) → HaveGapPoints prepared_rules g.set.items g.kept.items
     shape-kept h = (
       sym (length-map g.kept.items scaled_of) ∙ h.one_kept,
-      in-each (λ t. IsGapPoint (forms_by preps t) (point_of g.set.items (map scaled_of g.kept.items) t)) g.set.items
+      in-each (λ t. IsGapPoint (forms_by prepared_rules t) (point_of g.set.items (map scaled_of g.kept.items) t)) g.set.items
           (λ t i. to-prepared t (point_of g.set.items (map scaled_of g.kept.items) t) (h.kept t i)),
     )
 
-    pub shape-floor : HasGapShape p (forms_at p) (gap_of g) → IsGapPoint (forms_by preps g.rule) (scaled_of g.floor)
+    pub shape-floor : HasGapShape p (forms_at p) (gap_of g) → IsGapPoint (forms_by prepared_rules g.rule) (scaled_of g.floor)
     shape-floor h = to-prepared g.rule (scaled_of g.floor) h.floor
 
     -- where the set and the points are right, so is the shape
-    pub shape-whole : IsGapSet p (gap_of g) → HaveGapPoints preps g.set.items g.moves.items
-        → HaveGapPoints preps g.set.items g.kept.items → IsGapPoint (forms_by preps g.rule) (scaled_of g.floor)
+    pub shape-whole : IsGapSet p (gap_of g) → HaveGapPoints prepared_rules g.set.items g.moves.items
+        → HaveGapPoints prepared_rules g.set.items g.kept.items → IsGapPoint (forms_by prepared_rules g.rule) (scaled_of g.floor)
         → HasGapShape p (forms_at p) (gap_of g)
     shape-whole s m k f = record {
       ascending = s.ascending;
@@ -61,14 +61,14 @@ module _ (p : Program) (preps : List RuleRows) (rows : AreRowsOf preps p) where
       one_move = length-map g.moves.items scaled_of ∙ m.0;
       one_kept = length-map g.kept.items scaled_of ∙ k.0;
       moves = λ t i. from-prepared t (point_of g.set.items (map scaled_of g.moves.items) t) (each-in
-          (λ u. IsGapPoint (forms_by preps u) (point_of g.set.items (map scaled_of g.moves.items) u)) g.set.items m.1 t i);
+          (λ u. IsGapPoint (forms_by prepared_rules u) (point_of g.set.items (map scaled_of g.moves.items) u)) g.set.items m.1 t i);
       kept = λ t i. from-prepared t (point_of g.set.items (map scaled_of g.kept.items) t) (each-in
-          (λ u. IsGapPoint (forms_by preps u) (point_of g.set.items (map scaled_of g.kept.items) u)) g.set.items k.1 t i);
+          (λ u. IsGapPoint (forms_by prepared_rules u) (point_of g.set.items (map scaled_of g.kept.items) u)) g.set.items k.1 t i);
       floor = from-prepared g.rule (scaled_of g.floor) f;
     }
 
 -- what holds of a set and its points holds of the same lists
-pub same-points : (preps : List RuleRows) (xs ys : List ℕ) (zs ws : List Scaled) → xs ≡ ys → zs ≡ ws
-    → HaveGapPoints preps xs zs → HaveGapPoints preps ys ws
-same-points preps xs ys zs ws e f h =
-    subst (λ (vs : List Scaled). HaveGapPoints preps ys vs) f (subst (λ (ts : List ℕ). HaveGapPoints preps ts zs) e h)
+pub same-points : (prepared_rules : List RuleRows) (xs ys : List ℕ) (zs ws : List Scaled) → xs ≡ ys → zs ≡ ws
+    → HaveGapPoints prepared_rules xs zs → HaveGapPoints prepared_rules ys ws
+same-points prepared_rules xs ys zs ws e f h =
+    subst (λ (vs : List Scaled). HaveGapPoints prepared_rules ys vs) f (subst (λ (ts : List ℕ). HaveGapPoints prepared_rules ts zs) e h)

@@ -18,9 +18,9 @@ use Rattle.its_model.specs.poly_terms.declared.poly.Row.{Row}
 use Rattle.its_model.specs.poly_terms.Views.{form_of}
 use Rattle.farkas_cert.specs.Sizes.{AreParts, HasRowNumbers}
 use Rattle.guard_prep.specs.declared.rule_rows.RuleRows.{RuleRows}
-use Rattle.proof_tree.specs.proof_nodes.GapChecks.{value_at}
-use Rattle.proof_tree.specs.proof_nodes.Gaps.{ScaledPoint}
-use Rattle.gap_checks.specs.GapTests.{prep_in, forms_by_prep, forms_by}
+use Rattle.cert_types.specs.cert_rules.GapChecks.{value_at}
+use Rattle.cert_types.specs.cert_rules.Gaps.{ScaledPoint}
+use Rattle.gap_checks.specs.GapTests.{prepared_rule_in, forms_by_prepared_rule, forms_by}
 
 -- the coefficients of an unknown pick its part
 unknown-dot : (u : ℕ) (z : ℕ → ℤ) → list_dot (replicate u (pos 0) ++ (pos 1 ∷ [])) z ≡ z u
@@ -67,34 +67,34 @@ pub before-past : (place : ℕ) (z : ScaledPoint) → 1 ≤ place → length z.p
 before-past zero z l m = absurd (omega (arith, l))
 before-past (suc u) z l m = sym (before-is u z ∙ get_or_past z.parts u (pos 0) (omega (arith, m)))
 
--- a row that was found among the new values of what was prepared
-pub row-read : (m : RuleRows) (i : ℕ) (xs : List Row) (row : Row) → xs ≡ m.news.items → true ≡ nat_lt i (length xs)
-    → row ≡ get_or xs i row → (i < length m.news.items) × (row ≡ get_or m.news.items i row)
+-- a row that was found among the prepared new values
+pub row-read : (m : RuleRows) (i : ℕ) (xs : List Row) (row : Row) → xs ≡ m.new_values.items → true ≡ nat_lt i (length xs)
+    → row ≡ get_or xs i row → (i < length m.new_values.items) × (row ≡ get_or m.new_values.items i row)
 row-read m i xs row e l f = (
   subst (λ (ys : List Row). i < length ys) e (ltb-true i (length xs) (sym l)),
   subst (λ (ys : List Row). row ≡ get_or ys i row) e f,
 )
 
-module _ (preps : List RuleRows) (rule place : ℕ) (m : RuleRows) (row : Row) (e : Some m ≡ prep_in preps rule)
-    (l : place - 1 < length m.news.items) (r : row ≡ get_or m.news.items (place - 1) row) where
-  -- the new value of a place of what was prepared
-  pub new-is : 1 ≤ place → form_of row ≡ after_rule (forms_by preps rule) place
-  new-is k = subst (λ (o : Option RuleRows). form_of row ≡ after_rule (forms_by_prep o) place) e (here place k l r)
+module _ (prepared_rules : List RuleRows) (rule place : ℕ) (m : RuleRows) (row : Row) (e : Some m ≡ prepared_rule_in prepared_rules rule)
+    (l : place - 1 < length m.new_values.items) (r : row ≡ get_or m.new_values.items (place - 1) row) where
+  -- the prepared new value of a place
+  pub new-is : 1 ≤ place → form_of row ≡ after_rule (forms_by prepared_rules rule) place
+  new-is k = subst (λ (o : Option RuleRows). form_of row ≡ after_rule (forms_by_prepared_rule o) place) e (here place k l r)
     where
-      here : (i : ℕ) → 1 ≤ i → i - 1 < length m.news.items → row ≡ get_or m.news.items (i - 1) row
-          → form_of row ≡ after_rule (forms_by_prep (Some m)) i
+      here : (i : ℕ) → 1 ≤ i → i - 1 < length m.new_values.items → row ≡ get_or m.new_values.items (i - 1) row
+          → form_of row ≡ after_rule (forms_by_prepared_rule (Some m)) i
       here zero k l r = absurd (omega (arith, k))
       here (suc u) k l r =
           let before : suc u - 1 ≡ u = omega arith in
           ap form_of r
-          ∙ (sym (lists.get_or-map form_of m.news.items (suc u - 1) row zero_form l)
-          ∙ ap (λ (i : ℕ). get_or (map form_of m.news.items) i zero_form) before)
+          ∙ (sym (lists.get_or-map form_of m.new_values.items (suc u - 1) row zero_form l)
+          ∙ ap (λ (i : ℕ). get_or (map form_of m.new_values.items) i zero_form) before)
 
   -- its numbers are small where those of all new values are
-  pub new-small : All HasRowNumbers (forms_by preps rule).news → HasRowNumbers (form_of row)
+  pub new-small : All HasRowNumbers (forms_by prepared_rules rule).new_values → HasRowNumbers (form_of row)
   new-small h =
       subst HasRowNumbers
-      (lists.get_or-map form_of m.news.items (place - 1) row (form_of row) l ∙ ap form_of (sym r))
-      (All-get_or HasRowNumbers (map form_of m.news.items) (place - 1) (form_of row)
-      (omega (arith, l, length-map m.news.items form_of))
-      (subst (λ (o : Option RuleRows). All HasRowNumbers (forms_by_prep o).news) (sym e) h))
+      (lists.get_or-map form_of m.new_values.items (place - 1) row (form_of row) l ∙ ap form_of (sym r))
+      (All-get_or HasRowNumbers (map form_of m.new_values.items) (place - 1) (form_of row)
+      (omega (arith, l, length-map m.new_values.items form_of))
+      (subst (λ (o : Option RuleRows). All HasRowNumbers (forms_by_prepared_rule o).new_values) (sym e) h))

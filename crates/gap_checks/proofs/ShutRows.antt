@@ -5,8 +5,8 @@ use Rattle.std.specs.List.{AllWithin}
 use Rattle.std.proofs.Math.ListN.{set}
 use Rattle.std.proofs.lemmas.Bool.{cases_lt, ne_eqb}
 use Rattle.std.proofs.lemmas.List.{drop_more, drop_all, get_or_default, length-set, get_or-set_same, get_or-set_other}
-use Rattle.proof_tree.specs.AnswerViews.{shut_of}
-use Rattle.proof_tree.specs.proof_nodes.Gaps.{SymbolPlace, is_shut}
+use Rattle.cert_types.specs.AnswerViews.{shut_of}
+use Rattle.cert_types.specs.cert_rules.Gaps.{SymbolPlace, is_shut}
 use Rattle.gap_checks.specs.declared.touching.Touch.{Touch}
 use Rattle.gap_checks.specs.GapBalances.{AreClear, AreShutRows, AreWide, IsFirstOfSymbol, MarksFirst, flags_at}
 
@@ -23,19 +23,19 @@ or-next : (a b c : Bool) → ((a || b) || c) ≡ (a || (b || c))
 or-next true b c = refl
 or-next false b c = refl
 
-module _ (ts : List Touch) (spot : SymbolPlace) (first : ℕ) (old : List (List Bool))
-    (below : AllWithin (λ t. t.symbol < spot.symbol) ts 0 first) (wide : AreWide old) where
+module _ (ts : List Touch) (result_variable : SymbolPlace) (first : ℕ) (old : List (List Bool))
+    (below : AllWithin (λ t. t.symbol < result_variable.symbol) ts 0 first) (wide : AreWide old) where
   -- a symbol that isn't that of the place gets no flag
-  unmarked : (k i : ℕ) (d : Touch) → spot.symbol ≢ (get_or ts k d).symbol
+  unmarked : (k i : ℕ) (d : Touch) → result_variable.symbol ≢ (get_or ts k d).symbol
       → get_or (flags_at old k) i false
-      ≡ get_or (flags_at old k) i false || (nat_eq spot.symbol (get_or ts k d).symbol && nat_eq spot.place i)
+      ≡ get_or (flags_at old k) i false || (nat_eq result_variable.symbol (get_or ts k d).symbol && nat_eq result_variable.place i)
   unmarked k i d n =
-      sym (ap (λ (v : Bool). get_or (flags_at old k) i false || (v && nat_eq spot.place i))
-      (ne_eqb spot.symbol (get_or ts k d).symbol n)
-      ∙ or-none (get_or (flags_at old k) i false) (nat_eq spot.place i))
+      sym (ap (λ (v : Bool). get_or (flags_at old k) i false || (v && nat_eq result_variable.place i))
+      (ne_eqb result_variable.symbol (get_or ts k d).symbol n)
+      ∙ or-none (get_or (flags_at old k) i false) (nat_eq result_variable.place i))
 
   -- where no touch is of the symbol or of one behind it, there is nothing to mark
-  pub marks-none : length ts ≤ first → MarksFirst ts spot old old
+  pub marks-none : length ts ≤ first → MarksFirst ts result_variable old old
   marks-none l = record {
     long = refl;
     wide = wide;
@@ -43,11 +43,11 @@ module _ (ts : List Touch) (spot : SymbolPlace) (first : ℕ) (old : List (List 
   }
 
   -- else the first of those is marked, where it is of the symbol
-  pub marks-first : AllWithin (λ t. spot.symbol ≤ t.symbol) ts first (length ts) → (flags : List Bool) (t : Touch)
+  pub marks-first : AllWithin (λ t. result_variable.symbol ≤ t.symbol) ts first (length ts) → (flags : List Bool) (t : Touch)
       → first < length ts → first < length old → t ≡ get_or ts first t → length flags ≡ 33
       → ((i : ℕ) → i < 33 → get_or flags i false
-      ≡ get_or (flags_at old first) i false || (nat_eq spot.symbol t.symbol && nat_eq spot.place i))
-      → MarksFirst ts spot old (set old first flags)
+      ≡ get_or (flags_at old first) i false || (nat_eq result_variable.symbol t.symbol && nat_eq result_variable.place i))
+      → MarksFirst ts result_variable old (set old first flags)
   marks-first behind flags t l m e long h = record {
     long = length-set old first flags;
     wide = λ k n. wide-at k n (cases_lt k first) (cases_lt first k);
@@ -72,7 +72,7 @@ module _ (ts : List Touch) (spot : SymbolPlace) (first : ℕ) (old : List (List 
       each : (k i : ℕ) (d : Touch) → k < length ts → i < 33 → IsFirstOfSymbol ts k → (k < first) ⊎ (first ≤ k)
           → (first < k) ⊎ (k ≤ first)
           → get_or (flags_at (set old first flags) k) i false
-          ≡ get_or (flags_at old k) i false || (nat_eq spot.symbol (get_or ts k d).symbol && nat_eq spot.place i)
+          ≡ get_or (flags_at old k) i false || (nat_eq result_variable.symbol (get_or ts k d).symbol && nat_eq result_variable.place i)
       each k i d n o f (inl a) c =
           ap (λ (xs : List Bool). get_or xs i false) (other k (λ e. omega (arith, e, a)))
           ∙ unmarked k i d (λ e. omega (arith, e, below k d (omega arith) a))
@@ -81,13 +81,13 @@ module _ (ts : List Touch) (spot : SymbolPlace) (first : ℕ) (old : List (List 
           ∙ unmarked k i d (λ e. omega (arith, e, f first d d c, behind first d (omega arith) l))
       each k i d n o f (inr a) (inr c) =
           subst (λ (j : ℕ). get_or (flags_at (set old first flags) j) i false
-          ≡ get_or (flags_at old j) i false || (nat_eq spot.symbol (get_or ts j d).symbol && nat_eq spot.place i))
+          ≡ get_or (flags_at old j) i false || (nat_eq result_variable.symbol (get_or ts j d).symbol && nat_eq result_variable.place i))
           (let same : first ≡ k = omega (arith, a, c) in same)
           (ap (λ (xs : List Bool). get_or xs i false) (get_or-set_same old first flags [] m)
           ∙ (h i o ∙ ap (λ (u : Touch). get_or (flags_at old first) i false
-          || (nat_eq spot.symbol u.symbol && nat_eq spot.place i)) (e ∙ get_or_default ts first t d l)))
+          || (nat_eq result_variable.symbol u.symbol && nat_eq result_variable.place i)) (e ∙ get_or_default ts first t d l)))
 
--- the flags after the shut places before one: with what the others set they are what all set
+-- the flags after the first n shut places: together with the remaining ones they give the shut places of the whole list
 pub record AreMarkedBefore (ts : List Touch) (shut : List (ℕ × ℕ)) (n : ℕ) (rows : List (List Bool)) : Type 0 where
   pub long : length rows ≡ length ts
   pub wide : AreWide rows
@@ -108,27 +108,27 @@ module _ (ts : List Touch) (shut : List (ℕ × ℕ)) where
   }
 
   -- one shut place more
-  pub marked-more : (n : ℕ) (spot : ℕ × ℕ) (old new : List (List Bool)) → n < length shut → spot ≡ get_or shut n spot
-      → MarksFirst ts (shut_of spot) old new → AreMarkedBefore ts shut n old → AreMarkedBefore ts shut (n + 1) new
-  marked-more n spot old new l e h a = record {
+  pub marked-more : (n : ℕ) (result_variable : ℕ × ℕ) (old new : List (List Bool)) → n < length shut → result_variable ≡ get_or shut n result_variable
+      → MarksFirst ts (shut_of result_variable) old new → AreMarkedBefore ts shut n old → AreMarkedBefore ts shut (n + 1) new
+  marked-more n result_variable old new l e h a = record {
     long = h.long ∙ a.long;
     wide = h.wide;
     each = λ k i d o m f.
         ap (λ (v : Bool). v || is_shut (map shut_of (drop (n + 1) shut)) (get_or ts k d).symbol i) (h.each k i d o m f)
-        ∙ (or-next (get_or (flags_at old k) i false) (told spot (get_or ts k d).symbol i)
+        ∙ (or-next (get_or (flags_at old k) i false) (told result_variable (get_or ts k d).symbol i)
         (is_shut (map shut_of (drop (n + 1) shut)) (get_or ts k d).symbol i)
         ∙ (ap (λ (v : Bool). get_or (flags_at old k) i false || v) (sym (next (get_or ts k d).symbol i))
         ∙ a.each k i d o m f));
   }
     where
-      -- a shut place is this place of the symbol
+      -- whether a shut place is this place of the symbol
       told : ℕ × ℕ → ℕ → ℕ → Bool
       told c s i = nat_eq (shut_of c).symbol s && nat_eq (shut_of c).place i
 
       next : (s i : ℕ) → is_shut (map shut_of (drop n shut)) s i
-          ≡ told spot s i || is_shut (map shut_of (drop (n + 1) shut)) s i
+          ≡ told result_variable s i || is_shut (map shut_of (drop (n + 1) shut)) s i
       next s i =
-          ap (λ (cs : List (ℕ × ℕ)). is_shut (map shut_of cs) s i) (drop_more shut n spot l)
+          ap (λ (cs : List (ℕ × ℕ)). is_shut (map shut_of cs) s i) (drop_more shut n result_variable l)
           ∙ ap (λ (c : ℕ × ℕ). told c s i || is_shut (map shut_of (drop (n + 1) shut)) s i) (sym e)
 
   -- behind the last all are set

@@ -12,9 +12,9 @@ use Rattle.std.proofs.lemmas.List.{drop_more, length-set, get_or-set_same, get_o
 use Rattle.std.proofs.lemmas.List.{get_or-replicate}
 use Rattle.farkas_cert.specs.model.Programs.{Program, arity_of}
 use Rattle.farkas_cert.proofs.Products.{sum-le, moved, all_done}
-use Rattle.proof_tree.specs.proof_setting.RankedSets.{forms_at}
-use Rattle.proof_tree.specs.proof_nodes.GapChecks.{net}
-use Rattle.proof_tree.specs.proof_nodes.Gaps.{Gap}
+use Rattle.cert_types.specs.cert_program.RankedSets.{forms_at}
+use Rattle.cert_types.specs.cert_rules.GapChecks.{net}
+use Rattle.cert_types.specs.cert_rules.Gaps.{Gap}
 use Rattle.gap_checks.specs.declared.touching.Group.{Group}
 use Rattle.gap_checks.specs.declared.touching.Touch.{Touch}
 use Rattle.gap_checks.specs.GapTests.{coefficient_at, near_value_limit}
@@ -46,7 +46,7 @@ opposite-read r h =
     ap (λ (x : ℤ). to_z w128 (of_z w128 (pos 0 -ℤ x))) (to_z-of_z w128 r (fits_signed_from_abs w128 r (omega (arith, h))))
     ∙ to_z-of_z w128 (pos 0 -ℤ r) (fits_signed_from_abs w128 (pos 0 -ℤ r) (omega (arith, ints, h)))
 
--- the sums of the places before one have what a touch has there, and the others stand as they did
+-- the sums of the places before one have grown by what a touch has there, and the others are unchanged
 pub record AreAddedBefore (f : ℕ → ℤ) (place : ℕ) (old new : List ℤ) : Type 0 where
   pub long : length new ≡ length old
   pub each : (k : ℕ) → k < place → sum_at new k ≡ sum_at old k +ℤ f k

@@ -7,11 +7,11 @@ use Rattle.farkas_cert.specs.model.Programs.{Program, Rule}
 use Rattle.farkas_cert.proofs.model.Membership.{same_number}
 use Rattle.its_model.specs.Valid.{IsValid}
 use Rattle.its_model.proofs.ValidLaws.{rule-valid}
-use Rattle.proof_tree.specs.proof_setting.RankedSets.{forms_in, forms_at}
-use Rattle.proof_tree.specs.proof_nodes.AcceptsPlain.{IsRule}
-use Rattle.proof_tree.specs.proof_nodes.GapChecks.{balanced_at}
-use Rattle.proof_tree.specs.proof_nodes.Gaps.{Gap}
-use Rattle.proof_tree.specs.proof_nodes.Graph.{touches}
+use Rattle.cert_types.specs.cert_program.RankedSets.{forms_in, forms_at}
+use Rattle.cert_types.specs.cert_rules.AcceptsPlain.{IsRule}
+use Rattle.cert_types.specs.cert_rules.GapChecks.{balanced_at}
+use Rattle.cert_types.specs.cert_rules.Gaps.{Gap}
+use Rattle.cert_types.specs.cert_rules.Graph.{touches}
 use Rattle.gap_checks.specs.declared.touching.Group.{Group}
 use Rattle.gap_checks.specs.declared.touching.Way.{Way}
 use Rattle.gap_checks.specs.declared.touching.Way.TheVariants.{Leaves, Arrives}

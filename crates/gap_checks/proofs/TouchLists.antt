@@ -11,9 +11,9 @@ use Rattle.std.proofs.lemmas.List.Sorted.{All-permutation, length_permutation, l
 use Rattle.farkas_cert.specs.linear_forms.RuleQuestions.{RuleForms}
 use Rattle.farkas_cert.specs.model.Paths.{source_in, source_of, same_symbol}
 use Rattle.farkas_cert.specs.model.Programs.{Program, Rule}
-use Rattle.proof_tree.specs.proof_setting.RankedSets.{forms_in, forms_at}
-use Rattle.proof_tree.specs.proof_nodes.AcceptsPlain.{IsRule}
-use Rattle.proof_tree.specs.proof_nodes.Graph.{touches}
+use Rattle.cert_types.specs.cert_program.RankedSets.{forms_in, forms_at}
+use Rattle.cert_types.specs.cert_rules.AcceptsPlain.{IsRule}
+use Rattle.cert_types.specs.cert_rules.Graph.{touches}
 use Rattle.gap_checks.specs.declared.touching.Way.{Way}
 use Rattle.gap_checks.specs.declared.touching.Way.TheVariants.{Leaves, Arrives}
 use Rattle.gap_checks.specs.declared.touching.Touch.{Touch}
@@ -30,7 +30,7 @@ abbrev pub symbol_by : Way → RuleForms → ℕ
 symbol_by Leaves r = r.source
 symbol_by Arrives r = r.target
 
--- a touch is of a rule of a set that has so many, and of the symbol that the rule leaves or leads to
+-- a touch is of a rule of a set that has this many, and of the symbol that the rule leaves or leads to
 abbrev pub IsTouchOf : (ℕ → RuleForms) → List ℕ → Touch → Type 0
 IsTouchOf rule set t = (t.position < length set) × (t.symbol ≡ symbol_by t.way (rule (rule_in set t.position)))
 
@@ -95,7 +95,7 @@ module _ (rule : ℕ → RuleForms) (set : List ℕ) where
   touches-count (suc n) i = omega (arith, touches-count n (i + 1))
 
   module _ (ts : List Touch) (h : AreTouches rule set ts) where
-    -- so of those in order
+    -- the same for those in order
     pub touch-real : (k : ℕ) (d : Touch) → k < length ts → IsTouchOf rule set (get_or ts k d)
     touch-real k d l =
         All-get_or (IsTouchOf rule set) ts k d l
@@ -141,7 +141,7 @@ module _ (p : Program) (set : List ℕ) (rules : AreRules p set) (s : ℕ) where
       sym (list_any-IsPermutation (is_of s) (touches_from (forms_at p) set 0 (length set)) ts h.all)
       ∙ touched-from (length set) 0 (omega arith)
 
--- where one of a list passes a test, it stands at a position
+-- where some element of a list passes a test, it has a position
 pub any-at : {A : Type 0} (test : A → Bool) (d : A) (xs : List A) → list_any test xs ≡ true
     → (k : ℕ) × (k < length xs) × (test (get_or xs k d) ≡ true)
 any-at test d [] h = absurd (let no : ⊥ = cc in no)

@@ -13,9 +13,9 @@ use Rattle.std.proofs.lemmas.List.Sorted.{sum_by-IsPermutation}
 use Rattle.farkas_cert.specs.declared.scaled.Scaled.{Scaled}
 use Rattle.farkas_cert.specs.linear_forms.Combinations.{zero_form}
 use Rattle.farkas_cert.specs.linear_forms.RuleQuestions.{RuleForms, Coefficient, at_source, at_target, before_rule, after_rule}
-use Rattle.proof_tree.specs.proof_nodes.GapChecks.{value_at, net}
-use Rattle.proof_tree.specs.proof_nodes.Gaps.{ScaledPoint}
-use Rattle.proof_tree.specs.AnswerViews.{scaled_of}
+use Rattle.cert_types.specs.cert_rules.GapChecks.{value_at, net}
+use Rattle.cert_types.specs.cert_rules.Gaps.{ScaledPoint}
+use Rattle.cert_types.specs.AnswerViews.{scaled_of}
 use Rattle.gap_checks.specs.declared.touching.Group.{Group}
 use Rattle.gap_checks.specs.declared.touching.Way.{Way}
 use Rattle.gap_checks.specs.declared.touching.Way.TheVariants.{Leaves, Arrives}

@@ -3,10 +3,10 @@ use Rattle.std.specs.Prelude.{◌≡◌, ℕ, ◌+◌, ◌*◌, ◌<◌, ◌≤�
 use Rattle.std.specs.Prelude.{slice_index_or, ℤ, pos, ◌+ℤ◌, unsigned_abs}
 use Rattle.farkas_cert.specs.model.Programs.{Program, arity_of}
 use Rattle.its_model.specs.Views.{program_of}
-use Rattle.proof_tree.specs.Composing.{AreRowsOf}
-use Rattle.proof_tree.specs.proof_nodes.GapChecks.{net}
-use Rattle.proof_tree.specs.proof_nodes.Gaps.{Gap, SymbolPlace}
-use Rattle.proof_tree.specs.proof_setting.RankedSets.{forms_at}
+use Rattle.cert_types.specs.Composing.{AreRowsOf}
+use Rattle.cert_types.specs.cert_rules.GapChecks.{net}
+use Rattle.cert_types.specs.cert_rules.Gaps.{Gap, SymbolPlace}
+use Rattle.cert_types.specs.cert_program.RankedSets.{forms_at}
 use Rattle.gap_checks.specs.declared.program_rules.Rules.{Rules}
 use Rattle.gap_checks.specs.declared.touching.Touch.{Touch}
 use Rattle.gap_checks.specs.GapTests.{coefficient_at, near_value_limit, AreShutFlags}
@@ -18,7 +18,7 @@ program rules = program_of rules.program.now
 
 -- what was prepared is that of the program's rules
 abbrev pub ArePrepared : Rules → Type 0
-ArePrepared rules = AreRowsOf rules.preps.now (program rules)
+ArePrepared rules = AreRowsOf rules.prepared_rules.now (program rules)
 
 -- the sum of a place
 abbrev pub sum_at : List ℤ → ℕ → ℤ
@@ -67,10 +67,10 @@ abbrev pub AreClear : List (List Bool) → Type 0
 AreClear rows = (k i : ℕ) → k < length rows → i < 33 → slice_index_or (flags_at rows k) i false ≡ false
 
 -- the flag of a place of a symbol was set at the first touch of that symbol
-pub record MarksFirst (touches : List Touch) (spot : SymbolPlace) (old new : List (List Bool)) : Type 0 where
+pub record MarksFirst (touches : List Touch) (result_variable : SymbolPlace) (old new : List (List Bool)) : Type 0 where
   pub long : length new ≡ length old
   pub wide : AreWide new
   pub each : (k i : ℕ) (d : Touch) → k < length touches → i < 33 → IsFirstOfSymbol touches k
       → slice_index_or (flags_at new k) i false
       ≡ slice_index_or (flags_at old k) i false
-      || (nat_eq spot.symbol (slice_index_or touches k d).symbol && nat_eq spot.place i)
+      || (nat_eq result_variable.symbol (slice_index_or touches k d).symbol && nat_eq result_variable.place i)

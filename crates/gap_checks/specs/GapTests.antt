@@ -1,4 +1,4 @@
--- What finding the first fault of a gap meets: points with small numbers, the rows and new values that were prepared of a
+-- Preconditions of finding the first fault of a gap: points with small numbers, the prepared rows and new values of a
 -- rule, and the first element of a list that fails.
 use Rattle.std.specs.Prelude.{◌≡◌, ◌⊎◌, ℕ, zero, suc, ◌≤◌, true, false, List, [], ◌∷◌, length, option_map, Option, Some, None}
 use Rattle.std.specs.Prelude.{slice_get, slice_index_or, ◌<◌, ◌*◌, ◌^◌, Bool, pos, map, filter, not}
@@ -11,28 +11,28 @@ use Rattle.farkas_cert.specs.Sizes.{AreParts, HasRowNumbers}
 use Rattle.farkas_cert.specs.declared.scaled.Scaled.{Scaled}
 use Rattle.guard_prep.specs.declared.rule_rows.RuleRows.{RuleRows}
 use Rattle.guard_prep.specs.Views.{prepared_of}
-use Rattle.proof_tree.specs.proof_nodes.AcceptsPlain.{IsRule}
-use Rattle.proof_tree.specs.proof_setting.RankedSets.{forms_of, forms_at}
-use Rattle.proof_tree.specs.proof_nodes.GapChecks.{IsGapPoint, point_of, balance, balanced}
-use Rattle.proof_tree.specs.proof_nodes.Gaps.{ScaledPoint}
-use Rattle.proof_tree.specs.proof_nodes.Gaps as plain
-use Rattle.proof_tree.specs.proof_nodes.Numbers.{IsAscending}
+use Rattle.cert_types.specs.cert_rules.AcceptsPlain.{IsRule}
+use Rattle.cert_types.specs.cert_program.RankedSets.{forms_of, forms_at}
+use Rattle.cert_types.specs.cert_rules.GapChecks.{IsGapPoint, point_of, balance, balanced}
+use Rattle.cert_types.specs.cert_rules.Gaps.{ScaledPoint}
+use Rattle.cert_types.specs.cert_rules.Gaps as plain
+use Rattle.cert_types.specs.cert_rules.Numbers.{IsAscending}
 use Rattle.std.specs.List.{All, AllByRecursion, range_with_len}
-use Rattle.proof_tree.specs.AnswerViews.{scaled_of}
+use Rattle.cert_types.specs.AnswerViews.{scaled_of}
 
--- what was prepared of the rule with a number; rules count from 1
-abbrev pub prep_in : List RuleRows → ℕ → Option RuleRows
-prep_in preps zero = None
-prep_in preps (suc t) = slice_get preps t
+-- the prepared rows of the rule with a number; rules count from 1
+abbrev pub prepared_rule_in : List RuleRows → ℕ → Option RuleRows
+prepared_rule_in prepared_rules zero = None
+prepared_rule_in prepared_rules (suc t) = slice_get prepared_rules t
 
--- the forms of a rule of which this was prepared, but for its symbols
-abbrev pub forms_by_prep : Option RuleRows → RuleForms
-forms_by_prep None = record { source = 0; target = 0; left = 0; unknowns = 0; rows = []; news = [] }
-forms_by_prep (Some m) = forms_of 0 0 (prepared_of m)
+-- the forms of a rule with these prepared rows, except for its symbols
+abbrev pub forms_by_prepared_rule : Option RuleRows → RuleForms
+forms_by_prepared_rule None = record { source = 0; target = 0; left = 0; unknowns = 0; rows = []; new_values = [] }
+forms_by_prepared_rule (Some m) = forms_of 0 0 (prepared_of m)
 
 -- and of the rule with a number
 abbrev pub forms_by : List RuleRows → ℕ → RuleForms
-forms_by preps t = forms_by_prep (prep_in preps t)
+forms_by prepared_rules t = forms_by_prepared_rule (prepared_rule_in prepared_rules t)
 
 -- a point with at most 128 parts and numbers within the limit
 pub record IsNear (z : ScaledPoint) : Type 0 where
@@ -48,13 +48,13 @@ pub record AreNearPoints (set : List ℕ) (zs : List ScaledPoint) : Type 0 where
 
 -- there is a scaled point for each rule of a set, with a part for each of the rule's unknowns and numbers within the limit
 abbrev pub HaveGapPoints : List RuleRows → List ℕ → List Scaled → Type 0
-HaveGapPoints preps set zs = (length zs ≡ length set)
-    × AllByRecursion (λ t. IsGapPoint (forms_by preps t) (point_of set (map scaled_of zs) t)) set
+HaveGapPoints prepared_rules set zs = (length zs ≡ length set)
+    × AllByRecursion (λ t. IsGapPoint (forms_by prepared_rules t) (point_of set (map scaled_of zs) t)) set
 
 -- the rows and the new values of each rule have small numbers
-pub record HaveSmallRows (preps : List RuleRows) : Type 0 where
-  pub rows : (t : ℕ) → All HasRowNumbers (forms_by preps t).rows
-  pub news : (t : ℕ) → All HasRowNumbers (forms_by preps t).news
+pub record HaveSmallRows (prepared_rules : List RuleRows) : Type 0 where
+  pub rows : (t : ℕ) → All HasRowNumbers (forms_by prepared_rules t).rows
+  pub new_values : (t : ℕ) → All HasRowNumbers (forms_by prepared_rules t).new_values
 
 -- an element is the first of a list that fails: all before it hold
 abbrev pub IsFirstFailing : {A : Type 0} → (A → Type 0) → List A → A → Type 0
@@ -62,8 +62,8 @@ IsFirstFailing P [] y = ⊥
 IsFirstFailing P (x ∷ xs) y = (¬ P x × (x ≡ y)) ⊎ (P x × IsFirstFailing P xs y)
 
 -- what was found, as it is
-abbrev pub optional_prep : Option (Bor RuleRows) → Option RuleRows
-optional_prep o = option_map (λ m. m.now) o
+abbrev pub optional_prepared_rule : Option (Bor RuleRows) → Option RuleRows
+optional_prepared_rule o = option_map (λ m. m.now) o
 
 -- a place of a symbol
 abbrev pub coefficient_at : ℕ → ℕ → Coefficient
@@ -82,13 +82,13 @@ pub record AreShutFlags (flags : List Bool) (shut : List plain.SymbolPlace) (sym
 abbrev pub IsBalanced : Program → plain.Gap → Coefficient → Type 0
 IsBalanced p g c = balance (forms_at p) g c ≡ pos 0
 
--- the places of a symbol that have a balance: place 0, and each that isn't shut
+-- the places of a symbol that need a balance: place 0, and each that isn't shut
 abbrev pub places_at : Program → plain.Gap → ℕ → List Coefficient
 places_at p g s =
     map (λ i. record { symbol = s; place = i })
     (0 ∷ filter (λ i. not (plain.is_shut g.shut s i)) (range_with_len 1 (arity_of p s)))
 
--- what was found is the first place, by symbols and then by places, that isn't shut and isn't balanced
+-- the answer is the first place, by symbols and then by places, that isn't shut and isn't balanced
 abbrev pub IsFirstUnbalanced : Program → plain.Gap → Option (ℕ × ℕ) → Type 0
 IsFirstUnbalanced p g None = AllByRecursion (IsBalanced p g) (balanced p g)
 IsFirstUnbalanced p g (Some c) = IsFirstFailing (IsBalanced p g) (balanced p g) (coefficient_at c.0 c.1)

@@ -1,13 +1,13 @@
--- The touches of a set: each time that one of its rules leaves a symbol or leads to it.
+-- The touches of a set: each occurrence of a symbol as the source or the target of one of its rules.
 use Rattle.std.specs.Prelude.{◌≡◌, ℕ, zero, suc, ◌+◌, ◌<◌, ◌≤◌, true, List, [], ◌∷◌, length, slice_index_or, ℤ, pos, ◌-ℤ◌}
 use Rattle.std.specs.List.{AllWithin}
 use Rattle.std.specs.List.Sorted.{IsNonDecreasingBy, IsPermutation}
 use Rattle.farkas_cert.specs.linear_forms.RuleQuestions.{RuleForms, Coefficient, at_source, at_target}
 use Rattle.farkas_cert.specs.model.Entries.{is_in}
 use Rattle.farkas_cert.specs.model.Programs.{Program}
-use Rattle.proof_tree.specs.proof_nodes.AcceptsPlain.{IsRule}
-use Rattle.proof_tree.specs.proof_nodes.GapChecks.{value_at}
-use Rattle.proof_tree.specs.proof_nodes.Gaps.{ScaledPoint}
+use Rattle.cert_types.specs.cert_rules.AcceptsPlain.{IsRule}
+use Rattle.cert_types.specs.cert_rules.GapChecks.{value_at}
+use Rattle.cert_types.specs.cert_rules.Gaps.{ScaledPoint}
 use Rattle.gap_checks.specs.declared.touching.Group.{Group}
 use Rattle.gap_checks.specs.declared.touching.Way.{Way}
 use Rattle.gap_checks.specs.declared.touching.Way.TheVariants.{Leaves, Arrives}
@@ -33,7 +33,7 @@ leaving_touch rule set i = record { symbol = (rule (rule_in set i)).source; posi
 abbrev pub arriving_touch : (ℕ → RuleForms) → List ℕ → ℕ → Touch
 arriving_touch rule set i = record { symbol = (rule (rule_in set i)).target; position = i; way = Arrives }
 
--- the touches of so many rules of a set, from a position on
+-- the touches of this many rules of a set, from a position on
 abbrev pub touches_from : (ℕ → RuleForms) → List ℕ → ℕ → ℕ → List Touch
 touches_from rule set i zero = []
 touches_from rule set i (suc n) = leaving_touch rule set i ∷ arriving_touch rule set i ∷ touches_from rule set (i + 1) n

@@ -1,4 +1,4 @@
-//! Which balance of a gap isn't 0.
+//! Finds the first balance of a gap that isn't 0.
 
 ghost use Rattle.std.specs.Prelude.{◌≡◌, ◌≢◌, ℕ, ◌+◌, ◌*◌, ◌<◌, ◌≤◌, length, map, pos, MatchOption, slice_index_or};
 ghost use Rattle.std.specs.Prelude.{IsTrue, ◌↔◌, ◌⊎◌, false, unsigned_abs};
@@ -6,10 +6,10 @@ ghost use Rattle.std.specs.List.{AllByRecursion};
 ghost use Rattle.its_model.specs.Valid.{IsValid};
 ghost use Rattle.its_model.specs.Views.{program_of};
 ghost use Rattle.farkas_cert.specs.model.Programs.{arity_of};
-ghost use Rattle.proof_tree.specs.proof_setting.RankedSets.{forms_at};
-ghost use Rattle.proof_tree.specs.proof_nodes.GapChecks.{HasGapShape, balance};
-ghost use Rattle.proof_tree.specs.AnswerViews.{gap_of};
-ghost use Rattle.proof_tree.specs.Composing.{AreRowsOf};
+ghost use Rattle.cert_types.specs.cert_program.RankedSets.{forms_at};
+ghost use Rattle.cert_types.specs.cert_rules.GapChecks.{HasGapShape, balance};
+ghost use Rattle.cert_types.specs.AnswerViews.{gap_of};
+ghost use Rattle.cert_types.specs.Composing.{AreRowsOf};
 ghost use Rattle.gap_checks.specs.GapTests.{IsFirstFailing, coefficient_at, near_value_limit, IsBalanced, places_at};
 ghost use Rattle.gap_checks.specs.GapTests.{AreShutFlags, IsFirstUnbalanced};
 ghost use Rattle.gap_checks.specs.GapBalances.{AddsTouch, AreNets, ArePrepared, AreShutRows, AreSums, program};
@@ -20,9 +20,9 @@ use crate::program_rules::Rules;
 use crate::rule_numbers::arity_at;
 use crate::shut_places::mark_shut;
 use crate::touching::{Group, Touch, Way, group_at, no_touch, order_touches};
+use cert_types::Gap;
 use guard_prep::RuleRows;
 use its_model::Program;
-use proof_tree::Gap;
 
 // The number of places of a symbol of a valid program, of which there are few.
 fn places_of(p: &Program, symbol: u32) -> u32
@@ -32,7 +32,7 @@ fn places_of(p: &Program, symbol: u32) -> u32
     arity_at(p, symbol)
 }
 
-// What a touch has in the balance of a place of its symbol, by the moves.
+// The share of a touch in the balance of a place of its symbol, by the moves.
 fn share_at(rules: &Rules, g: &Gap, touch: &Touch, place: u32) -> i128
     requires valid { IsValid (program rules.now) }
     requires rows { ArePrepared rules.now }
@@ -50,7 +50,7 @@ fn share_at(rules: &Rules, g: &Gap, touch: &Touch, place: u32) -> i128
     }
 }
 
-// Adds what a touch has in the balance of each place of its symbol.
+// Adds the share of a touch in the balance of each place of its symbol.
 fn add_touch(sums: &mut [i128], rules: &Rules, g: &Gap, touch: &Touch)
     requires valid { IsValid (program rules.now) }
     requires rows { ArePrepared rules.now }
@@ -81,8 +81,8 @@ fn nets_of(rules: &Rules, g: &Gap, touches: &[Touch], group: &Group) -> [i128; 3
     sums
 }
 
-// The balance of a place of a symbol: what leaves it by the moves, less what arrives there, and what the floor has
-// there where the strict rule leaves the symbol.
+// The balance of a place of a symbol: what leaves it by the moves, minus what arrives there, plus the floor's share
+// where the strict rule leaves the symbol.
 fn balance_at(p: &Program, g: &Gap, nets: &[i128], symbol: u32, place: u32) -> i128
     requires valid { IsValid (program_of p.now) }
     requires shape { HasGapShape (program_of p.now) (forms_at (program_of p.now)) (gap_of g.now) }
@@ -94,7 +94,7 @@ fn balance_at(p: &Program, g: &Gap, nets: &[i128], symbol: u32, place: u32) -> i
     nets[place as usize] + leaving(p, g.rule, &g.floor, symbol, place)
 }
 
-// Whether a place has a balance, being place 0 or one whose flag doesn't say that it is shut, and this isn't 0.
+// Whether a place is unbalanced: its balance isn't 0, and it is place 0 or has no flag of a shut place.
 fn is_off(balance: i128, shut: &[bool], place: u32) -> bool
     requires flags { length shut.now ≡ 33 }
     requires few { place ≤ 32 }
@@ -107,7 +107,7 @@ fn is_off(balance: i128, shut: &[bool], place: u32) -> bool
     place == 0 || !shut[place as usize]
 }
 
-// The first place of a symbol that isn't shut and isn't balanced, the constant, place 0, before all others.
+// The first place of a symbol that isn't shut and isn't balanced; the constant (place 0) comes before all others.
 fn first_place(p: &Program, g: &Gap, nets: &[i128], shut: &[bool], symbol: u32) -> Option<u32>
     requires valid { IsValid (program_of p.now) }
     requires shape { HasGapShape (program_of p.now) (forms_at (program_of p.now)) (gap_of g.now) }
@@ -128,7 +128,7 @@ fn first_place(p: &Program, g: &Gap, nets: &[i128], shut: &[bool], symbol: u32) 
     None
 }
 
-// The first place that isn't shut and isn't balanced, of the symbols of these touches.
+// The first place that isn't shut and isn't balanced, among the symbols of these touches.
 fn first_of_touches(
     rules: &Rules,
     g: &Gap,
@@ -156,8 +156,8 @@ fn first_of_touches(
     None
 }
 
-// The first place that isn't shut and isn't balanced, with room for two touches of each rule of the set, and for flags of
-// each. What stands there makes no difference.
+// The first place that isn't shut and isn't balanced, with room for two touches of each rule of the set, and for the
+// flags of each. The earlier contents of this room make no difference.
 fn first_within(
     rules: &Rules,
     g: &Gap,
@@ -194,16 +194,23 @@ fn first_in(
     first_within(rules, g, &mut touches[..count], &mut rows[..count])
 }
 
-/// The first place that isn't shut and isn't balanced, by symbols and then by places, the constant of a symbol, place 0,
-/// before its places. The time is near-linear in the gap: each new value of a move is taken once, and each shut place is
-/// looked up once among the touches of the set, which are sorted. A small set takes less room.
-pub(crate) fn first_unbalanced(p: &Program, preps: &[RuleRows], g: &Gap) -> Option<(u32, u32)>
+/// The first place that isn't shut and isn't balanced, by symbols and then by places, with the constant of a symbol
+/// (place 0) before its places. The time is near-linear in the gap: each new value of a move is computed once, and each
+/// shut place is looked up once among the touches of the set, which are sorted. A small set takes less room.
+pub(crate) fn first_unbalanced(
+    p: &Program,
+    prepared_rules: &[RuleRows],
+    g: &Gap,
+) -> Option<(u32, u32)>
     requires valid { IsValid (program_of p.now) }
-    requires rows { AreRowsOf preps.now (program_of p.now) }
+    requires rows { AreRowsOf prepared_rules.now (program_of p.now) }
     requires shape { HasGapShape (program_of p.now) (forms_at (program_of p.now)) (gap_of g.now) }
     ensures { IsFirstUnbalanced (program_of p.now) (gap_of g.now) result }
 {
-    let rules = Rules { program: p, preps };
+    let rules = Rules {
+        program: p,
+        prepared_rules,
+    };
     if g.set.len() <= 16 {
         return first_in(&rules, g, &mut [no_touch(); 32], &mut [[false; 33]; 32]);
     }

@@ -1,50 +1,54 @@
-//! Which point of a gap is off the rows of its rule.
+//! Finds the first point of a gap that isn't on the rows of its rule.
 
 ghost use Rattle.std.specs.Prelude.{◌≡◌, ◌↔◌, length, map, All, IsTrue, MatchOption, pos, ◌≤ℤ◌};
 ghost use Rattle.std.specs.List.{AllByRecursion};
 ghost use Rattle.farkas_cert.specs.Sizes.{HasRowNumbers};
-ghost use Rattle.proof_tree.specs.proof_nodes.GapChecks.{MeetsAt, IsPointOf, point_of};
-ghost use Rattle.proof_tree.specs.AnswerViews.{scaled_of};
-ghost use Rattle.gap_checks.specs.GapTests.{prep_in, forms_by, optional_prep, IsNear, AreNearPoints};
+ghost use Rattle.cert_types.specs.cert_rules.GapChecks.{MeetsAt, IsPointOf, point_of};
+ghost use Rattle.cert_types.specs.AnswerViews.{scaled_of};
+ghost use Rattle.gap_checks.specs.GapTests.{prepared_rule_in, forms_by, optional_prepared_rule, IsNear, AreNearPoints};
 ghost use Rattle.gap_checks.specs.GapTests.{HaveSmallRows, IsFirstFailing};
 
 use farkas_cert::{Scaled, on_rows};
 use guard_prep::RuleRows;
 
-/// What was prepared of a rule; rules count from 1.
-pub(crate) fn prep_at(preps: &[RuleRows], rule: u32) -> Option<&RuleRows>
-    ensures { optional_prep result ≡ prep_in preps.now rule }
+/// The prepared rows of a rule; rules count from 1.
+pub(crate) fn prepared_rule_at(prepared_rules: &[RuleRows], rule: u32) -> Option<&RuleRows>
+    ensures { optional_prepared_rule result ≡ prepared_rule_in prepared_rules.now rule }
 {
     if rule == 0 {
         return None;
     }
-    preps.get(rule as usize - 1)
+    prepared_rules.get(rule as usize - 1)
 }
 
 /// Whether a scaled point is a point or a ray of the rows of a rule.
-pub(crate) fn is_met(preps: &[RuleRows], rule: u32, z: &Scaled) -> bool
-    requires rows { All HasRowNumbers (forms_by preps.now rule).rows }
+pub(crate) fn is_met(prepared_rules: &[RuleRows], rule: u32, z: &Scaled) -> bool
+    requires rows { All HasRowNumbers (forms_by prepared_rules.now rule).rows }
     requires near { IsNear (scaled_of z.now) }
-    ensures { IsTrue result ↔ MeetsAt (forms_by preps.now rule).rows (scaled_of z.now) }
+    ensures { IsTrue result ↔ MeetsAt (forms_by prepared_rules.now rule).rows (scaled_of z.now) }
 {
-    match prep_at(preps, rule) {
-        Some(prep) => on_rows(&prep.rows, z),
+    match prepared_rule_at(prepared_rules, rule) {
+        Some(prepared_rule) => on_rows(&prepared_rule.rows, z),
         None => true,
     }
 }
 
-/// The first rule of the set whose point isn't one of its rows, nor a ray of them.
-pub(crate) fn first_off(preps: &[RuleRows], set: &[u32], moves: &[Scaled]) -> Option<u32>
-    requires rows { HaveSmallRows preps.now }
+/// The first rule of the set whose move is neither a point nor a ray of its rows.
+pub(crate) fn first_wrong_move(
+    prepared_rules: &[RuleRows],
+    set: &[u32],
+    moves: &[Scaled],
+) -> Option<u32>
+    requires rows { HaveSmallRows prepared_rules.now }
     requires near { AreNearPoints set.now (map scaled_of moves.now) }
     ensures { MatchOption result
-        (AllByRecursion (λ t. MeetsAt (forms_by preps.now t).rows
+        (AllByRecursion (λ t. MeetsAt (forms_by prepared_rules.now t).rows
         (point_of set.now (map scaled_of moves.now) t)) set.now)
-        (λ u. IsFirstFailing (λ t. MeetsAt (forms_by preps.now t).rows
+        (λ u. IsFirstFailing (λ t. MeetsAt (forms_by prepared_rules.now t).rows
         (point_of set.now (map scaled_of moves.now) t)) set.now u) }
 {
     for i in 0..set.len() {
-        let met = is_met(preps, set[i], &moves[i]);
+        let met = is_met(prepared_rules, set[i], &moves[i]);
         if !met {
             return Some(set[i]);
         }
@@ -53,29 +57,33 @@ pub(crate) fn first_off(preps: &[RuleRows], set: &[u32], moves: &[Scaled]) -> Op
 }
 
 // Whether a scaled point is a point of the rows of a rule, not a ray.
-fn is_kept(preps: &[RuleRows], rule: u32, z: &Scaled) -> bool
-    requires rows { All HasRowNumbers (forms_by preps.now rule).rows }
+fn is_kept(prepared_rules: &[RuleRows], rule: u32, z: &Scaled) -> bool
+    requires rows { All HasRowNumbers (forms_by prepared_rules.now rule).rows }
     requires near { IsNear (scaled_of z.now) }
-    ensures { IsTrue result ↔ IsPointOf (forms_by preps.now rule).rows (scaled_of z.now) }
+    ensures { IsTrue result ↔ IsPointOf (forms_by prepared_rules.now rule).rows (scaled_of z.now) }
 {
     if z.den == 0 {
         return false;
     }
-    is_met(preps, rule, z)
+    is_met(prepared_rules, rule, z)
 }
 
-/// The first rule of the set whose point isn't one of its rows; a ray isn't one.
-pub(crate) fn first_not_kept(preps: &[RuleRows], set: &[u32], kept: &[Scaled]) -> Option<u32>
-    requires rows { HaveSmallRows preps.now }
+/// The first rule of the set whose kept point isn't a point of its rows; a ray isn't one.
+pub(crate) fn first_not_kept(
+    prepared_rules: &[RuleRows],
+    set: &[u32],
+    kept: &[Scaled],
+) -> Option<u32>
+    requires rows { HaveSmallRows prepared_rules.now }
     requires near { AreNearPoints set.now (map scaled_of kept.now) }
     ensures { MatchOption result
-        (AllByRecursion (λ t. IsPointOf (forms_by preps.now t).rows
+        (AllByRecursion (λ t. IsPointOf (forms_by prepared_rules.now t).rows
         (point_of set.now (map scaled_of kept.now) t)) set.now)
-        (λ u. IsFirstFailing (λ t. IsPointOf (forms_by preps.now t).rows
+        (λ u. IsFirstFailing (λ t. IsPointOf (forms_by prepared_rules.now t).rows
         (point_of set.now (map scaled_of kept.now) t)) set.now u) }
 {
     for i in 0..set.len() {
-        let is_point = is_kept(preps, set[i], &kept[i]);
+        let is_point = is_kept(prepared_rules, set[i], &kept[i]);
         if !is_point {
             return Some(set[i]);
         }

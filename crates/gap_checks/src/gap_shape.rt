@@ -1,23 +1,23 @@
-//! Whether the shape of a gap is right.
+//! Checks the shape of a gap.
 
 ghost use Rattle.std.specs.Prelude.{◌≡◌, ◌↔◌, ◌≤◌, ℕ, length, map, true, IsTrue, nat_abs};
 ghost use Rattle.std.specs.List.{All, AllByRecursion};
 ghost use Rattle.farkas_cert.specs.linear_forms.Limits.{point_limit};
 ghost use Rattle.its_model.specs.Views.{program_of};
-ghost use Rattle.proof_tree.specs.proof_setting.RankedSets.{forms_at};
-ghost use Rattle.proof_tree.specs.proof_nodes.AcceptsPlain.{IsRule};
-ghost use Rattle.proof_tree.specs.proof_nodes.GapChecks.{HasGapShape, IsGapPoint};
-ghost use Rattle.proof_tree.specs.proof_nodes.Numbers.{IsAscending};
-ghost use Rattle.proof_tree.specs.AnswerViews.{scaled_of, gap_of};
-ghost use Rattle.proof_tree.specs.Composing.{AreRowsOf};
+ghost use Rattle.cert_types.specs.cert_program.RankedSets.{forms_at};
+ghost use Rattle.cert_types.specs.cert_rules.AcceptsPlain.{IsRule};
+ghost use Rattle.cert_types.specs.cert_rules.GapChecks.{HasGapShape, IsGapPoint};
+ghost use Rattle.cert_types.specs.cert_rules.Numbers.{IsAscending};
+ghost use Rattle.cert_types.specs.AnswerViews.{scaled_of, gap_of};
+ghost use Rattle.cert_types.specs.Composing.{AreRowsOf};
 ghost use Rattle.gap_checks.specs.GapTests.{forms_by, HaveGapPoints, IsGapSet};
 
-use crate::gap_points::prep_at;
+use crate::gap_points::prepared_rule_at;
 use crate::rule_numbers::{are_rules, ascends};
+use cert_types::{Gap, has_number};
 use farkas_cert::Scaled;
 use guard_prep::RuleRows;
 use its_model::Program;
-use proof_tree::{Gap, has_number};
 
 // The most that a part of a point or its denominator may be in absolute value.
 const LIMIT: u64 = 1 << 45;
@@ -42,32 +42,32 @@ fn are_parts(parts: &[i64]) -> bool
 }
 
 // How many unknowns a rule has.
-fn unknowns_at(preps: &[RuleRows], rule: u32) -> usize
-    ensures { result ≡ (forms_by preps.now rule).unknowns }
+fn unknowns_at(prepared_rules: &[RuleRows], rule: u32) -> usize
+    ensures { result ≡ (forms_by prepared_rules.now rule).unknowns }
 {
-    match prep_at(preps, rule) {
-        Some(prep) => prep.unknowns as usize,
+    match prepared_rule_at(prepared_rules, rule) {
+        Some(prepared_rule) => prepared_rule.unknowns as usize,
         None => 0,
     }
 }
 
 // Whether a scaled point has a part for each unknown of a rule, and numbers within the limit.
-fn is_gap_point(preps: &[RuleRows], rule: u32, z: &Scaled) -> bool
-    ensures { IsTrue result ↔ IsGapPoint (forms_by preps.now rule) (scaled_of z.now) }
+fn is_gap_point(prepared_rules: &[RuleRows], rule: u32, z: &Scaled) -> bool
+    ensures { IsTrue result ↔ IsGapPoint (forms_by prepared_rules.now rule) (scaled_of z.now) }
 {
-    z.parts.len() == unknowns_at(preps, rule) && z.den <= LIMIT && are_parts(&z.parts)
+    z.parts.len() == unknowns_at(prepared_rules, rule) && z.den <= LIMIT && are_parts(&z.parts)
 }
 
 // Whether there is a scaled point for each rule of a set, each of which is like that.
-fn are_gap_points(preps: &[RuleRows], set: &[u32], zs: &[Scaled]) -> bool
+fn are_gap_points(prepared_rules: &[RuleRows], set: &[u32], zs: &[Scaled]) -> bool
     requires { IsAscending set.now }
-    ensures { IsTrue result ↔ HaveGapPoints preps.now set.now zs.now }
+    ensures { IsTrue result ↔ HaveGapPoints prepared_rules.now set.now zs.now }
 {
     if zs.len() != set.len() {
         return false;
     }
     for i in 0..set.len() {
-        let fits = is_gap_point(preps, set[i], &zs[i]);
+        let fits = is_gap_point(prepared_rules, set[i], &zs[i]);
         if !fits {
             return false;
         }
@@ -76,18 +76,18 @@ fn are_gap_points(preps: &[RuleRows], set: &[u32], zs: &[Scaled]) -> bool
 }
 
 /// Whether the shape of a gap is right.
-pub(crate) fn has_gap_shape(p: &Program, preps: &[RuleRows], g: &Gap) -> bool
-    requires { AreRowsOf preps.now (program_of p.now) }
+pub(crate) fn has_gap_shape(p: &Program, prepared_rules: &[RuleRows], g: &Gap) -> bool
+    requires { AreRowsOf prepared_rules.now (program_of p.now) }
     ensures { IsTrue result ↔ HasGapShape (program_of p.now) (forms_at (program_of p.now)) (gap_of g.now) }
 {
     if !is_gap_set(p, g) {
         return false;
     }
-    if !are_gap_points(preps, &g.set, &g.moves) {
+    if !are_gap_points(prepared_rules, &g.set, &g.moves) {
         return false;
     }
-    if !are_gap_points(preps, &g.set, &g.kept) {
+    if !are_gap_points(prepared_rules, &g.set, &g.kept) {
         return false;
     }
-    is_gap_point(preps, g.rule, &g.floor)
+    is_gap_point(prepared_rules, g.rule, &g.floor)
 }

@@ -1,7 +1,8 @@
-//! Gaps: whether one holds, and else what is wrong with it first.
-//! Contract to the layer above: `gap_fault` answers over the program and its rows, as `proof_nodes` says when a gap holds
-//! and in which order it is looked at; a gap that holds excludes every affine function that looks at no shut
-//! place and ranks its rule over its set.
+//! Checks gaps (certificates that no ranking function exists), and finds the first fault of one that doesn't hold.
+//!
+//! Builds on `farkas_cert`, `guard_prep` and `cert_types`. Main guarantee: `gap_fault` gives exactly the first fault in
+//! the order that `cert_rules` defines, or none where the gap holds; and a gap that holds excludes every affine
+//! function with coefficient 0 at its shut places that ranks its rule over its set (`gaps_exclude_functions`).
 #![tactic(auto)]
 
 mod balancing;

@@ -1,11 +1,11 @@
-//! Numbers of rules and of places: what the shapes of gaps and of nodes ask of them.
+//! Checks on numbers of rules and of places, for the shapes of gaps and of nodes.
 
 ghost use Rattle.std.specs.Prelude.{◌≡◌, ◌↔◌, IsTrue};
 ghost use Rattle.std.specs.List.{AllByRecursion};
 ghost use Rattle.farkas_cert.specs.model.Programs.{arity_of};
 ghost use Rattle.its_model.specs.Views.{program_of};
-ghost use Rattle.proof_tree.specs.proof_nodes.AcceptsPlain.{IsRule};
-ghost use Rattle.proof_tree.specs.proof_nodes.Numbers.{IsAscending};
+ghost use Rattle.cert_types.specs.cert_rules.AcceptsPlain.{IsRule};
+ghost use Rattle.cert_types.specs.cert_rules.Numbers.{IsAscending};
 
 use its_model::Program;
 

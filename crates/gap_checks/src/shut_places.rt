@@ -1,38 +1,38 @@
-//! Which places of the symbols that a set touches are shut.
+//! The shut places of the symbols that a set touches.
 
 ghost use Rattle.std.specs.Prelude.{◌≡◌, ℕ, ◌<◌, ◌&&◌, ◌||◌, nat_eq, length, map, false, slice_index_or};
 ghost use Rattle.std.specs.List.Sorted.{IsNonDecreasingBy};
-ghost use Rattle.proof_tree.specs.AnswerViews.{shut_of};
+ghost use Rattle.cert_types.specs.AnswerViews.{shut_of};
 ghost use Rattle.gap_checks.specs.GapBalances.{AreClear, AreShutRows, AreWide, MarksFirst};
 
 use crate::touching::{Touch, touches_below};
 
 // Sets the flag of a place, where it is one of the symbol.
-fn mark(flags: &mut [bool], spot: &(u32, u32), symbol: u32)
+fn mark(flags: &mut [bool], result_variable: &(u32, u32), symbol: u32)
     requires long { length flags.old ≡ 33 }
     ensures long { length flags.new ≡ 33 }
     ensures each { (i : ℕ) → i < 33 → slice_index_or flags.new i false
-        ≡ slice_index_or flags.old i false || (nat_eq spot.now.0 symbol && nat_eq spot.now.1 i) }
+        ≡ slice_index_or flags.old i false || (nat_eq result_variable.now.0 symbol && nat_eq result_variable.now.1 i) }
 {
-    if spot.0 != symbol {
+    if result_variable.0 != symbol {
         return;
     }
-    if spot.1 >= 33 {
+    if result_variable.1 >= 33 {
         return;
     }
-    flags[spot.1 as usize] = true;
+    flags[result_variable.1 as usize] = true;
 }
 
 // Sets the flag of a place at the first touch of its symbol, where the set touches that.
-fn mark_first(rows: &mut [[bool; 33]], touches: &[Touch], spot: &(u32, u32))
+fn mark_first(rows: &mut [[bool; 33]], touches: &[Touch], result_variable: &(u32, u32))
     requires ordered { IsNonDecreasingBy (λ t. t.symbol) touches.now }
     requires room { length rows.old ≡ length touches.now }
     requires wide { AreWide rows.old }
-    ensures { MarksFirst touches.now (shut_of spot.now) rows.old rows.new }
+    ensures { MarksFirst touches.now (shut_of result_variable.now) rows.old rows.new }
 {
-    let first = touches_below(touches, u64::from(spot.0));
+    let first = touches_below(touches, u64::from(result_variable.0));
     if first < touches.len() {
-        mark(&mut rows[first], spot, touches[first].symbol);
+        mark(&mut rows[first], result_variable, touches[first].symbol);
     }
 }
 
@@ -47,8 +47,8 @@ fn clear(rows: &mut [[bool; 33]])
     }
 }
 
-/// Sets at the first touch of each symbol the flags of those of its places that are shut, and no others: one for place 0
-/// and for each place that a symbol may have. The time is near-linear in the touches and the shut places.
+/// At the first touch of each symbol, sets the flags of exactly those of its places that are shut; there is a flag for
+/// place 0 and for each place that a symbol may have. The time is near-linear in the touches and the shut places.
 pub(crate) fn mark_shut(rows: &mut [[bool; 33]], touches: &[Touch], shut: &[(u32, u32)])
     requires ordered { IsNonDecreasingBy (λ t. t.symbol) touches.now }
     requires room { length rows.old ≡ length touches.now }
@@ -56,7 +56,7 @@ pub(crate) fn mark_shut(rows: &mut [[bool; 33]], touches: &[Touch], shut: &[(u32
     ensures shut { AreShutRows touches.now (map shut_of shut.now) rows.new }
 {
     clear(rows);
-    for spot in shut {
-        mark_first(rows, touches, spot);
+    for result_variable in shut {
+        mark_first(rows, touches, result_variable);
     }
 }

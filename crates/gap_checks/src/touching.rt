@@ -1,24 +1,24 @@
-//! Which symbols the rules of a set leave or lead to, in the order of symbols.
+//! Lists the sources and targets of the rules of a set, in the order of symbols.
 
 ghost use Rattle.std.specs.Prelude.{◌≡◌, ◌*◌, ◌<◌, ◌≤◌, ℕ, length, slice_index_or};
 ghost use Rattle.std.specs.List.{AllWithin};
 ghost use Rattle.std.specs.List.Sorted.{IsNonDecreasingBy};
 ghost use Rattle.its_model.specs.Views.{program_of};
-ghost use Rattle.proof_tree.specs.proof_setting.RankedSets.{forms_at};
-ghost use Rattle.proof_tree.specs.proof_nodes.AcceptsPlain.{IsRule};
+ghost use Rattle.cert_types.specs.cert_program.RankedSets.{forms_at};
+ghost use Rattle.cert_types.specs.cert_rules.AcceptsPlain.{IsRule};
 ghost use Rattle.gap_checks.specs.Touches.{AreTouches, AreRules, IsGroup, touches_from};
 
+use cert_types::{source_of, target_of};
 use its_model::Program;
-use proof_tree::{source_of, target_of};
 
-/// Which way a rule touches a symbol: it leaves it, or leads to it.
+/// How a rule touches a symbol: as its source, or as its target.
 #[derive(Clone, Copy)]
 pub(crate) enum Way {
     Leaves,
     Arrives,
 }
 
-/// The rule at a position of a set leaves a symbol, or leads to it.
+/// A touch: the rule at a position of a set, and whether the symbol is its source or its target.
 #[derive(Clone, Copy)]
 pub(crate) struct Touch {
     pub(crate) symbol: u32,
@@ -34,7 +34,7 @@ pub(crate) struct Group {
     pub(crate) end: usize,
 }
 
-/// A touch that stands where none was put yet.
+/// The placeholder for a touch that hasn't been written yet.
 pub(crate) fn no_touch() -> Touch {
     Touch {
         symbol: 0,
@@ -65,7 +65,7 @@ fn reached_by(p: &Program, rule: u32) -> u32
     }
 }
 
-// Puts the touches of a set, rule by rule.
+// Writes the touches of a set, rule by rule.
 fn put_touches(touches: &mut [Touch], p: &Program, set: &[u32])
     requires rules { AreRules (program_of p.now) set.now }
     requires room { length touches.old ≡ 2 * length set.now }
@@ -87,7 +87,7 @@ fn put_touches(touches: &mut [Touch], p: &Program, set: &[u32])
     }
 }
 
-/// Puts the touches of a set, of which there are two for each rule, in the order of symbols.
+/// Sorts the touches of a set, of which there are two for each rule, by symbols.
 pub(crate) fn order_touches(touches: &mut [Touch], p: &Program, set: &[u32])
     requires rules { AreRules (program_of p.now) set.now }
     requires room { length touches.old ≡ 2 * length set.now }

@@ -1,5 +1,5 @@
-//! Makes a call on a made graph so often, as its words tell, and writes what it found: how many components, symbols or
-//! rules, or whether there is a cycle; for measuring. The words are the call, the graph, its nodes and how often.
+//! A benchmark: makes a call on a made graph a number of times, and writes what it found: how many components, symbols
+//! or rules, or whether there is a cycle. The words are the call, the graph, its nodes and the number of times.
 #![tactic(auto)]
 
 ghost use Rattle.std.specs.Prelude.{◌<◌, All, IsTrue};
@@ -35,7 +35,7 @@ fn path(alloc: Global, nodes: u32) -> Result<Vec<Rule>, Memory> {
     Ok(rules)
 }
 
-// A number below so many, from one that looks like chance.
+// A number below this many, from a pseudo-random one.
 fn below(number: u64, nodes: u32) -> u32
     requires { 0 < nodes }
 {
@@ -51,7 +51,7 @@ fn next(state: u64) -> u64 {
     state
 }
 
-// A graph of so many nodes with 25/4 edges a node.
+// A graph of this many nodes with 25/4 edges a node.
 fn random(alloc: Global, nodes: u32) -> Result<Vec<Rule>, Memory>
     requires { 0 < nodes }
 {
@@ -247,7 +247,7 @@ fn called(alloc: Global, call: &str, graph: &str, nodes: u32, times: u32) -> Res
     }
 }
 
-// What the words ask for.
+// The meaning of the words.
 fn told(alloc: Global, words: &[String]) -> Result<usize, Memory> {
     match words {
         [_, call, graph, nodes, times] => called(

@@ -1,3 +1,4 @@
+-- laws of tightened rows, of the points of rows, and of their numbers' sizes
 mod DivisorLaws
 mod TighteningLaws
 mod RangeLaws

@@ -1,4 +1,4 @@
--- At whole numbers the rows of a rule say what the linear part of its guard says.
+-- At integers the rows of a rule say what the linear part of its guard says.
 use Rattle.std.proofs.Common.{◌≡◌, ℕ, zero, suc, ◌+◌, ◌≤◌, List, [], ◌∷◌, ◌++◌, Bool, length, sym, subst, arith}
 use Rattle.std.proofs.Common.{if◌then◌else◌}
 use Rattle.std.specs.Prelude.{ℤ, pos, ◌-ℤ◌, neg_ℤ, ◌≤ℤ◌, ◌<ℤ◌}
@@ -62,20 +62,20 @@ rows-tell d EqualTo e env f z m v = from _ _ _ _ (opposite-value f z (pos 1)) v 
     from u w x y g e l k = omega (arith, ints, g, e, l, k)
 
 -- an atom that is linear holds where its rows are met
-atom-told : (w : ℕ) (env more : List ℤ) (a : Atom) → length env ≤ w → IsValidAtom (length env) a
+atom-sound : (w : ℕ) (env more : List ℤ) (a : Atom) → length env ≤ w → IsValidAtom (length env) a
     → AreMet (at (env ++ more)) (rows_of_atom w a) → IsLinear a → AtomHolds env a
-atom-told w env more Always l v m g = tt
-atom-told w env more (Compare d r e) l v m g =
+atom-sound w env more Always l v m g = tt
+atom-sound w env more (Compare d r e) l v m g =
     rows-tell d r e env (linear_form w (expanded (difference_of d r e))) (at (env ++ more))
     (subst (λ (b : Bool). AreMet (at (env ++ more)) (if b then [] else rows_by r (linear_form w (expanded (difference_of d r e))))) g m)
     (form-value w (difference_of d r e) env more l (reads-difference (length env) d r e v.left v.right) g)
 
-guard-told : (w : ℕ) (env more : List ℤ) (atoms : List Atom) → length env ≤ w → AllByRecursion (IsValidAtom (length env)) atoms
+guard-sound : (w : ℕ) (env more : List ℤ) (atoms : List Atom) → length env ≤ w → AllByRecursion (IsValidAtom (length env)) atoms
     → AreMet (at (env ++ more)) (rows_of_guard w atoms) → LinearPartHolds env atoms
-guard-told w env more [] l v m k d i = absurd (omega arith)
-guard-told w env more (a ∷ atoms) l v m zero d i = atom-told w env more a l v.0 (met-front (at (env ++ more)) (rows_of_atom w a) (rows_of_guard w atoms) m)
-guard-told w env more (a ∷ atoms) l v m (suc k) d i =
-    guard-told w env more atoms l v.1 (met-behind (at (env ++ more)) (rows_of_atom w a) (rows_of_guard w atoms) m) k d (omega arith)
+guard-sound w env more [] l v m k d i = absurd (omega arith)
+guard-sound w env more (a ∷ atoms) l v m zero d i = atom-sound w env more a l v.0 (met-front (at (env ++ more)) (rows_of_atom w a) (rows_of_guard w atoms) m)
+guard-sound w env more (a ∷ atoms) l v m (suc k) d i =
+    guard-sound w env more atoms l v.1 (met-behind (at (env ++ more)) (rows_of_atom w a) (rows_of_guard w atoms) m) k d (omega arith)
 
 -- the law
 pub rows-are-the-linear-part : RowsAreTheLinearPart
@@ -86,7 +86,7 @@ rows-are-the-linear-part = record { each = λ r env more h l. (told r env more h
 
     told : (r : Rule) (env more : List ℤ) → IsPreparable r → length env ≡ r.left + r.free → IsPoint (rows_of r) (at (env ++ more)) (pos 1) → LinearPartHolds env r.guard
     told r env more h l p =
-        guard-told (unknowns_of r) env more r.guard (omega (arith, l)) (valid r env h l)
+        guard-sound (unknowns_of r) env more r.guard (omega (arith, l)) (valid r env h l)
         (met-before (at (env ++ more)) (rows_of_guard (unknowns_of r) r.guard) (meets-met (at (env ++ more)) (rows_of r) p.meets))
 
     met : (r : Rule) (env more : List ℤ) → IsPreparable r → length env ≡ r.left + r.free → LinearPartHolds env r.guard → IsPoint (rows_of r) (at (env ++ more)) (pos 1)

@@ -22,12 +22,12 @@ use Rattle.poly_terms.proofs.RowLaws.{linear_form-value}
 use Rattle.poly_terms.proofs.VariableLaws.{variables-expanded, variables-more, value-append_right}
 use Rattle.its_model.specs.Valid.{difference_of, IsValidAtom, IsValidTerm}
 use Rattle.guard_prep.specs.Tightening.{tightened}
-use Rattle.guard_prep.specs.Prepared.{is_bent, count_true, opposite_form, rows_by, rows_of_atom, rows_of_guard}
-use Rattle.guard_prep.specs.Prepared.{all_tightened, rows_of, news_from, news_of, unknowns_of}
-use Rattle.guard_prep.specs.Laws.{IsPreparable, IsLinear, LinearPartHolds, bent_values, point_of, GuardsGivePoints}
+use Rattle.guard_prep.specs.Prepared.{is_nonlinear, count_true, opposite_form, rows_by, rows_of_atom, rows_of_guard}
+use Rattle.guard_prep.specs.Prepared.{all_tightened, rows_of, new_values_from, new_values_of, unknowns_of}
+use Rattle.guard_prep.specs.Laws.{IsPreparable, IsLinear, LinearPartHolds, nonlinear_values, point_of, GuardsGivePoints}
 use Rattle.guard_prep.proofs.TighteningLaws.{tightened-keeps}
 
--- each row is met at whole numbers z
+-- each row is met at integers z
 abbrev pub AreMet : (ℕ → ℤ) → List Form → Type 0
 AreMet z rows = AllByRecursion (λ r. pos 0 ≤ℤ form_value r z (pos 1)) rows
 
@@ -106,30 +106,30 @@ rows-hold d EqualTo e env f z h v = (from _ _ _ v h, (opposite _ _ _ _ (opposite
     opposite u w x y g e l = omega (arith, ints, g, e, l)
 
 -- a polynomial that isn't bent has degree at most 1
-not-bent : (p : Polynomial) → is_bent p ≡ false → degree_of p ≤ 1
-not-bent p e = grind (arith, nat_tests)
+not-nonlinear : (p : Polynomial) → is_nonlinear p ≡ false → degree_of p ≤ 1
+not-nonlinear p e = grind (arith, nat_tests)
 
--- the linear form of an expression that isn't bent has its value, also where more values stand behind
-pub form-value : (w : ℕ) (t : Term) (env more : List ℤ) → length env ≤ w → ReadsBelow (length env) t → is_bent (expanded t) ≡ false
+-- the linear form of an expression that isn't bent has the expression's value, also where further values follow
+pub form-value : (w : ℕ) (t : Term) (env more : List ℤ) → length env ≤ w → ReadsBelow (length env) t → is_nonlinear (expanded t) ≡ false
     → form_value (linear_form w (expanded t)) (at (env ++ more)) (pos 1) ≡ value t env
 form-value w t env more l h b =
-    (linear_form-value w (expanded t) (variables-more (length env) w (expanded t) l (variables-expanded (length env) t h)) (not-bent (expanded t) b)).each (env ++ more)
+    (linear_form-value w (expanded t) (variables-more (length env) w (expanded t) l (variables-expanded (length env) t h)) (not-nonlinear (expanded t) b)).each (env ++ more)
     ∙ (expanded-value t (env ++ more) ∙ value-append_right t env more h)
 
 -- the rows of an atom are met that holds where it is linear
 atom-met : (w : ℕ) (env more : List ℤ) (a : Atom) → length env ≤ w → IsValidAtom (length env) a → (IsLinear a → AtomHolds env a)
     → AreMet (at (env ++ more)) (rows_of_atom w a)
 atom-met w env more Always l v h = tt
-atom-met w env more (Compare d r e) l v h = go (is_bent (expanded (difference_of d r e))) refl
+atom-met w env more (Compare d r e) l v h = go (is_nonlinear (expanded (difference_of d r e))) refl
   where
-    go : (b : Bool) → is_bent (expanded (difference_of d r e)) ≡ b
+    go : (b : Bool) → is_nonlinear (expanded (difference_of d r e)) ≡ b
         → AreMet (at (env ++ more)) (if b then [] else rows_by r (linear_form w (expanded (difference_of d r e))))
     go true g = tt
     go false g =
         rows-hold d r e env (linear_form w (expanded (difference_of d r e))) (at (env ++ more)) (h g)
         (form-value w (difference_of d r e) env more l (reads-difference (length env) d r e v.left v.right) g)
 
--- where the linear part of a guard holds, its rows are met, whatever values stand behind
+-- where the linear part of a guard holds, its rows hold, whatever values follow
 pub guard-met : (w : ℕ) (env more : List ℤ) (atoms : List Atom) → length env ≤ w → AllByRecursion (IsValidAtom (length env)) atoms
     → LinearPartHolds env atoms → AreMet (at (env ++ more)) (rows_of_guard w atoms)
 guard-met w env more [] l v h = tt
@@ -138,63 +138,63 @@ guard-met w env more (a ∷ atoms) l v h =
     (guard-met w env more atoms l v.1 (λ k d i. h (suc k) d (omega arith)))
 
 -- the new values at the point are the values of the updates: `front` holds the values before those of the bent updates left
-news-values : (w k : ℕ) (us : List Term) (env front : List ℤ) (z : List ℤ)
+new_values-values : (w k : ℕ) (us : List Term) (env front : List ℤ) (z : List ℤ)
     → ((t : Term) → ReadsBelow (length env) t → value t z ≡ value t env) → AllByRecursion (IsValidTerm (length env)) us
-    → z ≡ front ++ bent_values us env → length front ≡ k → length env ≤ w → k + count_true (map is_bent (map expanded us)) ≤ w
-    → map (λ f. form_value f (at z) (pos 1)) (news_from w k (map expanded us)) ≡ map (λ u. value u env) us
-news-values w k [] env front z same v e l m n = refl
-news-values w k (u ∷ us) env front z same v e l m n = go (is_bent (expanded u)) refl e n (λ j fr. news-values w j us env fr z same v.1)
+    → z ≡ front ++ nonlinear_values us env → length front ≡ k → length env ≤ w → k + count_true (map is_nonlinear (map expanded us)) ≤ w
+    → map (λ f. form_value f (at z) (pos 1)) (new_values_from w k (map expanded us)) ≡ map (λ u. value u env) us
+new_values-values w k [] env front z same v e l m n = refl
+new_values-values w k (u ∷ us) env front z same v e l m n = go (is_nonlinear (expanded u)) refl e n (λ j fr. new_values-values w j us env fr z same v.1)
   where
-    own : k < w → z ≡ front ++ value u env ∷ bent_values us env → form_value (linear_form w (variable_form k)) (at z) (pos 1) ≡ value u env
+    own : k < w → z ≡ front ++ value u env ∷ nonlinear_values us env → form_value (linear_form w (variable_form k)) (at z) (pos 1) ≡ value u env
     own h f =
         (linear_form-value w (variable_form k) ((h, tt), tt) (omega arith)).each z
-        ∙ (times_one (get_or z k (pos 0)) ∙ (ap (λ (y : List ℤ). get_or y k (pos 0)) f ∙ get_or_at front (value u env) (bent_values us env) (pos 0) k l))
+        ∙ (times_one (get_or z k (pos 0)) ∙ (ap (λ (y : List ℤ). get_or y k (pos 0)) f ∙ get_or_at front (value u env) (nonlinear_values us env) (pos 0) k l))
       where
         times_one : (x : ℤ) → pos 1 *ℤ (x *ℤ pos 1) +ℤ pos 0 ≡ x
         times_one x = omega (arith, ints)
 
-    linear : is_bent (expanded u) ≡ false → form_value (linear_form w (expanded u)) (at z) (pos 1) ≡ value u env
+    linear : is_nonlinear (expanded u) ≡ false → form_value (linear_form w (expanded u)) (at z) (pos 1) ≡ value u env
     linear b =
-        (linear_form-value w (expanded u) (variables-more (length env) w (expanded u) m (variables-expanded (length env) u v.0.variables)) (not-bent (expanded u) b)).each z
+        (linear_form-value w (expanded u) (variables-more (length env) w (expanded u) m (variables-expanded (length env) u v.0.variables)) (not-nonlinear (expanded u) b)).each z
         ∙ (expanded-value u z ∙ same u v.0.variables)
 
-    go : (b : Bool) → is_bent (expanded u) ≡ b
-        → z ≡ front ++ (if b then value u env ∷ bent_values us env else bent_values us env)
-        → k + count_true (b ∷ map is_bent (map expanded us)) ≤ w
-        → ((j : ℕ) (fr : List ℤ) → z ≡ fr ++ bent_values us env → length fr ≡ j → length env ≤ w → j + count_true (map is_bent (map expanded us)) ≤ w
-        → map (λ f. form_value f (at z) (pos 1)) (news_from w j (map expanded us)) ≡ map (λ t. value t env) us)
+    go : (b : Bool) → is_nonlinear (expanded u) ≡ b
+        → z ≡ front ++ (if b then value u env ∷ nonlinear_values us env else nonlinear_values us env)
+        → k + count_true (b ∷ map is_nonlinear (map expanded us)) ≤ w
+        → ((j : ℕ) (fr : List ℤ) → z ≡ fr ++ nonlinear_values us env → length fr ≡ j → length env ≤ w → j + count_true (map is_nonlinear (map expanded us)) ≤ w
+        → map (λ f. form_value f (at z) (pos 1)) (new_values_from w j (map expanded us)) ≡ map (λ t. value t env) us)
         → map (λ f. form_value f (at z) (pos 1))
-        (if b then linear_form w (variable_form k) ∷ news_from w (suc k) (map expanded us) else linear_form w (expanded u) ∷ news_from w k (map expanded us))
+        (if b then linear_form w (variable_form k) ∷ new_values_from w (suc k) (map expanded us) else linear_form w (expanded u) ∷ new_values_from w k (map expanded us))
         ≡ value u env ∷ map (λ t. value t env) us
     go true b f c ih = λ i. own (omega (arith, c)) f i
-        ∷ ih (suc k) (front ++ value u env ∷ []) (f ∙ sym (append_assoc front (value u env ∷ []) (bent_values us env)))
+        ∷ ih (suc k) (front ++ value u env ∷ []) (f ∙ sym (append_assoc front (value u env ∷ []) (nonlinear_values us env)))
         (length-append front (value u env ∷ []) ∙ (let g : length front + 1 ≡ suc k = omega (arith, l) in g)) m (omega (arith, c)) i
     go false b f c ih = λ i. linear b i ∷ ih k front f l m c i
 
 -- how many unknowns the bent updates have
-pub bent-length : (us : List Term) (env : List ℤ) → length (bent_values us env) ≡ count_true (map is_bent (map expanded us))
-bent-length [] env = refl
-bent-length (u ∷ us) env = go (is_bent (expanded u)) (bent-length us env)
+pub nonlinear-length : (us : List Term) (env : List ℤ) → length (nonlinear_values us env) ≡ count_true (map is_nonlinear (map expanded us))
+nonlinear-length [] env = refl
+nonlinear-length (u ∷ us) env = go (is_nonlinear (expanded u)) (nonlinear-length us env)
   where
-    go : (b : Bool) → length (bent_values us env) ≡ count_true (map is_bent (map expanded us))
-        → length (if b then value u env ∷ bent_values us env else bent_values us env) ≡ count_true (b ∷ map is_bent (map expanded us))
+    go : (b : Bool) → length (nonlinear_values us env) ≡ count_true (map is_nonlinear (map expanded us))
+        → length (if b then value u env ∷ nonlinear_values us env else nonlinear_values us env) ≡ count_true (b ∷ map is_nonlinear (map expanded us))
     go true ih = ap suc ih
     go false ih = ih
 
 -- the law
 pub guards-give-points : GuardsGivePoints
-guards-give-points = record { point = point; news = news }
+guards-give-points = record { point = point; new_values = new_values }
   where
     point : (r : Rule) (env : List ℤ) → IsPreparable r → length env ≡ r.left + r.free → GuardHolds env r.guard → IsPoint (rows_of r) (at (point_of r env)) (pos 1)
     point r env h l g = record {
       denominator = record { lt = tt };
       meets = met-meets (at (point_of r env)) (rows_of r) (met-tightened (at (point_of r env)) (rows_of_guard (unknowns_of r) r.guard)
-          (guard-met (unknowns_of r) env (bent_values r.updates env) r.guard (omega (arith, l))
+          (guard-met (unknowns_of r) env (nonlinear_values r.updates env) r.guard (omega (arith, l))
           (subst (λ (n : ℕ). AllByRecursion (IsValidAtom n) r.guard) (sym l) h.guard) (λ k d i _. g k d i)));
     }
 
-    news : (r : Rule) (env : List ℤ) → IsPreparable r → length env ≡ r.left + r.free
-        → map (λ f. form_value f (at (point_of r env)) (pos 1)) (news_of r) ≡ map (λ u. value u env) r.updates
-    news r env h l =
-        news-values (unknowns_of r) (r.left + r.free) r.updates env env (point_of r env) (λ t k. value-append_right t env (bent_values r.updates env) k)
+    new_values : (r : Rule) (env : List ℤ) → IsPreparable r → length env ≡ r.left + r.free
+        → map (λ f. form_value f (at (point_of r env)) (pos 1)) (new_values_of r) ≡ map (λ u. value u env) r.updates
+    new_values r env h l =
+        new_values-values (unknowns_of r) (r.left + r.free) r.updates env env (point_of r env) (λ t k. value-append_right t env (nonlinear_values r.updates env) k)
         (subst (λ (n : ℕ). AllByRecursion (IsValidTerm n) r.updates) (sym l) h.updates) refl l (omega (arith, l)) (omega arith)

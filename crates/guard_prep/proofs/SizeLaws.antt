@@ -22,8 +22,8 @@ use Rattle.poly_terms.proofs.WideLaws.{nat_abs-neg}
 use Rattle.poly_terms.proofs.VariableLaws.{coefficient-bounded}
 use Rattle.its_model.specs.Valid.{difference_of, IsValidAtom, IsValidTerm}
 use Rattle.guard_prep.specs.Tightening.{divisor_of, tightened_by, tightened}
-use Rattle.guard_prep.specs.Prepared.{is_bent, count_true, opposite_form, rows_by, rows_of_atom, rows_of_guard}
-use Rattle.guard_prep.specs.Prepared.{all_tightened, news_from, unknowns_of}
+use Rattle.guard_prep.specs.Prepared.{is_nonlinear, count_true, opposite_form, rows_by, rows_of_atom, rows_of_guard}
+use Rattle.guard_prep.specs.Prepared.{all_tightened, new_values_from, unknowns_of}
 use Rattle.guard_prep.specs.Laws.{IsPreparable, IsSmallForm, RowsAreSmall}
 
 -- two lists of small forms, one after the other
@@ -110,7 +110,7 @@ rows-by-small w EqualTo f h = (h, (opposite-form-small w f h, tt))
 
 atom-small : (w n : ℕ) (a : Atom) → IsValidAtom n a → AllByRecursion (IsSmallForm w) (rows_of_atom w a)
 atom-small w n Always v = tt
-atom-small w n (Compare d r e) v = go (is_bent (expanded (difference_of d r e)))
+atom-small w n (Compare d r e) v = go (is_nonlinear (expanded (difference_of d r e)))
   where
     go : (b : Bool) → AllByRecursion (IsSmallForm w) (if b then [] else rows_by r (linear_form w (expanded (difference_of d r e))))
     go true = tt
@@ -121,13 +121,13 @@ guard-small w n [] v = tt
 guard-small w n (a ∷ atoms) v = small-append w (rows_of_atom w a) (rows_of_guard w atoms) (atom-small w n a v.0) (guard-small w n atoms v.1)
 
 -- the new values are small
-news-small : (w k n : ℕ) (us : List Term) → AllByRecursion (IsValidTerm n) us → AllByRecursion (IsSmallForm w) (news_from w k (map expanded us))
-news-small w k n [] v = tt
-news-small w k n (u ∷ us) v = go (is_bent (expanded u)) (λ j. news-small w j n us v.1)
+new_values-small : (w k n : ℕ) (us : List Term) → AllByRecursion (IsValidTerm n) us → AllByRecursion (IsSmallForm w) (new_values_from w k (map expanded us))
+new_values-small w k n [] v = tt
+new_values-small w k n (u ∷ us) v = go (is_nonlinear (expanded u)) (λ j. new_values-small w j n us v.1)
   where
-    go : (b : Bool) → ((j : ℕ) → AllByRecursion (IsSmallForm w) (news_from w j (map expanded us)))
+    go : (b : Bool) → ((j : ℕ) → AllByRecursion (IsSmallForm w) (new_values_from w j (map expanded us)))
         → AllByRecursion (IsSmallForm w)
-        (if b then linear_form w (variable_form k) ∷ news_from w (suc k) (map expanded us) else linear_form w (expanded u) ∷ news_from w k (map expanded us))
+        (if b then linear_form w (variable_form k) ∷ new_values_from w (suc k) (map expanded us) else linear_form w (expanded u) ∷ new_values_from w k (map expanded us))
     go true ih = (linear-small w (variable_form k) (tt, tt) (omega arith, tt), ih (suc k))
     go false ih = (expanded-form-small w u v.0.expands, ih k)
 
@@ -141,7 +141,7 @@ few-by EqualTo f = omega arith
 
 few-of-atom : (w : ℕ) (a : Atom) → length (rows_of_atom w a) ≤ 2
 few-of-atom w Always = omega arith
-few-of-atom w (Compare d r e) = go (is_bent (expanded (difference_of d r e)))
+few-of-atom w (Compare d r e) = go (is_nonlinear (expanded (difference_of d r e)))
   where
     go : (b : Bool) → length {A = Form} (if b then [] else rows_by r (linear_form w (expanded (difference_of d r e)))) ≤ 2
     go true = omega arith
@@ -175,13 +175,13 @@ count-at-most (false ∷ bs) = omega (arith, count-at-most bs)
 -- a preparable rule has at most 96 unknowns
 pub few-unknowns : (r : Rule) → IsPreparable r → unknowns_of r ≤ 96
 few-unknowns r h =
-    omega (arith, count-at-most (map is_bent (map expanded r.updates)), length-map (map expanded r.updates) is_bent, length-map r.updates expanded, h.few_variables, h.few_updates)
+    omega (arith, count-at-most (map is_nonlinear (map expanded r.updates)), length-map (map expanded r.updates) is_nonlinear, length-map r.updates expanded, h.few_variables, h.few_updates)
 
 -- the law
 pub rows-are-small : RowsAreSmall
 rows-are-small = record {
   rows = λ r h. all-tightened-small (unknowns_of r) (rows_of_guard (unknowns_of r) r.guard) (guard-small (unknowns_of r) (r.left + r.free) r.guard h.guard);
-  news = λ r h. news-small (unknowns_of r) (r.left + r.free) (r.left + r.free) r.updates h.updates;
+  new_values = λ r h. new_values-small (unknowns_of r) (r.left + r.free) (r.left + r.free) r.updates h.updates;
   few_rows = λ r h. omega (arith, few-tightened (rows_of_guard (unknowns_of r) r.guard), few-of-guard (unknowns_of r) r.guard, h.few_atoms);
   few_unknowns = few-unknowns;
 }

@@ -8,11 +8,11 @@ use Rattle.poly_terms.specs.model.Programs.{AtLeast, Compare, Symbol, Rule, Prog
 use Rattle.poly_terms.specs.model.Runs.{Config, Leads}
 use Rattle.poly_terms.specs.model.Costs.{cost_rule}
 use Rattle.its_model.specs.Valid.{cost_atoms, IsValidTerm, IsValidCost, IsValidAtom, IsValid, IsValidSymbol}
-use Rattle.guard_prep.specs.Laws.{IsPreparable, ValidRulesArePreparable, bent_values, point_of, IsPointOfStep}
+use Rattle.guard_prep.specs.Laws.{IsPreparable, ValidRulesArePreparable, nonlinear_values, point_of, IsPointOfStep}
 use Rattle.guard_prep.specs.Laws.{StepsArePoints, IsPointOfCost, CostsArePoints}
 use Rattle.its_model.proofs.CostTerms.{at-least-zero}
 use Rattle.its_model.proofs.CostSteps.{joined-hold, guard-with-cost}
-use Rattle.guard_prep.proofs.PointLaws.{bent-length, guards-give-points}
+use Rattle.guard_prep.proofs.PointLaws.{nonlinear-length, guards-give-points}
 pub use Rattle.its_model.proofs.ValidLaws.{rule-valid as valid-at}
 
 -- no symbol of a valid program has more than 32 places
@@ -41,11 +41,11 @@ pub leads-point : (r : Rule) (c d : Config) (free : List ℤ) → IsPreparable r
 leads-point r c d free h leads =
     let env = c.values ++ free in
     let l : length env ≡ r.left + r.free = length-append c.values free ∙ (λ j. leads.left j + leads.free_ones j) in record {
-      unknowns = length-append env (bent_values r.updates env) ∙ (λ j. l j + bent-length r.updates env j);
+      unknowns = length-append env (nonlinear_values r.updates env) ∙ (λ j. l j + nonlinear-length r.updates env j);
       point = guards-give-points.point r env h l leads.guard;
-      left = λ j n. get_or_append_left env (bent_values r.updates env) (pos 0) j (omega (arith, n, length-append c.values free))
+      left = λ j n. get_or_append_left env (nonlinear_values r.updates env) (pos 0) j (omega (arith, n, length-append c.values free))
           ∙ get_or_append_left c.values free (pos 0) j n;
-      news = guards-give-points.news r env h l ∙ sym leads.values;
+      new_values = guards-give-points.new_values r env h l ∙ sym leads.values;
     }
 
 -- each step of a valid program is a point of its rule's rows
@@ -70,7 +70,7 @@ cost-point : (p : Program) (t : ℕ) (r : Rule) (k : Term) (env : List ℤ) → 
 cost-point p t r k env v e f l g n =
     let h = cost-preparable p t r k v e f in record {
       point = guards-give-points.point (cost_rule r k) env h l (guard-with-cost r k env g n);
-      news = guards-give-points.news (cost_rule r k) env h l;
+      new_values = guards-give-points.new_values (cost_rule r k) env h l;
     }
 
 -- steps by cost rules are points of their rows

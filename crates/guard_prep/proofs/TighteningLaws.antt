@@ -1,4 +1,4 @@
--- Dividing a row by a common divisor of its coefficients keeps its whole solutions.
+-- Dividing a row by a common divisor of its coefficients keeps its integer solutions.
 use Rattle.std.proofs.Common.{◌≡◌, ◌≢◌, ℕ, zero, suc, ◌+◌, ◌-◌, ◌*◌, ◌/◌, ◌%◌, ◌<◌, ◌≤◌, List, [], ◌∷◌, ◌++◌, Bool}
 use Rattle.std.proofs.Common.{true, false, length, map, take, drop, set, get_or, refl, ap, sym, ◌∙◌, subst, arith}
 use Rattle.std.proofs.Common.{if◌then◌else◌}
@@ -123,7 +123,7 @@ meets-one f z d h = record { each = one }
 first-meets : (f : Form) (fs : List Form) (z : ℕ → ℤ) (d : ℤ) → Meets (f ∷ fs) z d → pos 0 ≤ℤ form_value f z d
 first-meets f fs z d m = m.each 0 f (omega arith)
 
--- a row has the same whole solutions when it is tightened
+-- a row has the same integer solutions when it is tightened
 pub tightened-keeps : (f : Form) (z : ℕ → ℤ) → (pos 0 ≤ℤ form_value f z (pos 1)) ↔ Meets (tightened f) z (pos 1)
 tightened-keeps f z = go (divisor_of f.coefs) refl
   where

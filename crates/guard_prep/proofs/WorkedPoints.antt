@@ -12,12 +12,12 @@ use Rattle.guard_prep.specs.Tightening.{divisor_of}
 use Rattle.guard_prep.specs.Prepared.{rows_of}
 use Rattle.guard_prep.specs.Laws.{IsLinear}
 use Rattle.guard_prep.specs.WorkedRows.{two, three, with_free}
-use Rattle.guard_prep.specs.WorkedPoints.{at_least_one, square_at_least, worked_rule, RulesAreTold, LinearPartsAreTold}
-use Rattle.guard_prep.specs.WorkedPoints.{StepPointsAreTold, CostPointsAreTold, SmallFormsAreTold}
+use Rattle.guard_prep.specs.WorkedPoints.{at_least_one, square_at_least, worked_rule, RulesAreWorkedOut, LinearPartsAreWorkedOut}
+use Rattle.guard_prep.specs.WorkedPoints.{StepPointsAreWorkedOut, CostPointsAreWorkedOut, SmallFormsAreWorkedOut}
 use Rattle.guard_prep.specs.WorkedPoints.{PointsAreWorkedOut}
 
 -- which rules have rows
-rules : RulesAreTold
+rules : RulesAreWorkedOut
 rules = record {
   worked = record {
     few_variables = omega arith;
@@ -60,10 +60,10 @@ row_met z h =
     All-head (λ (f : Form). pos 0 ≤ℤ form_value f z (pos 1)) row [] k.meets.each
 
 -- which atoms are linear, and where they hold
-linear_parts : LinearPartsAreTold
+linear_parts : LinearPartsAreWorkedOut
 linear_parts = record {
   linear = refl;
-  bent = λ e. cc;
+  nonlinear = λ e. cc;
   holds = All-cons (λ (a : Atom). IsLinear a → AtomHolds (pos 1 ∷ pos 5 ∷ []) a) at_least_one (square_at_least ∷ []) (λ e. omega (arith, ints))
       (All-cons (λ (a : Atom). IsLinear a → AtomHolds (pos 1 ∷ pos 5 ∷ []) a) square_at_least [] (λ e. absurd (not_linear e))
       (All-nil (λ (a : Atom). IsLinear a → AtomHolds (pos 1 ∷ pos 5 ∷ []) a)));
@@ -75,7 +75,7 @@ linear_parts = record {
     not_linear e = cc
 
 -- which points are those of the step
-steps : StepPointsAreTold
+steps : StepPointsAreWorkedOut
 steps = record {
   squares = refl;
   point = refl;
@@ -83,10 +83,10 @@ steps = record {
     unknowns = refl;
     point = is_point (at (pos 3 ∷ pos 2 ∷ pos 9 ∷ [])) (omega (arith, ints));
     left = left;
-    news = refl;
+    new_values = refl;
   };
-  other_square = λ h. let news = h.news in cc;
-  other_free = λ h. let news = h.news in cc;
+  other_square = λ h. let new_values = h.new_values in cc;
+  other_free = λ h. let new_values = h.new_values in cc;
   other_left = λ h. let same = h.left 0 (omega arith) in omega (arith, ints, same);
   no_square = λ h. let long = h.unknowns in omega (arith, long);
   row_fails = λ h. let low = row_met (at (pos 0 ∷ pos 0 ∷ pos 0 ∷ [])) h in omega (arith, ints, low);
@@ -108,9 +108,9 @@ unfolding divisor_of
 worked_cost_rows = refl
 
 -- where a point of the cost is, and where none is
-costs : CostPointsAreTold
+costs : CostPointsAreWorkedOut
 costs = record {
-  cost = record { point = is_cost_point (at (pos 3 ∷ pos 0 ∷ [])) (omega (arith, ints)); news = refl };
+  cost = record { point = is_cost_point (at (pos 3 ∷ pos 0 ∷ [])) (omega (arith, ints)); new_values = refl };
   negative_cost = λ h. let low = cost_row_met (at (negsuc 0 ∷ pos 0 ∷ [])) h.point in omega (arith, ints, low);
 }
   where
@@ -126,7 +126,7 @@ costs = record {
         All-head (λ (f : Form). pos 0 ≤ℤ form_value f z (pos 1)) cost_row [] k.meets.each
 
 -- which forms are small
-forms : SmallFormsAreTold
+forms : SmallFormsAreWorkedOut
 forms = record {
   largest = record { width = refl; coefs = (omega arith, (omega arith, tt)); constant = omega arith };
   too_large = λ h. let first = h.coefs.0 in omega (arith, first);

@@ -1,4 +1,4 @@
--- Steps are points of the rows, and tightening keeps whole solutions.
+-- Steps are points of the rows, and tightening keeps integer solutions.
 use Rattle.std.specs.Prelude.{◌≡◌, ◌↔◌, ℕ, ◌+◌, ◌≤◌, ◌<◌, false, if◌then◌else◌, List, [], ◌∷◌, ◌++◌, length, map, ℤ}
 use Rattle.std.specs.Prelude.{pos, ◌≤ℤ◌, nat_abs, Some, ⊤}
 use Rattle.std.specs.List.{All, AllByRecursion}
@@ -13,10 +13,10 @@ use Rattle.farkas_cert.specs.Sizes.{HasRowNumbers, AreSmall}
 use Rattle.poly_terms.specs.Expanding.{expanded}
 use Rattle.its_model.specs.Valid.{IsValid, IsValidAtom, IsValidTerm, difference_of}
 use Rattle.guard_prep.specs.Tightening.{tightened}
-use Rattle.guard_prep.specs.Prepared.{is_bent, rows_of, news_of, unknowns_of}
+use Rattle.guard_prep.specs.Prepared.{is_nonlinear, rows_of, new_values_of, unknowns_of}
 
--- what the rows of a rule rest on: its guard and updates read its own variables and can be expanded; there are at most
--- 64 variables, 64 atoms and 32 updates
+-- the preconditions of computing the rows of a rule: its guard and updates read its own variables and can be expanded;
+-- there are at most 64 variables, 64 atoms and 32 updates
 pub record IsPreparable (r : Rule) : Type 0 where
   pub few_variables : r.left + r.free ≤ variable_limit
   pub few_atoms : length r.guard ≤ atom_limit
@@ -28,38 +28,38 @@ pub record IsPreparable (r : Rule) : Type 0 where
 pub record ValidRulesArePreparable : Type 0 where
   pub each : (p : Program) (t : ℕ) (r : Rule) → IsValid p → rule_at p t ≡ Some r → IsPreparable r
 
--- a row and what is left of it when it is tightened have the same whole solutions
+-- a row and what is left of it when it is tightened have the same integer solutions
 pub record TighteningKeepsWholeSolutions : Type 0 where
   pub each : (f : Form) (z : ℕ → ℤ) → (pos 0 ≤ℤ form_value f z (pos 1)) ↔ Meets (tightened f) z (pos 1)
 
 -- the values of the bent updates, in order of places
-abbrev pub bent_values : List Term → List ℤ → List ℤ
-bent_values [] env = []
-bent_values (u ∷ us) env = if is_bent (expanded u) then value u env ∷ bent_values us env else bent_values us env
+abbrev pub nonlinear_values : List Term → List ℤ → List ℤ
+nonlinear_values [] env = []
+nonlinear_values (u ∷ us) env = if is_nonlinear (expanded u) then value u env ∷ nonlinear_values us env else nonlinear_values us env
 
 -- the values of all unknowns: those of the variables, then those of the bent updates
 abbrev pub point_of : Rule → List ℤ → List ℤ
-point_of r env = env ++ bent_values r.updates env
+point_of r env = env ++ nonlinear_values r.updates env
 
 -- at the values of its variables that meet its guard, with the values of the bent updates, the rows of a rule have a
 -- point with denominator 1, and the new values there are the values of the updates
 pub record GuardsGivePoints : Type 0 where
   pub point : (r : Rule) (env : List ℤ) → IsPreparable r → length env ≡ r.left + r.free → GuardHolds env r.guard
       → IsPoint (rows_of r) (at (point_of r env)) (pos 1)
-  pub news : (r : Rule) (env : List ℤ) → IsPreparable r → length env ≡ r.left + r.free
-      → map (λ f. form_value f (at (point_of r env)) (pos 1)) (news_of r) ≡ map (λ u. value u env) r.updates
+  pub new_values : (r : Rule) (env : List ℤ) → IsPreparable r → length env ≡ r.left + r.free
+      → map (λ f. form_value f (at (point_of r env)) (pos 1)) (new_values_of r) ≡ map (λ u. value u env) r.updates
 
 -- an atom is linear: its expanded difference has degree at most 1, or it is the one that always holds
 abbrev pub IsLinear : Atom → Type 0
 IsLinear Always = ⊤
-IsLinear (Compare d r e) = is_bent (expanded (difference_of d r e)) ≡ false
+IsLinear (Compare d r e) = is_nonlinear (expanded (difference_of d r e)) ≡ false
 
 -- the linear part of a guard holds: each of its atoms that is linear
 abbrev pub LinearPartHolds : List ℤ → List Atom → Type 0
 LinearPartHolds env atoms = All (λ a. IsLinear a → AtomHolds env a) atoms
 
--- at whole numbers the rows of a rule say just what the linear part of its guard says of the variables, whatever
--- numbers stand behind these
+-- at integers, the rows of a rule say exactly what the linear part of its guard says of the variables, whatever numbers
+-- follow these
 pub record RowsAreTheLinearPart : Type 0 where
   pub each : (r : Rule) (env more : List ℤ) → IsPreparable r → length env ≡ r.left + r.free
       → IsPoint (rows_of r) (at (env ++ more)) (pos 1) ↔ LinearPartHolds env r.guard
@@ -70,7 +70,7 @@ pub record IsPointOfStep (r : Rule) (c d : Config) (z : List ℤ) : Type 0 where
   pub unknowns : length z ≡ unknowns_of r
   pub point : IsPoint (rows_of r) (at z) (pos 1)
   pub left : (j : ℕ) → j < length c.values → at z j ≡ at c.values j
-  pub news : map (λ f. form_value f (at z) (pos 1)) (news_of r) ≡ d.values
+  pub new_values : map (λ f. form_value f (at z) (pos 1)) (new_values_of r) ≡ d.values
 
 -- each step of a valid program is a point of its rule's rows
 pub record StepsArePoints : Type 0 where
@@ -81,7 +81,7 @@ pub record StepsArePoints : Type 0 where
 -- point with denominator 1, and its one new value there is the cost k
 pub record IsPointOfCost (r : Rule) (k : Term) (env : List ℤ) : Type 0 where
   pub point : IsPoint (rows_of (cost_rule r k)) (at (point_of (cost_rule r k) env)) (pos 1)
-  pub news : map (λ f. form_value f (at (point_of (cost_rule r k) env)) (pos 1)) (news_of (cost_rule r k))
+  pub new_values : map (λ f. form_value f (at (point_of (cost_rule r k) env)) (pos 1)) (new_values_of (cost_rule r k))
       ≡ value k env ∷ []
 
 -- the cost rules of a valid program are preparable; where the guard of a rule holds and its cost isn't negative, the
@@ -97,7 +97,7 @@ pub record CostsArePoints : Type 0 where
       → rule_at p t ≡ Some r → r.cost ≡ Some k → Leads (cost_rule r k) c free d
       → IsPointOfStep (cost_rule r k) c d (point_of (cost_rule r k) (c.values ++ free))
 
--- the absolute values of a form's numbers are at most 2^63 - 1, and it has so many coefficients
+-- the absolute values of a form's numbers are at most 2^63 - 1, and it has this many coefficients
 pub record IsSmallForm (n : ℕ) (f : Form) : Type 0 where
   pub width : length f.coefs ≡ n
   pub coefs : AllByRecursion (λ a. nat_abs a ≤ coefficient_limit) f.coefs
@@ -107,7 +107,7 @@ pub record IsSmallForm (n : ℕ) (f : Form) : Type 0 where
 -- absolute value; there are at most 128 rows and 96 unknowns
 pub record RowsAreSmall : Type 0 where
   pub rows : (r : Rule) → IsPreparable r → AllByRecursion (IsSmallForm (unknowns_of r)) (rows_of r)
-  pub news : (r : Rule) → IsPreparable r → AllByRecursion (IsSmallForm (unknowns_of r)) (news_of r)
+  pub new_values : (r : Rule) → IsPreparable r → AllByRecursion (IsSmallForm (unknowns_of r)) (new_values_of r)
   pub few_rows : (r : Rule) → IsPreparable r → length (rows_of r) ≤ 128
   pub few_unknowns : (r : Rule) → IsPreparable r → unknowns_of r ≤ 96
 

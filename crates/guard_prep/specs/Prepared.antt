@@ -11,16 +11,16 @@ use Rattle.its_model.specs.Valid.{difference_of}
 use Rattle.guard_prep.specs.Tightening.{tightened}
 
 -- whether a polynomial has degree 2 or more
-abbrev pub is_bent : Polynomial → Bool
-is_bent p = nat_lt 1 (degree_of p)
+abbrev pub is_nonlinear : Polynomial → Bool
+is_nonlinear p = nat_lt 1 (degree_of p)
 
 -- the expanded polynomials of the updates
 abbrev pub polys_of : Rule → List Polynomial
 polys_of r = map expanded r.updates
 
 -- the places whose update has degree 2 or more
-abbrev pub bent_of : Rule → List Bool
-bent_of r = map is_bent (polys_of r)
+abbrev pub nonlinear_of : Rule → List Bool
+nonlinear_of r = map is_nonlinear (polys_of r)
 
 -- how many are true
 abbrev pub count_true : List Bool → ℕ
@@ -30,7 +30,7 @@ count_true (false ∷ bs) = count_true bs
 
 -- the unknowns of a rule: its left variables, its free ones, and one for each bent place, in order of places
 abbrev pub unknowns_of : Rule → ℕ
-unknowns_of r = r.left + r.free + count_true (bent_of r)
+unknowns_of r = r.left + r.free + count_true (nonlinear_of r)
 
 -- a form with the opposite sign
 abbrev pub opposite_form : Form → Form
@@ -44,9 +44,9 @@ rows_by AtMost f = f ∷ []
 rows_by LessThan f = f ∷ []
 rows_by EqualTo f = f ∷ opposite_form f ∷ []
 
--- the rows of a comparison over so many unknowns by its expanded difference: none where that has degree 2 or more
+-- the rows of a comparison over this many unknowns by its expanded difference: none where that has degree 2 or more
 abbrev pub rows_of_difference : ℕ → Relation → Polynomial → List Form
-rows_of_difference width r p = if is_bent p then [] else rows_by r (linear_form width p)
+rows_of_difference width r p = if is_nonlinear p then [] else rows_by r (linear_form width p)
 
 -- the rows of an atom
 abbrev pub rows_of_atom : ℕ → Atom → List Form
@@ -67,25 +67,25 @@ all_tightened (f ∷ rows) = tightened f ++ all_tightened rows
 abbrev pub rows_of : Rule → List Form
 rows_of r = all_tightened (rows_of_guard (unknowns_of r) r.guard)
 
--- the new values over so many unknowns: that of a bent place is an unknown of its own, the first of which has the
+-- the new values over this many unknowns: that of a bent place is an unknown of its own, the first of which has the
 -- number k
-abbrev pub news_from : ℕ → ℕ → List Polynomial → List Form
-news_from width k [] = []
-news_from width k (p ∷ ps) =
-    if is_bent p then linear_form width (variable_form k) ∷ news_from width (suc k) ps
-    else linear_form width p ∷ news_from width k ps
+abbrev pub new_values_from : ℕ → ℕ → List Polynomial → List Form
+new_values_from width k [] = []
+new_values_from width k (p ∷ ps) =
+    if is_nonlinear p then linear_form width (variable_form k) ∷ new_values_from width (suc k) ps
+    else linear_form width p ∷ new_values_from width k ps
 
 -- the new value of each place, an affine form in the unknowns
-abbrev pub news_of : Rule → List Form
-news_of r = news_from (unknowns_of r) (r.left + r.free) (polys_of r)
+abbrev pub new_values_of : Rule → List Form
+new_values_of r = new_values_from (unknowns_of r) (r.left + r.free) (polys_of r)
 
 -- what is prepared of a rule
 pub record Prepared : Type 0 where
   pub left : ℕ
   pub unknowns : ℕ
   pub rows : List Form
-  pub news : List Form
-  pub bent : List Bool
+  pub new_values : List Form
+  pub nonlinear : List Bool
   pub polys : List Polynomial
 
 -- all of it
@@ -94,7 +94,7 @@ prepared r = record {
   left = r.left;
   unknowns = unknowns_of r;
   rows = rows_of r;
-  news = news_of r;
-  bent = bent_of r;
+  new_values = new_values_of r;
+  nonlinear = nonlinear_of r;
   polys = polys_of r;
 }

@@ -1,4 +1,4 @@
--- Rows over whole numbers, tightened.
+-- Tightening of rows over the integers.
 use Rattle.std.specs.Prelude.{ℕ, zero, suc, ◌%◌, Bool, true, ◌&&◌, nat_eq, if◌then◌else◌, List, [], ◌∷◌, map, ℤ}
 use Rattle.std.specs.Prelude.{pos, negsuc, nat_abs, int_le, int_div}
 use Rattle.std.specs.Int.{int_div_euclid}
@@ -29,6 +29,6 @@ tightened_by (suc k) f =
       constant = int_div_euclid f.constant (pos (suc k));
     } ∷ []
 
--- what is left of a row that is tightened: it has the same whole solutions
+-- what is left of a row that is tightened: it has the same integer solutions
 abbrev pub tightened : Form → List Form
 tightened f = tightened_by (divisor_of f.coefs) f

@@ -1,4 +1,4 @@
--- What is prepared of a rule, as plain data.
+-- The prepared rows of a rule, as plain data.
 use Rattle.std.specs.Prelude.{map}
 use Rattle.poly_terms.specs.Views.{poly_of, form_of}
 use Rattle.guard_prep.specs.declared.rule_rows.RuleRows.{RuleRows}
@@ -10,7 +10,7 @@ prepared_of m = record {
   left = m.left;
   unknowns = m.unknowns;
   rows = map form_of m.rows.items;
-  news = map form_of m.news.items;
-  bent = m.bent.items;
+  new_values = map form_of m.new_values.items;
+  nonlinear = m.nonlinear.items;
   polys = map poly_of m.polys.items;
 }

@@ -1,4 +1,4 @@
--- Which rules have rows, and which points are those of steps, worked out by hand.
+-- Worked values of which rules have rows, and which points are those of steps.
 use Rattle.std.specs.Prelude.{◌≡◌, [], ◌∷◌, pos, negsuc}
 use Rattle.poly_terms.specs.model.Terms.{Term, Literal, Variable, Subtraction, Exponentiation}
 use Rattle.poly_terms.specs.model.Programs.{AtLeast, Atom, Compare, Rule, GuardHolds}
@@ -6,7 +6,7 @@ use Rattle.poly_terms.specs.model.Runs.{Config}
 use Rattle.poly_terms.specs.linear_forms.Forms.{at}
 use Rattle.poly_terms.specs.linear_forms.Points.{IsPoint}
 use Rattle.guard_prep.specs.Prepared.{rows_of}
-use Rattle.guard_prep.specs.Laws.{IsPreparable, IsLinear, LinearPartHolds, bent_values, point_of, IsPointOfStep}
+use Rattle.guard_prep.specs.Laws.{IsPreparable, IsLinear, LinearPartHolds, nonlinear_values, point_of, IsPointOfStep}
 use Rattle.guard_prep.specs.Laws.{IsSmallForm, IsPointOfCost}
 use Rattle.guard_prep.specs.WorkedRows.{square, two, with_free}
 
@@ -28,7 +28,7 @@ ninth_power = Exponentiation (Variable 0) 9
 
 -- the worked rule has rows; none have a rule with 64 free variables, one whose update reads a third variable, one whose
 -- update is A^9, and one whose atom has it
-pub record RulesAreTold : Type 0 where
+pub record RulesAreWorkedOut : Type 0 where
   pub worked : IsPreparable worked_rule
   pub many_variables : ¬ (IsPreparable (record worked_rule { free = 64 }))
   pub out_of_range : ¬ (IsPreparable (with_free (Variable 2 ∷ []) []))
@@ -37,9 +37,9 @@ pub record RulesAreTold : Type 0 where
 
 -- A >= 1 is linear, and A*A >= B isn't; so at 1 and 5 the linear part of the guard holds, though the guard doesn't, and
 -- at 0 and 0 it doesn't
-pub record LinearPartsAreTold : Type 0 where
+pub record LinearPartsAreWorkedOut : Type 0 where
   pub linear : IsLinear at_least_one
-  pub bent : ¬ (IsLinear square_at_least)
+  pub nonlinear : ¬ (IsLinear square_at_least)
   pub holds : LinearPartHolds (pos 1 ∷ pos 5 ∷ []) worked_rule.guard
   pub more_holds_not : ¬ (GuardHolds (pos 1 ∷ pos 5 ∷ []) worked_rule.guard)
   pub fails : ¬ (LinearPartHolds (pos 0 ∷ pos 0 ∷ []) worked_rule.guard)
@@ -53,8 +53,8 @@ worked_target = record { at = 1; values = pos 1 ∷ pos 9 ∷ [] }
 
 -- with B = 2 the rule leads from l0(3) to l1(1, 9) at (3, 2, 9), but not where the square, the free variable or the
 -- left one is another, nor without an unknown for the square; at (0, 0, 0) the row of the rule fails
-pub record StepPointsAreTold : Type 0 where
-  pub squares : bent_values worked_rule.updates (pos 3 ∷ pos 2 ∷ []) ≡ pos 9 ∷ []
+pub record StepPointsAreWorkedOut : Type 0 where
+  pub squares : nonlinear_values worked_rule.updates (pos 3 ∷ pos 2 ∷ []) ≡ pos 9 ∷ []
   pub point : point_of worked_rule (pos 3 ∷ pos 2 ∷ []) ≡ pos 3 ∷ pos 2 ∷ pos 9 ∷ []
   pub step : IsPointOfStep worked_rule worked_source worked_target (pos 3 ∷ pos 2 ∷ pos 9 ∷ [])
   pub other_square : ¬ (IsPointOfStep worked_rule worked_source worked_target (pos 3 ∷ pos 2 ∷ pos 8 ∷ []))
@@ -64,12 +64,12 @@ pub record StepPointsAreTold : Type 0 where
   pub row_fails : ¬ (IsPoint (rows_of worked_rule) (at (pos 0 ∷ pos 0 ∷ pos 0 ∷ [])) (pos 1))
 
 -- with the cost A the point at A = 3 gives 3 as the new value; at A = -1 the row A >= 0 of the cost rule fails
-pub record CostPointsAreTold : Type 0 where
+pub record CostPointsAreWorkedOut : Type 0 where
   pub cost : IsPointOfCost (with_free (Variable 0 ∷ []) []) (Variable 0) (pos 3 ∷ pos 0 ∷ [])
   pub negative_cost : ¬ (IsPointOfCost (with_free (Variable 0 ∷ []) []) (Variable 0) (negsuc 0 ∷ pos 0 ∷ []))
 
 -- a form of two numbers with the maximum 2^63 - 1 and the constant -5 is small; one with 2^63 isn't, nor one of three
-pub record SmallFormsAreTold : Type 0 where
+pub record SmallFormsAreWorkedOut : Type 0 where
   pub largest : IsSmallForm 2 (two (pos 9223372036854775807) (negsuc 0) (negsuc 4))
   pub too_large : ¬ (IsSmallForm 2 (two (pos 9223372036854775808) (negsuc 0) (negsuc 4)))
   pub constant_too_large : ¬ (IsSmallForm 2 (two (pos 0) (pos 0) (negsuc 9223372036854775807)))
@@ -77,8 +77,8 @@ pub record SmallFormsAreTold : Type 0 where
 
 -- all of it
 pub record PointsAreWorkedOut : Type 0 where
-  pub rules : RulesAreTold
-  pub linear_parts : LinearPartsAreTold
-  pub steps : StepPointsAreTold
-  pub costs : CostPointsAreTold
-  pub forms : SmallFormsAreTold
+  pub rules : RulesAreWorkedOut
+  pub linear_parts : LinearPartsAreWorkedOut
+  pub steps : StepPointsAreWorkedOut
+  pub costs : CostPointsAreWorkedOut
+  pub forms : SmallFormsAreWorkedOut

@@ -1,10 +1,10 @@
--- Rows that were worked out by hand.
+-- Worked values of rows.
 use Rattle.std.specs.Prelude.{◌≡◌, List, [], ◌∷◌, ℤ, pos, negsuc, None, true, false}
 use Rattle.poly_terms.specs.model.Terms.{Term, Literal, Variable, Addition, Subtraction, Multiplication}
 use Rattle.poly_terms.specs.model.Programs.{AtLeast, MoreThan, AtMost, LessThan, EqualTo, Atom, Always, Compare, Rule}
 use Rattle.poly_terms.specs.linear_forms.Forms.{Form}
 use Rattle.guard_prep.specs.Tightening.{divisor_of, tightened}
-use Rattle.guard_prep.specs.Prepared.{rows_of, news_of, bent_of, unknowns_of}
+use Rattle.guard_prep.specs.Prepared.{rows_of, new_values_of, nonlinear_of, unknowns_of}
 
 -- the rule l0(A) -> l1(update) where the atoms hold, with one free variable B
 abbrev pub with_free : List Term → List Atom → Rule
@@ -43,7 +43,7 @@ abbrev pub four : ℤ → ℤ → ℤ → ℤ → ℤ → Form
 four a b x y c = record { coefs = a ∷ b ∷ x ∷ y ∷ []; constant = c }
 
 -- the greatest common divisor of coefficients: of 4 and -6, of -9 and 0, of 2 and 3, of zeros, and of none
-pub record DivisorsAreTold : Type 0 where
+pub record DivisorsAreWorkedOut : Type 0 where
   pub common : divisor_of (pos 4 ∷ negsuc 5 ∷ []) ≡ 2
   pub alone : divisor_of (negsuc 8 ∷ pos 0 ∷ []) ≡ 9
   pub coprime : divisor_of (pos 2 ∷ pos 3 ∷ []) ≡ 1
@@ -87,20 +87,20 @@ pub record GuardsHaveRows : Type 0 where
 -- coefficients; the first of two bent places has the third unknown and the second one the fourth; A*A + B - A*A isn't
 -- bent
 pub record UpdatesHaveForms : Type 0 where
-  pub news : news_of (with_free (successor ∷ product ∷ Variable 0 ∷ []) [])
+  pub new_values : new_values_of (with_free (successor ∷ product ∷ Variable 0 ∷ []) [])
       ≡ three (pos 1) (pos 0) (pos 0) (pos 1) ∷ three (pos 0) (pos 0) (pos 1) (pos 0)
       ∷ three (pos 1) (pos 0) (pos 0) (pos 0) ∷ []
-  pub bent : bent_of (with_free (successor ∷ product ∷ Variable 0 ∷ []) []) ≡ false ∷ true ∷ false ∷ []
+  pub nonlinear : nonlinear_of (with_free (successor ∷ product ∷ Variable 0 ∷ []) []) ≡ false ∷ true ∷ false ∷ []
   pub unknowns : unknowns_of (with_free (successor ∷ product ∷ Variable 0 ∷ []) []) ≡ 3
   pub row : rows_of (with_free (successor ∷ product ∷ Variable 0 ∷ []) (Compare (Variable 0) AtLeast (Variable 1) ∷ []))
       ≡ three (pos 1) (negsuc 0) (pos 0) (pos 0) ∷ []
-  pub two_bent : news_of (with_free (square ∷ product ∷ []) [])
+  pub two_nonlinear : new_values_of (with_free (square ∷ product ∷ []) [])
       ≡ four (pos 0) (pos 0) (pos 1) (pos 0) (pos 0) ∷ four (pos 0) (pos 0) (pos 0) (pos 1) (pos 0) ∷ []
-  pub cancelled : bent_of (with_free (Subtraction (Addition square (Variable 1)) square ∷ []) []) ≡ false ∷ []
+  pub cancelled : nonlinear_of (with_free (Subtraction (Addition square (Variable 1)) square ∷ []) []) ≡ false ∷ []
 
 -- all of it
 pub record RowsAreWorkedOut : Type 0 where
-  pub divisors : DivisorsAreTold
+  pub divisors : DivisorsAreWorkedOut
   pub tightened_rows : RowsAreTightened
   pub guards : GuardsHaveRows
   pub updates : UpdatesHaveForms

@@ -1,4 +1,4 @@
-//! The laws of rows: what the soundness of proofs by them rests on.
+//! Laws of rows, on which the soundness of certificates rests.
 
 ghost use Rattle.guard_prep.specs.Laws.{ValidRulesArePreparable, TighteningKeepsWholeSolutions, GuardsGivePoints};
 ghost use Rattle.guard_prep.specs.Laws.{RowsAreTheLinearPart};
@@ -6,12 +6,12 @@ ghost use Rattle.guard_prep.specs.Laws.{StepsArePoints, CostsArePoints, RowsAreS
 ghost use Rattle.guard_prep.specs.WorkedRows.{RowsAreWorkedOut};
 ghost use Rattle.guard_prep.specs.WorkedPoints.{PointsAreWorkedOut};
 
-/// The rules of a valid program have rows. It has no code, as all functions here: its contract is the law.
+/// The rules of a valid program have rows. The function has no code, as all functions here: its contract is the law.
 pub fn valid_rules_are_preparable()
     ensures { ValidRulesArePreparable }
 {}
 
-/// A row that is tightened has the same whole solutions.
+/// A tightened row has the same integer solutions.
 pub fn tightening_keeps_whole_solutions()
     ensures { TighteningKeepsWholeSolutions }
 {}
@@ -22,8 +22,7 @@ pub fn guards_give_points()
     ensures { GuardsGivePoints }
 {}
 
-/// At whole numbers the rows of a rule say just what those atoms of its guard say whose difference has degree at most
-/// 1.
+/// At integers the rows of a rule say exactly what those atoms of its guard say whose difference has degree at most 1.
 pub fn rows_are_the_linear_part()
     ensures { RowsAreTheLinearPart }
 {}
@@ -34,7 +33,7 @@ pub fn steps_are_points()
 {}
 
 /// Each step by the cost rule of a rule of a valid program is a point of the cost rule's rows: where the rule's guard
-/// holds and its cost isn't negative, they have a point with the cost as the new value.
+/// holds and its cost isn't negative, the rows have a point with the cost as the new value.
 pub fn costs_are_points()
     ensures { CostsArePoints }
 {}
@@ -44,17 +43,17 @@ pub fn rows_are_small()
     ensures { RowsAreSmall }
 {}
 
-/// The rows of a rule meet the conditions of `farkas_cert::implies`, `empty` and `on_rows`.
+/// The rows of a rule meet the preconditions of `farkas_cert::implies`, `empty` and `on_rows`.
 pub fn rows_suit_certificates()
     ensures { RowsSuitCertificates }
 {}
 
-/// Rows, new values and bent places are what was worked out by hand.
+/// Worked values of rows, new values and bent places.
 pub fn rows_are_as_worked_out()
     ensures { RowsAreWorkedOut }
 {}
 
-/// Which rules have rows, and which points are those of steps, is what was worked out by hand, on both sides.
+/// Worked values, on both sides, of which rules have rows, and which points are those of steps.
 pub fn points_are_as_worked_out()
     ensures { PointsAreWorkedOut }
 {}

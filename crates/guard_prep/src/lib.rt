@@ -1,5 +1,9 @@
-//! A rule becomes linear rows here. Contract to the layer above: `rows` gives exactly the rows, new values, bent places
-//! and polynomials of the plain rule (`prepared`), and each step of a valid program is a point of its rule's rows.
+//! Turns a rule into linear inequalities ("rows"): those of its guard's linear atoms, its new values as affine forms,
+//! and the polynomials of its nonlinear updates ("bent" places).
+//!
+//! Builds on `its_model` (programs), `poly_terms` (polynomials), `farkas_cert` and `int_laws`. Main guarantee: `rows`
+//! gives exactly the rows, new values, bent places and polynomials of the plain rule (`prepared`), and each step of a
+//! valid program is a point of its rule's rows.
 #![tactic(auto)]
 
 mod laws;

@@ -1,4 +1,4 @@
-//! From a rule to its rows.
+//! Computes the rows of a rule.
 
 ghost use Rattle.std.specs.Prelude.{◌≡◌, ◌+◌, ◌<◌, ◌≤◌, ◌++◌, length, map, nat_abs, IfOk, OnOk, None};
 ghost use Rattle.std.specs.List.{AllByRecursion};
@@ -12,8 +12,8 @@ ghost use Rattle.poly_terms.specs.Views.{term_of, poly_of, form_of};
 ghost use Rattle.its_model.specs.Valid.{IsValidAtom, IsValidComparison, difference_of};
 ghost use Rattle.its_model.specs.Views.{atom_of, relation_of, rule_of};
 ghost use Rattle.guard_prep.specs.Laws.{IsPreparable};
-ghost use Rattle.guard_prep.specs.Prepared.{is_bent, count_true, opposite_form, rows_by, rows_of_atom, rows_of_guard};
-ghost use Rattle.guard_prep.specs.Prepared.{all_tightened, news_from, prepared};
+ghost use Rattle.guard_prep.specs.Prepared.{is_nonlinear, count_true, opposite_form, rows_by, rows_of_atom, rows_of_guard};
+ghost use Rattle.guard_prep.specs.Prepared.{all_tightened, new_values_from, prepared};
 ghost use Rattle.guard_prep.specs.Views.{prepared_of};
 
 use crate::rule_rows::RuleRows;
@@ -27,7 +27,7 @@ use std::alloc::{AllocError, Global};
 /// The rows of a rule of a valid program.
 ///
 /// The unknowns are its left variables, its free ones, and one for each update of degree 2 or more. An atom whose
-/// difference has degree at most 1 gives rows, which are tightened over whole numbers; one of a higher degree gives
+/// difference has degree at most 1 gives rows, which are tightened over the integers; an atom of a higher degree gives
 /// none.
 ///
 /// # Errors
@@ -38,17 +38,17 @@ pub fn rows(alloc: Global, r: &Rule) -> Result<RuleRows, Memory>
     ensures { IfOk result (λ m. prepared_of m ≡ prepared (rule_of r.now)) }
 {
     let polys = polys_of(alloc, &r.updates)?;
-    let bent = bent_of(alloc, &polys)?;
+    let nonlinear = nonlinear_of(alloc, &polys)?;
     let variables = r.left + r.free;
-    let unknowns = variables + count_of(&bent);
-    let news = news_of(alloc, &polys, variables, unknowns)?;
+    let unknowns = variables + count_of(&nonlinear);
+    let new_values = new_values_of(alloc, &polys, variables, unknowns)?;
     let rows = guard_rows(alloc, &r.guard, unknowns)?;
     Ok(RuleRows {
         left: r.left,
         unknowns,
         rows,
-        news,
-        bent,
+        new_values,
+        nonlinear,
         polys,
     })
 }
@@ -77,23 +77,23 @@ fn expanded_without_fault(alloc: Global, e: &Expr) -> Result<Poly, Memory>
 }
 
 // Which polynomials have degree 2 or more.
-fn bent_of(alloc: Global, polys: &[Poly]) -> Result<Vec<bool>, Memory>
-    ensures { IfOk result (λ bent. bent.items ≡ map is_bent (map poly_of polys.now)) }
+fn nonlinear_of(alloc: Global, polys: &[Poly]) -> Result<Vec<bool>, Memory>
+    ensures { IfOk result (λ nonlinear. nonlinear.items ≡ map is_nonlinear (map poly_of polys.now)) }
 {
-    let mut bent = Vec::new(alloc);
+    let mut nonlinear = Vec::new(alloc);
     for p in polys {
-        bent.push(p.degree() > 1)?;
+        nonlinear.push(p.degree() > 1)?;
     }
-    Ok(bent)
+    Ok(nonlinear)
 }
 
 // How many are true.
-fn count_of(bent: &[bool]) -> u32
-    requires { length bent.now ≤ place_limit }
-    ensures { result ≡ count_true bent.now }
+fn count_of(nonlinear: &[bool]) -> u32
+    requires { length nonlinear.now ≤ place_limit }
+    ensures { result ≡ count_true nonlinear.now }
 {
     let mut count = 0;
-    for b in bent {
+    for b in nonlinear {
         if *b {
             count += 1;
         }
@@ -102,24 +102,24 @@ fn count_of(bent: &[bool]) -> u32
 }
 
 // The new values: that of a bent place is an unknown of its own, the first of which has the number `own`.
-fn news_of(alloc: Global, polys: &[Poly], own: u32, unknowns: u32) -> Result<Vec<Row>, Memory>
+fn new_values_of(alloc: Global, polys: &[Poly], own: u32, unknowns: u32) -> Result<Vec<Row>, Memory>
     requires ascending { AllByRecursion IsAscending (map poly_of polys.now) }
     requires in_range { AllByRecursion (HasVariablesBelow unknowns) (map poly_of polys.now) }
-    requires room { own + count_true (map is_bent (map poly_of polys.now)) ≤ unknowns }
-    ensures { IfOk result (λ news. map form_of news.items ≡ news_from unknowns own (map poly_of polys.now)) }
+    requires room { own + count_true (map is_nonlinear (map poly_of polys.now)) ≤ unknowns }
+    ensures { IfOk result (λ new_values. map form_of new_values.items ≡ new_values_from unknowns own (map poly_of polys.now)) }
 {
-    let mut news = Vec::new(alloc);
+    let mut new_values = Vec::new(alloc);
     let mut next = own;
     for p in polys {
         match p.linear_part(alloc, unknowns)? {
-            Some(row) => news.push(row)?,
+            Some(row) => new_values.push(row)?,
             None => {
-                news.push(unit_row(alloc, next, unknowns)?)?;
+                new_values.push(unit_row(alloc, next, unknowns)?)?;
                 next += 1;
             }
         }
     }
-    Ok(news)
+    Ok(new_values)
 }
 
 // The form that is one unknown.

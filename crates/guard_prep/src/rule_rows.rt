@@ -1,4 +1,4 @@
-//! What is prepared of a rule.
+//! The prepared rows of a rule.
 
 use poly_terms::{Poly, Row};
 
@@ -12,9 +12,9 @@ pub struct RuleRows {
     /// The linear rows of the guard, each tightened: each is at least 0.
     pub rows: Vec<Row>,
     /// The new value of each place of the target, as a form in the unknowns.
-    pub news: Vec<Row>,
+    pub new_values: Vec<Row>,
     /// Whether the update of each place has degree 2 or more.
-    pub bent: Vec<bool>,
+    pub nonlinear: Vec<bool>,
     /// The expanded polynomial of each update.
     pub polys: Vec<Poly>,
 }

@@ -1,4 +1,4 @@
-//! Rows over whole numbers, tightened.
+//! Tightens rows over the integers.
 
 ghost use Rattle.std.specs.Prelude.{◌≡◌, ◌≤◌, ◌<◌, ◌++◌, length, map, ℤ, pos, ◌<ℤ◌, nat_abs, int_div, slice_set};
 ghost use Rattle.std.specs.Prelude.{slice_index_or, IfOk, OnOk};
@@ -11,7 +11,7 @@ ghost use Rattle.guard_prep.specs.Tightening.{divisor_of, tightened, tightened_b
 use int_laws::greatest_common_divisor;
 use poly_terms::{Memory, Row};
 
-/// Appends what is left of a row when it is tightened.
+/// Appends the tightened row, unless it always holds.
 pub(crate) fn push_tightened(rows: &mut Vec<Row>, row: Row) -> Result<(), Memory>
     requires coefs { AllByRecursion (λ a. nat_abs a ≤ coefficient_limit) row.coefs.items }
     requires constant { nat_abs row.constant ≤ coefficient_limit }

@@ -7,7 +7,7 @@ use Rattle.std.proofs.Math.Nat.{le_of_dvd, lt-div-mul-add, mul-div_cancel_left, 
 use Rattle.int_laws.specs.Divisors.{IsLeastCommonMultiple, HasNoneWithin}
 use Rattle.int_laws.proofs.Coprime.{euclid}
 
--- a greatest common divisor of numbers over 0 is over 0
+-- a greatest common divisor of numbers above 0 is above 0
 pub gcd-positive : (a b g : ℕ) → IsGcd a b g → 0 < b → 0 < g
 gcd-positive a b g h positive = pos_of_dvd_of_pos h.1 positive
 
@@ -72,7 +72,7 @@ product-multiple a b g m over_a over_b gcd e =
 pub multiple-one : (a b m n : ℕ) → IsLeastCommonMultiple a b m → IsLeastCommonMultiple a b n → m ≡ n
 multiple-one a b m n h k = dvd_antisymm (h.least n k.first k.second) (k.least m h.first h.second)
 
--- where the least common multiple would pass a limit, none is within it
+-- where the least common multiple would exceed a limit, none is within it
 pub none-within : (a b g y limit : ℕ) → 0 < a → 0 < b → IsGcd a b g → y * g ≡ b → limit / a < y → HasNoneWithin a b limit
 none-within a b g y limit over_a over_b gcd of_b passes = record {
   each = λ n positive da db. above n (le_of_dvd positive ((least-multiple a b g y over_a over_b gcd of_b).least n da db));

@@ -136,7 +136,7 @@ sum_to-apart n k f g l z h =
     from_difference : (s v d a : ℤ) → d ≡ s -ℤ v → d ≡ a -ℤ g k → g k ≡ pos 0 → s ≡ v +ℤ a
     from_difference s v d a e f z = omega (arith, ints)
 
--- a sum of terms at least 0 is over 0 where one of them is
+-- a sum of terms at least 0 is above 0 where one of them is
 pub sum_to-positive : (n k : ℕ) (f : ℕ → ℤ) → k < n → ((j : ℕ) → j < n → pos 0 ≤ℤ f j) → pos 0 <ℤ f k → pos 0 <ℤ sum_to n f
 sum_to-positive zero k f l h p = absurd (omega arith)
 sum_to-positive (suc n) k f l h p = go (last_or_before n k l) (λ m. sum_to-positive n k f m (λ j i. h j (omega arith)) p)

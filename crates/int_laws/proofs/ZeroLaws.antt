@@ -15,8 +15,8 @@ pub is_zero-false : (z : ℤ) → is_zero z ≡ false → z ≢ pos 0
 is_zero-false z h e = true≢false (sym (ap is_zero e) ∙ h)
 
 -- an integer that isn't 0 doesn't pass
-pub not_zero-told : (z : ℤ) → z ≢ pos 0 → not (is_zero z) ≡ true
-not_zero-told z n = go (is_zero z) refl
+pub not_zero-complete : (z : ℤ) → z ≢ pos 0 → not (is_zero z) ≡ true
+not_zero-complete z n = go (is_zero z) refl
   where
     go : (v : Bool) → is_zero z ≡ v → not v ≡ true
     go true e = absurd (n (is_zero-true z e))

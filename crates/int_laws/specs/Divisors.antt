@@ -8,12 +8,11 @@ pub record IsLeastCommonMultiple (a b m : ℕ) : Type 0 where
   pub second : b ∣ m
   pub least : (n : ℕ) → a ∣ n → b ∣ n → m ∣ n
 
--- no common multiple over 0 is within the limit
+-- no common multiple above 0 is within the limit
 pub record HasNoneWithin (a b limit : ℕ) : Type 0 where
   pub each : (n : ℕ) → 0 < n → a ∣ n → b ∣ n → limit < n
 
--- the product of a and b is that of their greatest common divisor and their least common multiple, of which there is
--- one
+-- the product of a and b is that of their greatest common divisor and their least common multiple, which is unique
 pub record LeastCommonMultiplesHold : Type 0 where
   pub product : (a b g m : ℕ) → 0 < a → 0 < b → IsGcd a b g → g * m ≡ a * b → IsLeastCommonMultiple a b m
   pub one : (a b m n : ℕ) → IsLeastCommonMultiple a b m → IsLeastCommonMultiple a b n → m ≡ n

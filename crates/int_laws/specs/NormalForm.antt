@@ -1,4 +1,5 @@
--- Horner's form of a polynomial, in which equal polynomials are told by their coefficients.
+-- Horner's form of a polynomial: equal polynomials have equal coefficients in it, so equality is decided by comparing
+-- these.
 use Rattle.std.specs.Prelude.{ℕ, zero, suc, ℤ, pos, negsuc, ◌+ℤ◌, ◌*ℤ◌, List, Bool, true, false, ◌&&◌}
 use Rattle.int_laws.specs.Polynomial.{Polynomial, variable, constant, ◌⊕◌, ◌⊖◌, ◌⊗◌, negated, first_value, other_values}
 

@@ -1,4 +1,4 @@
--- Polynomials with whole coefficients as they are written, and their values.
+-- Polynomials with integer coefficients as expressions, and their values.
 use Rattle.std.specs.Prelude.{ℕ, zero, suc, ℤ, pos, ◌+ℤ◌, ◌-ℤ◌, ◌*ℤ◌, neg_ℤ, List, [], ◌∷◌}
 
 infixl 6 ◌⊕◌

@@ -1,4 +1,4 @@
--- Sums over the first indices of a function, as linear algebra writes them.
+-- Sums over the first indices of a function, as in linear algebra.
 use Rattle.std.specs.Prelude.{ℕ, zero, suc, ℤ, pos, ◌+ℤ◌, ◌*ℤ◌}
 
 -- f 0 + .. + f (n - 1)

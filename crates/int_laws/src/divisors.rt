@@ -48,7 +48,7 @@ pub fn least_common_multiple(a: u128, b: u128, limit: u128) -> Option<u128>
     Some(a * rest)
 }
 
-/// A number has one least common multiple with another, and it is a multiple of each.
+/// Two numbers have exactly one least common multiple, and it is a multiple of each.
 pub fn least_common_multiples_hold()
     ensures { LeastCommonMultiplesHold }
 {}

@@ -1,7 +1,8 @@
-//! Laws over ℤ that the crates above cite: ring and order laws, a decision of polynomial
-//! identities, sums over index functions, and the weak duality of linear programs; greatest common
-//! divisors and least common multiples. The lemmas stand
-//! in `proofs/`; the functions here state the two main ones.
+//! Laws over ℤ that the crates above cite: ring and order laws, a decision procedure for polynomial identities, sums
+//! over index functions, weak duality of linear programs, greatest common divisors and least common multiples.
+//!
+//! Depends on no other crate. The lemmas are in `proofs/`; the contracts of the two functions in this file are the main
+//! ones.
 #![tactic(auto)]
 
 mod divisors;
@@ -15,8 +16,8 @@ pub fn polynomial_identities_hold()
     ensures { PolynomialIdentitiesHold }
 {}
 
-/// Prices that give each column at most its cost give the right sides at most the cost of any
-/// solution: the weak duality of linear programs in equational form.
+/// Weak duality of linear programs in equational form: prices that give each column at most its cost give the right
+/// sides at most the cost of any solution.
 pub fn weak_duality_holds()
     ensures { WeakDualityHolds }
 {}

@@ -11,7 +11,7 @@ use Rattle.model.specs.Paths.{Path, Here, Onward}
 use Rattle.its_graph.specs.declared.order.Sorting.{Sorting}
 use Rattle.its_graph.specs.Groups.{Joins}
 use Rattle.its_graph.specs.Orders.{IsLeader, AreLeadersInOrder, AreOrderable, IsMarked, Waits, IsSorting}
-use Rattle.its_graph.proofs.Elements.{Contains-cons_cases, Contains-first, Contains-later, none_in_empty, Told, told}
+use Rattle.its_graph.proofs.Elements.{Contains-cons_cases, Contains-first, Contains-later, none_in_empty, Decided, decided}
 
 -- an element that a test finds is one of the list
 found-element : (q : ℕ) (xs : List ℕ) → list_any (eqb q) xs ≡ true → Contains xs q
@@ -19,18 +19,18 @@ found-element q [] h = absurd (different h)
   where
     different : false ≡ true → ⊥
     different x = cc
-found-element q (x ∷ xs) h = go (told q x) (λ rest. found-element q xs rest)
+found-element q (x ∷ xs) h = go (decided q x) (λ rest. found-element q xs rest)
   where
-    go : Told q x → (list_any (eqb q) xs ≡ true → Contains xs q) → Contains (x ∷ xs) q
+    go : Decided q x → (list_any (eqb q) xs ≡ true → Contains xs q) → Contains (x ∷ xs) q
     go (inl (test, same)) onward = subst (λ (y : ℕ). Contains (x ∷ xs) y) (sym same) (Contains-first x xs)
     go (inr (test, other)) onward = Contains-later x xs q (onward (rw test at h))
 
 -- a number that is none of a list keeps it distinct
 distinct-more : (e : ℕ) (xs : List ℕ) → ((x : ℕ) → Contains xs x → e ≢ x) → IsDistinct eqb xs → IsDistinct eqb (e ∷ xs)
 distinct-more e xs h d =
-    IsDistinct-cons eqb e xs (recursion_from_All (λ (y : ℕ). eqb e y ≡ false) xs (All-from_get_or (λ (y : ℕ). eqb e y ≡ false) xs 0 (λ i low. differs (get_or xs i 0) (h (get_or xs i 0) (Contains-get_or xs i 0 low)) (told e (get_or xs i 0))))) d
+    IsDistinct-cons eqb e xs (recursion_from_All (λ (y : ℕ). eqb e y ≡ false) xs (All-from_get_or (λ (y : ℕ). eqb e y ≡ false) xs 0 (λ i low. differs (get_or xs i 0) (h (get_or xs i 0) (Contains-get_or xs i 0 low)) (decided e (get_or xs i 0))))) d
   where
-    differs : (y : ℕ) → e ≢ y → Told e y → eqb e y ≡ false
+    differs : (y : ℕ) → e ≢ y → Decided e y → eqb e y ≡ false
     differs y ne (inl (test, same)) = absurd (ne same)
     differs y ne (inr (test, other)) = test
 

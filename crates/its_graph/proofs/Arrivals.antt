@@ -42,7 +42,7 @@ arrivals-filter f s i (r ∷ rules) h = go (r.target == s) refl (arrivals-filter
     go true e ih = rw (here, next) (rw e (ap (λ (xs : List ℕ). i ∷ xs) ih))
     go false e ih = rw (here, next) (rw e ih)
 
--- so it is what can come just before a rule from there
+-- the arrivals at a rule's source are what can come just before the rule
 pub arrivals-pre : (p : Program) (t s : ℕ) → source_of p t ≡ Some s → values_of (arrivals p.start (map ends_of p.rules)) s ≡ pre p t
 arrivals-pre p t s source =
     go (p.start == s) refl (arrivals-filter (target_of p) s 1 p.rules (λ k r e. ap (target_of p) (next k) ∙ ap target_in e))

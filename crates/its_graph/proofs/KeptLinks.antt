@@ -15,7 +15,7 @@ use Rattle.its_graph.specs.Groups.{values_of, values_in, Joins, IsPair, swap}
 use Rattle.its_graph.specs.Links.{ends_of, kept_links, all_cut}
 use Rattle.its_graph.specs.declared.graph.Graph.{Graph}
 use Rattle.its_graph.specs.Graphs.{flagged, none_of, IsGraphOf}
-use Rattle.its_graph.proofs.Elements.{Told, told}
+use Rattle.its_graph.proofs.Elements.{Decided, decided}
 use Rattle.its_graph.proofs.PairLists.{Pair, same_pair, pair-cases, pair-later, pair-within, joins-pairs, swap-from}
 use Rattle.its_graph.proofs.PairLists.{swap-listed}
 
@@ -126,9 +126,9 @@ cut-flag [] flags t = sym (and_true (get_or flags t false))
     and_true : (v : Bool) → (v && true) ≡ v
     and_true true = refl
     and_true false = refl
-cut-flag (x ∷ cut) flags t = go (told t x) (cut-flag cut (set flags x false) t)
+cut-flag (x ∷ cut) flags t = go (decided t x) (cut-flag cut (set flags x false) t)
   where
-    go : Told t x → get_or (all_cut cut (set flags x false)) t false ≡ (get_or (set flags x false) t false && none_of cut t) → get_or (all_cut cut (set flags x false)) t false ≡ (get_or flags t false && none_of (x ∷ cut) t)
+    go : Decided t x → get_or (all_cut cut (set flags x false)) t false ≡ (get_or (set flags x false) t false && none_of cut t) → get_or (all_cut cut (set flags x false)) t false ≡ (get_or flags t false && none_of (x ∷ cut) t)
     go (inr (test, other)) ih = ih ∙ rw (get_or-set_other flags x t false false other) (rw test refl)
     go (inl (test, same)) ih = ih ∙ (ap (λ (v : Bool). v && none_of cut t) (cut_here (cases_lt t (length flags))) ∙ sym (rw test (and_false (get_or flags t false))))
       where

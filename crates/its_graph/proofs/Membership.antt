@@ -16,7 +16,7 @@ use Rattle.its_graph.specs.Components.{IsMutual, IsListed, MayComeNext, IsNext, 
 use Rattle.its_graph.specs.Classes.{AreLeaders}
 use Rattle.its_graph.specs.Orders.{Needs, IsNextLeader, EachIsNext, AreLeadersInOrder}
 use Rattle.its_graph.specs.Members.{numbered, AreMembers}
-use Rattle.its_graph.proofs.Elements.{Told, told}
+use Rattle.its_graph.proofs.Elements.{Decided, decided}
 use Rattle.its_graph.proofs.AllLeadersListed.{distinct-few}
 use Rattle.its_graph.proofs.PairLists.{AreWithin, pair-within, Pair, pair-cases, pair-later, same_pair, value-listed}
 use Rattle.its_graph.proofs.PairLists.{value-from}
@@ -34,12 +34,12 @@ increasing-cons x xs h up (suc k) low =
 -- the nodes of a position ascend, from the first number on
 numbered-ascending : (positions : List ℕ) (i : ℕ) (ls : List ℕ) (k : ℕ) → IsStrictlyIncreasing (values_of (numbered positions i ls) k) × All (λ y. i ≤ y) (values_of (numbered positions i ls) k)
 numbered-ascending positions i [] k = (λ j low. absurd (omega (arith, low)), All-nil (λ (y : ℕ). i ≤ y))
-numbered-ascending positions i (l ∷ ls) k = go (told (get_or positions l 0) k) (numbered-ascending positions (suc i) ls k)
+numbered-ascending positions i (l ∷ ls) k = go (decided (get_or positions l 0) k) (numbered-ascending positions (suc i) ls k)
   where
     rest : List ℕ
     rest = values_of (numbered positions (suc i) ls) k
 
-    go : Told (get_or positions l 0) k → IsStrictlyIncreasing (values_of (numbered positions (suc i) ls) k) × All (λ y. suc i ≤ y) (values_of (numbered positions (suc i) ls) k)
+    go : Decided (get_or positions l 0) k → IsStrictlyIncreasing (values_of (numbered positions (suc i) ls) k) × All (λ y. suc i ≤ y) (values_of (numbered positions (suc i) ls) k)
         → IsStrictlyIncreasing (values_of (numbered positions i (l ∷ ls)) k) × All (λ y. i ≤ y) (values_of (numbered positions i (l ∷ ls)) k)
     go (inl (test, same)) (up, above) =
         rw test (
@@ -84,7 +84,7 @@ members-at positions leaders order placed all k low = record {
   ascending = (numbered-ascending positions 0 leaders k).0;
 }
   where
-    -- the position of a leader is where it stands
+    -- the position of a leader is its index in the order
     stands : (a : ℕ) → Contains order (get_or leaders a 0) → get_or positions (get_or leaders a 0) 0 ≡ k → get_or leaders a 0 ≡ get_or order k 0
     stands a (j, within, e) at =
         let same : get_or order j 0 ≡ get_or leaders a 0 = get_or_default order j 0 (get_or leaders a 0) within ∙ e in
@@ -204,9 +204,9 @@ module _ (edges : List Pair) (n : ℕ) (leaders order : List ℕ) (l : AreLeader
       along : (b x : ℕ) → Path Edge b x → x < length leaders → (get_or leaders x 0 ≡ get_or order k 0) ⊎ Contains (take k order) (get_or leaders x 0)
           → (get_or leaders b 0 ≡ get_or order k 0) ⊎ Contains (take k order) (get_or leaders b 0)
       along b x (Here e) inside h = subst (λ (y : ℕ). (get_or leaders y 0 ≡ get_or order k 0) ⊎ Contains (take k order) (get_or leaders y 0)) (sym e) h
-      along b x (Onward {b = y} p edge) inside h = along b y p (within y x edge).0 (step (told (get_or leaders y 0) (get_or leaders x 0)) h)
+      along b x (Onward {b = y} p edge) inside h = along b y p (within y x edge).0 (step (decided (get_or leaders y 0) (get_or leaders x 0)) h)
         where
-          step : Told (get_or leaders y 0) (get_or leaders x 0) → (get_or leaders x 0 ≡ get_or order k 0) ⊎ Contains (take k order) (get_or leaders x 0)
+          step : Decided (get_or leaders y 0) (get_or leaders x 0) → (get_or leaders x 0 ≡ get_or order k 0) ⊎ Contains (take k order) (get_or leaders x 0)
               → (get_or leaders y 0 ≡ get_or order k 0) ⊎ Contains (take k order) (get_or leaders y 0)
           step (inl (test, e)) (inl is) = inl (e ∙ is)
           step (inl (test, e)) (inr among) = inr (subst (λ (z : ℕ). Contains (take k order) z) (sym e) among)

@@ -8,7 +8,7 @@ use Rattle.std.proofs.lemmas.List.Elements.{All-head, All-tail, All-from_get_or}
 use Rattle.its_graph.specs.Naming.{named, first_in, first_with}
 use Rattle.its_graph.specs.Classes.{TakesAll, AreClassNames, AreFirst, AreLeaders}
 use Rattle.its_graph.specs.Components.{IsMutual}
-use Rattle.its_graph.proofs.Elements.{Contains-cons_cases, none_in_empty, Told, told}
+use Rattle.its_graph.proofs.Elements.{Contains-cons_cases, none_in_empty, Decided, decided}
 use Rattle.its_graph.proofs.Routes.{path-within, mutual-turned, mutual-join}
 
 -- as many names as before
@@ -21,9 +21,9 @@ named-kept : (name : ℕ) (bs names : List ℕ) (x : ℕ) → All (λ b. b < len
 named-kept name [] names x h e = e
 named-kept name (b ∷ bs) names x h e =
     let P : ℕ → Type 0 = λ (y : ℕ). y < length names in
-    named-kept name bs (set names b name) x (subst (λ (k : ℕ). All (λ (y : ℕ). y < k) bs) (sym (length-set names b name)) (All-tail P b bs h)) (go (told x b))
+    named-kept name bs (set names b name) x (subst (λ (k : ℕ). All (λ (y : ℕ). y < k) bs) (sym (length-set names b name)) (All-tail P b bs h)) (go (decided x b))
   where
-    go : Told x b → get_or (set names b name) x 0 ≡ name
+    go : Decided x b → get_or (set names b name) x 0 ≡ name
     go (inl (test, same)) = ap (λ (y : ℕ). get_or (set names b name) y 0) same ∙ get_or-set_same names b name 0 (All-head (λ (y : ℕ). y < length names) b bs h)
     go (inr (test, other)) = get_or-set_other names b x name 0 other ∙ e
 
@@ -42,9 +42,9 @@ named-each name (b ∷ bs) names x h k = go (Contains-cons_cases b bs x k) (λ r
 -- all others keep theirs
 pub named-others : (name : ℕ) (bs names : List ℕ) (x : ℕ) → (get_or (named name bs names) x 0 ≡ get_or names x 0) ⊎ Contains bs x
 named-others name [] names x = inl refl
-named-others name (b ∷ bs) names x = go (told x b) (named-others name bs (set names b name) x)
+named-others name (b ∷ bs) names x = go (decided x b) (named-others name bs (set names b name) x)
   where
-    go : Told x b → (get_or (named name bs (set names b name)) x 0 ≡ get_or (set names b name) x 0) ⊎ Contains bs x → (get_or (named name bs (set names b name)) x 0 ≡ get_or names x 0) ⊎ Contains (b ∷ bs) x
+    go : Decided x b → (get_or (named name bs (set names b name)) x 0 ≡ get_or (set names b name) x 0) ⊎ Contains bs x → (get_or (named name bs (set names b name)) x 0 ≡ get_or names x 0) ⊎ Contains (b ∷ bs) x
     go t (inr (k, low, e)) = inr (suc k, omega arith, e)
     go (inl (test, same)) (inl e) = inr (zero, omega arith, sym same)
     go (inr (test, other)) (inl e) = inl (e ∙ get_or-set_other names b x name 0 other)
@@ -113,11 +113,11 @@ first-goes_on names first after leaders i name leader low in_table at f e = go (
             different x = cc
     go None h =
         with_leader (set first name (Some i)) i (e ∙ ap (λ (x : Option ℕ). first_in x name i first) h) (length-set first name (Some i) ∙ f.table)
-        (λ r k k_first. some r k k_first (told r name))
-        (λ r r_none a within. none r r_none a within (told r name) (cases_lt a i))
+        (λ r k k_first. some r k k_first (decided r name))
+        (λ r r_none a within. none r r_none a within (decided r name) (cases_lt a i))
         (omega arith, refl, λ b below clash. f.none name h b below (clash ∙ sym at))
       where
-        some : (r k : ℕ) → get_or (set first name (Some i)) r None ≡ Some k → Told r name → (k < i + 1) × (get_or names k 0 ≡ r) × ((a : ℕ) → a < k → get_or names a 0 ≢ r)
+        some : (r k : ℕ) → get_or (set first name (Some i)) r None ≡ Some k → Decided r name → (k < i + 1) × (get_or names k 0 ≡ r) × ((a : ℕ) → a < k → get_or names a 0 ≢ r)
         some r k k_first (inl (test, same)) =
             let is : i ≡ k = some_same (sym (ap (λ (x : ℕ). get_or (set first name (Some i)) x None) same ∙ get_or-set_same first name (Some i) None in_table) ∙ k_first) in
             rw (sym is) (omega arith, sym at ∙ sym same, λ a below clash. f.none name h a below (clash ∙ same))
@@ -128,7 +128,7 @@ first-goes_on names first after leaders i name leader low in_table at f e = go (
             let old = f.some r k (sym (get_or-set_other first name r (Some i) None other) ∙ k_first) in
             (omega (arith, old.0), old.1, old.2)
 
-        none : (r : ℕ) → get_or (set first name (Some i)) r None ≡ None → (a : ℕ) → a < i + 1 → Told r name → (a < i) ⊎ (i ≤ a) → get_or names a 0 ≢ r
+        none : (r : ℕ) → get_or (set first name (Some i)) r None ≡ None → (a : ℕ) → a < i + 1 → Decided r name → (a < i) ⊎ (i ≤ a) → get_or names a 0 ≢ r
         none r r_none a within (inl (test, same)) k clash = absurd (different (sym (ap (λ (x : ℕ). get_or (set first name (Some i)) x None) same ∙ get_or-set_same first name (Some i) None in_table) ∙ r_none))
           where
             different : Some i ≡ None → ⊥

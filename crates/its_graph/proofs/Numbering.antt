@@ -173,7 +173,7 @@ pub links-ends : (rules : List Rule) → map link_of rules ≡ map ends_of (map 
 links-ends [] = refl
 links-ends (r ∷ rules) = ap (λ (xs : List Pair). link_of r ∷ xs) (links-ends rules)
 
--- so it is with the edges of a program of the code
+-- the same for the edges of a program of the code
 pub edge-link : (p : Program) (a b : ℕ) → HasEdge (program_of p) any_rule a b ↔ IsPair (map link_of p.rules.items) a b
 edge-link p a b = subst (λ (es : List Pair). HasEdge (program_of p) any_rule a b ↔ IsPair es a b) (sym (links-ends p.rules.items)) (edge-pair (program_of p) a b)
 

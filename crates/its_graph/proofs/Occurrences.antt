@@ -21,7 +21,7 @@ step_edge p b s c h = record {
   target = sym h.leads.target;
 }
 
--- the levels for rule t: 0 where a path leads from the rule's target to where the run stands, any other one everywhere
+-- the levels for rule t: 0 where a path leads from the rule's target to the current symbol, and any number elsewhere
 abbrev HasLevel : Program → ℕ → Config → ℕ → Type 0
 HasLevel p t c zero = (r : Rule) × (rule_at p t ≡ Some r) × HasPath p any_rule r.target c.at
 HasLevel p t c (suc l) = ⊤

@@ -3,7 +3,7 @@ use Rattle.std.proofs.Common.{◌≡◌, ◌↔◌, ◌⊎◌, inl, inr, ℕ, �
 use Rattle.std.proofs.Common.{if◌then◌else◌, ◌==◌, sym, subst, arith}
 use Rattle.std.proofs.lemmas.Bool.{cases_lt}
 use Rattle.std.proofs.lemmas.List.Elements.{Contains-append_left, Contains-push, Contains-push_cases}
-use Rattle.its_graph.proofs.Elements.{Told, told}
+use Rattle.its_graph.proofs.Elements.{Decided, decided}
 
 -- those among the first i nodes
 abbrev pub AreOwn : List ℕ → List ℕ → ℕ → Type 0
@@ -11,9 +11,9 @@ AreOwn leaders own i = (c : ℕ) → Contains own c ↔ ((c < i) × (get_or lead
 
 -- one node more
 pub own-more : (leaders own after : List ℕ) (i : ℕ) → AreOwn leaders own i → after ≡ (if get_or leaders i 0 == i then own ++ i ∷ [] else own) → AreOwn leaders after (i + 1)
-own-more leaders own after i f e c = go (told (get_or leaders i 0) i)
+own-more leaders own after i f e c = go (decided (get_or leaders i 0) i)
   where
-    go : Told (get_or leaders i 0) i → Contains after c ↔ ((c < i + 1) × (get_or leaders c 0 ≡ c))
+    go : Decided (get_or leaders i 0) i → Contains after c ↔ ((c < i + 1) × (get_or leaders c 0 ≡ c))
     go (inl (test, same)) =
         let is : after ≡ own ++ i ∷ [] = rw test at e in
         (λ h. from (Contains-push_cases own i c (subst (λ (xs : List ℕ). Contains xs c) is h)), λ h. subst (λ (xs : List ℕ). Contains xs c) (sym is) (into h (cases_lt c i)))

@@ -9,7 +9,7 @@ use Rattle.std.proofs.lemmas.List.Elements.{All-head, All-tail, Contains-append_
 use Rattle.std.proofs.lemmas.List.Elements.{Contains-append_cases}
 use Rattle.its_graph.specs.Floods.{Painting, painted, all_painted}
 use Rattle.its_graph.proofs.Elements.{Contains-cons_cases, Contains-first, Contains-later, only_element, none_in_empty}
-use Rattle.its_graph.proofs.Elements.{Told, told}
+use Rattle.its_graph.proofs.Elements.{Decided, decided}
 
 -- the colour of a node
 abbrev pub color_of : Painting → ℕ → ℕ
@@ -27,15 +27,15 @@ one_of old c = cond (c == old) 1 0
 fewer_left : (old new : ℕ) (colors : List ℕ) (b : ℕ) → b < length colors → get_or colors b 0 ≡ old → new ≢ old → left old (set colors b new) + 1 ≡ left old colors
 fewer_left old new colors b low h ne =
     let moved = sum_by-set (one_of old) colors b new 0 low in
-    let one : one_of old (get_or colors b 0) ≡ 1 = is_one (told (get_or colors b 0) old) in
-    let none : one_of old new ≡ 0 = is_none (told new old) in
+    let one : one_of old (get_or colors b 0) ≡ 1 = is_one (decided (get_or colors b 0) old) in
+    let none : one_of old new ≡ 0 = is_none (decided new old) in
     omega (arith, moved, one, none)
   where
-    is_one : Told (get_or colors b 0) old → one_of old (get_or colors b 0) ≡ 1
+    is_one : Decided (get_or colors b 0) old → one_of old (get_or colors b 0) ≡ 1
     is_one (inl (test, same)) = rw test refl
     is_one (inr (test, other)) = absurd (other h)
 
-    is_none : Told new old → one_of old new ≡ 0
+    is_none : Decided new old → one_of old new ≡ 0
     is_none (inl (test, same)) = absurd (ne same)
     is_none (inr (test, other)) = rw test refl
 
@@ -58,17 +58,17 @@ paints_none old new m = record { size = refl; front = λ k l. refl; longer = ome
 
 -- a node of another colour stays
 painted-other : (old new b : ℕ) (m : Painting) → color_of m b ≢ old → painted old new b m ≡ m
-painted-other old new b m ne = go (told (color_of m b) old)
+painted-other old new b m ne = go (decided (color_of m b) old)
   where
-    go : Told (color_of m b) old → painted old new b m ≡ m
+    go : Decided (color_of m b) old → painted old new b m ≡ m
     go (inl (test, same)) = absurd (ne same)
     go (inr (test, other)) = rw test refl
 
 -- a node of the old colour is painted
 painted-old : (old new b : ℕ) (m : Painting) → color_of m b ≡ old → painted old new b m ≡ record { colors = set m.colors b new; found = m.found ++ b ∷ [] }
-painted-old old new b m e = go (told (color_of m b) old)
+painted-old old new b m e = go (decided (color_of m b) old)
   where
-    go : Told (color_of m b) old → painted old new b m ≡ record { colors = set m.colors b new; found = m.found ++ b ∷ [] }
+    go : Decided (color_of m b) old → painted old new b m ≡ record { colors = set m.colors b new; found = m.found ++ b ∷ [] }
     go (inl (test, same)) = rw test refl
     go (inr (test, other)) = absurd (other e)
 
@@ -79,10 +79,10 @@ paints_old old new b m ne low h = record {
   front = λ k l. get_or_append_left m.found (b ∷ []) 0 k l;
   longer = omega (arith, length-append m.found (b ∷ []));
   kept = λ x hx. Contains-append_left m.found (b ∷ []) x hx;
-  others = λ x. others x (told x b);
+  others = λ x. others x (decided x b);
   each = λ x hx e. subst (λ (y : ℕ). Contains (m.found ++ b ∷ []) y) (sym (only_element b x hx)) at_end;
   only = λ x hx. only x (Contains-append_cases m.found (b ∷ []) x hx);
-  colored = λ x hx. colored x hx (told x b);
+  colored = λ x hx. colored x hx (decided x b);
   newly = λ x hx. newly x (Contains-append_cases m.found (b ∷ []) x hx);
   work = omega (arith, fewer_left old new m.colors b low h ne, length-append m.found (b ∷ []));
 }
@@ -90,7 +90,7 @@ paints_old old new b m ne low h = record {
     at_end : Contains (m.found ++ b ∷ []) b
     at_end = Contains-append_right m.found (b ∷ []) b (Contains-first b [])
 
-    others : (x : ℕ) → Told x b → (get_or (set m.colors b new) x 0 ≡ color_of m x) ⊎ Contains (m.found ++ b ∷ []) x
+    others : (x : ℕ) → Decided x b → (get_or (set m.colors b new) x 0 ≡ color_of m x) ⊎ Contains (m.found ++ b ∷ []) x
     others x (inl (test, same)) = inr (subst (λ (y : ℕ). Contains (m.found ++ b ∷ []) y) (sym same) at_end)
     others x (inr (test, other)) = inl (get_or-set_other m.colors b x new 0 other)
 
@@ -98,7 +98,7 @@ paints_old old new b m ne low h = record {
     only x (inl hx) = inl hx
     only x (inr hx) = let e = only_element b x hx in inr (hx, omega arith, ap (color_of m) e ∙ h)
 
-    colored : (x : ℕ) → color_of m x ≡ new → Told x b → get_or (set m.colors b new) x 0 ≡ new
+    colored : (x : ℕ) → color_of m x ≡ new → Decided x b → get_or (set m.colors b new) x 0 ≡ new
     colored x hx (inl (test, same)) = ap (λ (y : ℕ). get_or (set m.colors b new) y 0) same ∙ get_or-set_same m.colors b new 0 low
     colored x hx (inr (test, other)) = get_or-set_other m.colors b x new 0 other ∙ hx
 
@@ -108,9 +108,9 @@ paints_old old new b m ne low h = record {
 
 -- painting one node
 pub paints_one : (old new b : ℕ) (m : Painting) → new ≢ old → b < length m.colors → Paints old new (b ∷ []) m (painted old new b m)
-paints_one old new b m ne low = go (told (color_of m b) old)
+paints_one old new b m ne low = go (decided (color_of m b) old)
   where
-    go : Told (color_of m b) old → Paints old new (b ∷ []) m (painted old new b m)
+    go : Decided (color_of m b) old → Paints old new (b ∷ []) m (painted old new b m)
     go (inl (test, h)) = subst (λ (n : Painting). Paints old new (b ∷ []) m n) (sym (painted-old old new b m h)) (paints_old old new b m ne low h)
     go (inr (test, h)) = subst (λ (n : Painting). Paints old new (b ∷ []) m n) (sym (painted-other old new b m h)) (record { size = refl; front = λ k l. refl; longer = omega arith; kept = λ x hx. hx; others = λ x. inl refl; each = λ x hx e. absurd (h (ap (color_of m) (sym (only_element b x hx)) ∙ e)); only = λ x hx. inl hx; colored = λ x hx. hx; newly = λ x hx. inl hx; work = refl })
 

@@ -8,7 +8,7 @@ use Rattle.its_graph.specs.Groups.{values_of, values_in, Joins, IsPair, swap}
 use Rattle.std.proofs.lemmas.List.{get_or_default}
 use Rattle.its_graph.specs.Orders.{needs_among, Needs}
 use Rattle.its_graph.specs.Numbers.{HasInside}
-use Rattle.its_graph.proofs.Elements.{Contains-cons_cases, Contains-first, Contains-later, Told, told}
+use Rattle.its_graph.proofs.Elements.{Contains-cons_cases, Contains-first, Contains-later, Decided, decided}
 
 -- a pair
 abbrev pub Pair : Type 0
@@ -30,9 +30,9 @@ pair-later e es x (k, low, same) = (suc k, omega arith, same)
 -- the second part of a pair is a value of the first
 pub value-listed : (pairs : List Pair) (a b : ℕ) → Contains pairs (a, b) → Contains (values_of pairs a) b
 value-listed [] a b (k, low, e) = absurd (omega arith)
-value-listed (e ∷ pairs) a b h = go (told e.0 a) (pair-cases e pairs (a, b) h) (λ later. value-listed pairs a b later)
+value-listed (e ∷ pairs) a b h = go (decided e.0 a) (pair-cases e pairs (a, b) h) (λ later. value-listed pairs a b later)
   where
-    go : Told e.0 a → (e ≡ (a, b)) ⊎ Contains pairs (a, b) → (Contains pairs (a, b) → Contains (values_of pairs a) b) → Contains (values_of (e ∷ pairs) a) b
+    go : Decided e.0 a → (e ≡ (a, b)) ⊎ Contains pairs (a, b) → (Contains pairs (a, b) → Contains (values_of pairs a) b) → Contains (values_of (e ∷ pairs) a) b
     go (inl (test, same)) (inl is) ih = rw test (subst (λ (x : ℕ). Contains (e.1 ∷ values_of pairs a) x) (ap (λ (p : Pair). p.1) is) (Contains-first e.1 (values_of pairs a)))
     go (inl (test, same)) (inr later) ih = rw test (Contains-later e.1 (values_of pairs a) b (ih later))
     go (inr (test, other)) (inl is) ih = absurd (other (ap (λ (p : Pair). p.0) is))
@@ -41,9 +41,9 @@ value-listed (e ∷ pairs) a b h = go (told e.0 a) (pair-cases e pairs (a, b) h)
 -- and only such are
 pub value-from : (pairs : List Pair) (a b : ℕ) → Contains (values_of pairs a) b → Contains pairs (a, b)
 value-from [] a b (k, low, e) = absurd (omega arith)
-value-from (e ∷ pairs) a b h = go (told e.0 a) (λ later. value-from pairs a b later)
+value-from (e ∷ pairs) a b h = go (decided e.0 a) (λ later. value-from pairs a b later)
   where
-    go : Told e.0 a → (Contains (values_of pairs a) b → Contains pairs (a, b)) → Contains (e ∷ pairs) (a, b)
+    go : Decided e.0 a → (Contains (values_of pairs a) b → Contains pairs (a, b)) → Contains (e ∷ pairs) (a, b)
     go (inr (test, other)) ih = pair-later e pairs (a, b) (ih (rw test at h))
     go (inl (test, same)) ih = first (Contains-cons_cases e.1 (values_of pairs a) b (rw test at h))
       where
@@ -85,7 +85,7 @@ pair-within n edges a b h (k, low, e) = subst (λ (x : Pair). (x.0 < n) × (x.1 
 -- a need comes from an edge
 pub need-from : (leaders : List ℕ) (edges : List Pair) (c d : ℕ) → AreWithin (length leaders) edges → Contains (needs_among leaders edges) (c, d) → Needs (IsPair edges) leaders c d
 need-from leaders [] c d within (k, low, e) = absurd (omega arith)
-need-from leaders (e ∷ edges) c d within h = go (told (get_or leaders e.0 0) (get_or leaders e.1 0)) (λ later. need-from leaders edges c d (All-tail (λ (x : Pair). (x.0 < length leaders) × (x.1 < length leaders)) e edges within) later)
+need-from leaders (e ∷ edges) c d within h = go (decided (get_or leaders e.0 0) (get_or leaders e.1 0)) (λ later. need-from leaders edges c d (All-tail (λ (x : Pair). (x.0 < length leaders) × (x.1 < length leaders)) e edges within) later)
   where
     P : Pair → Type 0
     P x = (x.0 < length leaders) × (x.1 < length leaders)
@@ -93,7 +93,7 @@ need-from leaders (e ∷ edges) c d within h = go (told (get_or leaders e.0 0) (
     more : Needs (IsPair edges) leaders c d → Needs (IsPair (e ∷ edges)) leaders c d
     more n = record { from = n.from; to = n.to; edge = pair-later e edges (n.from, n.to) n.edge; from_within = n.from_within; to_within = n.to_within; need = n.need; leader = n.leader; other = n.other }
 
-    go : Told (get_or leaders e.0 0) (get_or leaders e.1 0) → (Contains (needs_among leaders edges) (c, d) → Needs (IsPair edges) leaders c d) → Needs (IsPair (e ∷ edges)) leaders c d
+    go : Decided (get_or leaders e.0 0) (get_or leaders e.1 0) → (Contains (needs_among leaders edges) (c, d) → Needs (IsPair edges) leaders c d) → Needs (IsPair (e ∷ edges)) leaders c d
     go (inl (test, same)) ih = more (ih (rw test at h))
     go (inr (test, other)) ih = first (pair-cases (get_or leaders e.1 0, get_or leaders e.0 0) (needs_among leaders edges) (c, d) (rw test at h))
       where
@@ -113,9 +113,9 @@ need-from leaders (e ∷ edges) c d within h = go (told (get_or leaders e.0 0) (
 -- the need of an edge is listed
 pub need-listed : (leaders : List ℕ) (edges : List Pair) (a b : ℕ) → IsPair edges a b → get_or leaders a 0 ≢ get_or leaders b 0 → Contains (needs_among leaders edges) (get_or leaders b 0, get_or leaders a 0)
 need-listed leaders [] a b (k, low, e) ne = absurd (omega arith)
-need-listed leaders (e ∷ edges) a b h ne = go (told (get_or leaders e.0 0) (get_or leaders e.1 0)) (pair-cases e edges (a, b) h) (λ later. need-listed leaders edges a b later ne)
+need-listed leaders (e ∷ edges) a b h ne = go (decided (get_or leaders e.0 0) (get_or leaders e.1 0)) (pair-cases e edges (a, b) h) (λ later. need-listed leaders edges a b later ne)
   where
-    go : Told (get_or leaders e.0 0) (get_or leaders e.1 0) → (e ≡ (a, b)) ⊎ Contains edges (a, b) → (Contains edges (a, b) → Contains (needs_among leaders edges) (get_or leaders b 0, get_or leaders a 0)) → Contains (needs_among leaders (e ∷ edges)) (get_or leaders b 0, get_or leaders a 0)
+    go : Decided (get_or leaders e.0 0) (get_or leaders e.1 0) → (e ≡ (a, b)) ⊎ Contains edges (a, b) → (Contains edges (a, b) → Contains (needs_among leaders edges) (get_or leaders b 0, get_or leaders a 0)) → Contains (needs_among leaders (e ∷ edges)) (get_or leaders b 0, get_or leaders a 0)
     go (inl (test, same)) (inl is) ih = absurd (ne (ap (λ (p : Pair). get_or leaders p.0 0) (sym is) ∙ (same ∙ ap (λ (p : Pair). get_or leaders p.1 0) is)))
     go (inl (test, same)) (inr later) ih = rw test (ih later)
     go (inr (test, other)) (inl is) ih = rw test (zero, omega arith, same_pair (get_or leaders e.1 0, get_or leaders e.0 0) (get_or leaders b 0) (get_or leaders a 0) (ap (λ (p : Pair). get_or leaders p.1 0) is) (ap (λ (p : Pair). get_or leaders p.0 0) is))

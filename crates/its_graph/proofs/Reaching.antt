@@ -7,7 +7,7 @@ use Rattle.std.proofs.lemmas.List.{length-replicate, get_or-replicate, get_or_pa
 use Rattle.model.specs.Paths.{Path}
 use Rattle.its_graph.specs.Groups.{Joins}
 use Rattle.its_graph.specs.Floods.{EdgeTo, Fills}
-use Rattle.its_graph.proofs.Elements.{Told, told}
+use Rattle.its_graph.proofs.Elements.{Decided, decided}
 use Rattle.its_graph.proofs.Routes.{path-map, turned}
 
 -- the flags of known nodes
@@ -16,9 +16,9 @@ known-flag [] b = (λ h. absurd (different h), λ h. absurd (omega (arith, h)))
   where
     different : false ≡ true → ⊥
     different x = cc
-known-flag (c ∷ colors) zero = go (told c 2)
+known-flag (c ∷ colors) zero = go (decided c 2)
   where
-    go : Told c 2 → ((c == 2) ≡ true) ↔ (c ≡ 2)
+    go : Decided c 2 → ((c == 2) ≡ true) ↔ (c ≡ 2)
     go (inl (test, same)) = (λ h. same, λ h. test)
     go (inr (test, other)) = (λ h. absurd (different (sym test ∙ h)), λ h. absurd (other h))
       where

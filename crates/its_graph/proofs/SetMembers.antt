@@ -12,7 +12,7 @@ use Rattle.model.specs.Programs.{Program, Rule, rule_at}
 use Rattle.model.specs.Paths.{Path, HasEdge, IsInSet, target_in, target_of, source_of}
 use Rattle.its_graph.specs.Links.{ends_of, is_member, members_from}
 use Rattle.its_graph.specs.Graphs.{flagged}
-use Rattle.its_graph.proofs.Elements.{Contains-cons_cases, Contains-first, Contains-later, none_in_empty, Told, told}
+use Rattle.its_graph.proofs.Elements.{Contains-cons_cases, Contains-first, Contains-later, none_in_empty, Decided, decided}
 use Rattle.its_graph.proofs.PairLists.{Pair}
 use Rattle.its_graph.proofs.Membership.{increasing-cons}
 
@@ -76,12 +76,12 @@ in-set p untimed seen rule source entry leaves reach is_untimed own numbered e =
     (λ h. from (members-from untimed seen rule 1 (map ends_of p.rules) e h), λ h. into h)
   where
     from : MemberBy untimed seen rule 1 (map ends_of p.rules) e → IsInSet p (flagged untimed) rule e
-    from m = go (told e rule) (get_or untimed e false) refl (get_or seen (get_or (map ends_of p.rules) m.position (0, 0)).1 false) refl m.member
+    from m = go (decided e rule) (get_or untimed e false) refl (get_or seen (get_or (map ends_of p.rules) m.position (0, 0)).1 false) refl m.member
       where
         in_rules : m.position < length p.rules
         in_rules = omega (arith, m.within, length-map p.rules ends_of)
 
-        go : Told e rule → (u : Bool) → get_or untimed e false ≡ u → (v : Bool) → get_or seen (get_or (map ends_of p.rules) m.position (0, 0)).1 false ≡ v
+        go : Decided e rule → (u : Bool) → get_or untimed e false ≡ u → (v : Bool) → get_or seen (get_or (map ends_of p.rules) m.position (0, 0)).1 false ≡ v
             → is_member untimed seen rule e (get_or (map ends_of p.rules) m.position (0, 0)) ≡ true → IsInSet p (flagged untimed) rule e
         go (inl (t, same)) u eu v ev h = inl same
         go (inr (t, other)) false eu v ev h = absurd (different (rw eu at (rw t at h)))
@@ -122,9 +122,9 @@ in-set p untimed seen rule source entry leaves reach is_untimed own numbered e =
         (subst (λ (x : ℕ). is_member untimed seen rule x (get_or (map ends_of p.rules) t (0, 0)) ≡ true) (sym next) (subst (λ (l : Pair). is_member untimed seen rule (suc t) l ≡ true) (sym link) is)))
 
     into : IsInSet p (flagged untimed) rule e → Contains (members_from untimed seen rule 1 (map ends_of p.rules)) e
-    into (inl same) = subst (λ (x : ℕ). Contains (members_from untimed seen rule 1 (map ends_of p.rules)) x) (sym same) (listed rule own numbered (itself (told rule rule)))
+    into (inl same) = subst (λ (x : ℕ). Contains (members_from untimed seen rule 1 (map ends_of p.rules)) x) (sym same) (listed rule own numbered (itself (decided rule rule)))
       where
-        itself : Told rule rule → is_member untimed seen rule rule (ends_of own) ≡ true
+        itself : Decided rule rule → is_member untimed seen rule rule (ends_of own) ≡ true
         itself (inl (t, same)) = rw t refl
         itself (inr (t, other)) = absurd (other refl)
     into (inr m) = back e m.untimed m.leads
@@ -142,7 +142,7 @@ in-set p untimed seen rule source entry leaves reach is_untimed own numbered e =
               where
                 none_some : None ≡ Some m.from → ⊥
                 none_some x = cc
-            with_rule (Some r) h = listed (suc t) r h (passes (told (suc t) rule))
+            with_rule (Some r) h = listed (suc t) r h (passes (decided (suc t) rule))
               where
                 target : r.target ≡ m.from
                 target = some_same (sym (ap target_in h) ∙ leads)
@@ -159,7 +159,7 @@ in-set p untimed seen rule source entry leaves reach is_untimed own numbered e =
                 seen_there : get_or seen r.target false ≡ true
                 seen_there = (reach r.target).1 (subst (λ (x : ℕ). Path (HasEdge p (flagged untimed)) x source) (sym target) (subst (λ (x : ℕ). Path (HasEdge p (flagged untimed)) m.from x) to m.path))
 
-                passes : Told (suc t) rule → is_member untimed seen rule (suc t) (ends_of r) ≡ true
+                passes : Decided (suc t) rule → is_member untimed seen rule (suc t) (ends_of r) ≡ true
                 passes (inl (test, same)) = rw test refl
                 passes (inr (test, other)) = rw test (rw u seen_there)
 

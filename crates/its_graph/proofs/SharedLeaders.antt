@@ -11,7 +11,7 @@ use Rattle.its_graph.specs.Classes.{AreLeaders}
 use Rattle.its_graph.specs.Links.{ends_of, shared_leader}
 use Rattle.its_graph.specs.Graphs.{ArePartsBelow}
 use Rattle.its_graph.proofs.Arrivals.{rule-at-link}
-use Rattle.its_graph.proofs.Elements.{Told, told}
+use Rattle.its_graph.proofs.Elements.{Decided, decided}
 use Rattle.its_graph.proofs.PairLists.{Pair}
 
 -- nothing is no value
@@ -25,9 +25,9 @@ number_in a b e = cc
 -- a leader that is shared is that of both ends
 ends-share : (leaders : List ℕ) (l : Pair) (m : ℕ) → shared_leader leaders l ≡ Some m
     → (get_or leaders l.0 0 ≡ m) × (get_or leaders l.1 0 ≡ m)
-ends-share leaders l m e = go (told (get_or leaders l.0 0) (get_or leaders l.1 0))
+ends-share leaders l m e = go (decided (get_or leaders l.0 0) (get_or leaders l.1 0))
   where
-    go : Told (get_or leaders l.0 0) (get_or leaders l.1 0) → (get_or leaders l.0 0 ≡ m) × (get_or leaders l.1 0 ≡ m)
+    go : Decided (get_or leaders l.0 0) (get_or leaders l.1 0) → (get_or leaders l.0 0 ≡ m) × (get_or leaders l.1 0 ≡ m)
     go (inl (test, same)) =
         let first : get_or leaders l.0 0 ≡ m = number_in (get_or leaders l.0 0) m (rw test at e) in (first, sym same ∙ first)
     go (inr (test, other)) = absurd (none_some m (rw test at e))
@@ -35,9 +35,9 @@ ends-share leaders l m e = go (told (get_or leaders l.0 0) (get_or leaders l.1 0
 -- the leader of both ends is shared
 pub leader-shared : (leaders : List ℕ) (l : Pair) (m : ℕ) → get_or leaders l.0 0 ≡ m → get_or leaders l.1 0 ≡ m
     → shared_leader leaders l ≡ Some m
-leader-shared leaders l m e f = go (told (get_or leaders l.0 0) (get_or leaders l.1 0))
+leader-shared leaders l m e f = go (decided (get_or leaders l.0 0) (get_or leaders l.1 0))
   where
-    go : Told (get_or leaders l.0 0) (get_or leaders l.1 0) → shared_leader leaders l ≡ Some m
+    go : Decided (get_or leaders l.0 0) (get_or leaders l.1 0) → shared_leader leaders l ≡ Some m
     go (inl (test, same)) = rw test (ap (λ (x : ℕ). Some x) e)
     go (inr (test, other)) = absurd (other (e ∙ sym f))
 

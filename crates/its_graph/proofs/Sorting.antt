@@ -16,7 +16,7 @@ use Rattle.its_graph.specs.declared.order.Sorting.{Sorting}
 use Rattle.its_graph.specs.Groups.{values_in, Joins}
 use Rattle.its_graph.specs.Orders.{IsLeader, IsNextLeader, EachIsNext, AreOrderable, IsFresh, IsMarked, Waits}
 use Rattle.its_graph.specs.Orders.{IsSorting, IsPopped, WaitsOrReady, Settles}
-use Rattle.its_graph.proofs.Elements.{Contains-cons_cases, Contains-first, Contains-later, none_in_empty, Told, told}
+use Rattle.its_graph.proofs.Elements.{Contains-cons_cases, Contains-first, Contains-later, none_in_empty, Decided, decided}
 
 -- an element of the first of a list is one of the list
 Contains-take : (k : ℕ) (xs : List ℕ) (x : ℕ) → Contains (take k xs) x → Contains xs x
@@ -46,16 +46,16 @@ each-push Need leaders order c each next k low = go (cases_lt k (length order))
 
 -- marks, where one is set
 marked-cases : (marks : List Bool) (l c : ℕ) → IsMarked (set marks l true) c → IsMarked marks c ⊎ (c ≡ l)
-marked-cases marks l c h = go (told c l)
+marked-cases marks l c h = go (decided c l)
   where
-    go : Told c l → IsMarked marks c ⊎ (c ≡ l)
+    go : Decided c l → IsMarked marks c ⊎ (c ≡ l)
     go (inl (test, same)) = inr same
     go (inr (test, other)) = inl (sym (get_or-set_other marks l c true false other) ∙ h)
 
 marked-kept : (marks : List Bool) (l c : ℕ) → l < length marks → IsMarked marks c → IsMarked (set marks l true) c
-marked-kept marks l c low h = go (told c l)
+marked-kept marks l c low h = go (decided c l)
   where
-    go : Told c l → IsMarked (set marks l true) c
+    go : Decided c l → IsMarked (set marks l true) c
     go (inl (test, same)) = ap (λ (x : ℕ). get_or (set marks l true) x false) same ∙ get_or-set_same marks l true false low
     go (inr (test, other)) = get_or-set_other marks l c true false other ∙ h
 
@@ -79,16 +79,16 @@ fewer-unmarked marks l low h = go (get_or marks l false) refl
 
 -- a test of numbers that are the same, and of others
 if-same : {A : Type 0} (a b : ℕ) (x y : A) → a ≡ b → (if a == b then x else y) ≡ x
-if-same a b x y e = go (told a b)
+if-same a b x y e = go (decided a b)
   where
-    go : Told a b → (if a == b then x else y) ≡ x
+    go : Decided a b → (if a == b then x else y) ≡ x
     go (inl (test, same)) = rw test refl
     go (inr (test, other)) = absurd (other e)
 
 if-other : {A : Type 0} (a b : ℕ) (x y : A) → a ≢ b → (if a == b then x else y) ≡ y
-if-other a b x y ne = go (told a b)
+if-other a b x y ne = go (decided a b)
   where
-    go : Told a b → (if a == b then x else y) ≡ y
+    go : Decided a b → (if a == b then x else y) ≡ y
     go (inl (test, same)) = absurd (ne same)
     go (inr (test, other)) = rw test refl
 
@@ -103,7 +103,7 @@ module _ (needs : List (Vec ℕ Global)) (leaders : List ℕ) where
     passed_size = ap length m.passed ∙ (length-set s.passed.items l m.position ∙ f.passed_size);
     waiting_size = m.waiting_size ∙ f.waiting_size;
     listed_size = ap length m.marks ∙ f.listed_size;
-    passed = λ c k low. passed c k (subst (λ (xs : List ℕ). k < get_or xs c 0) m.passed low) (told c l);
+    passed = λ c k low. passed c k (subst (λ (xs : List ℕ). k < get_or xs c 0) m.passed low) (decided c l);
     ready = λ c h. ready c m.placed h;
     waits = λ d c h. waits d c m.placed h;
     placed = λ c leads unmarked. placed c (f.placed c leads (λ h. unmarked (to_t c h)));
@@ -129,7 +129,7 @@ module _ (needs : List (Vec ℕ Global)) (leaders : List ℕ) where
           go (inl before) = f.passed l k before
           go (inr after) = m.skips.between k after low
 
-      passed : (c k : ℕ) → k < get_or (set s.passed.items l m.position) c 0 → Told c l → IsMarked t.is_listed.items (get_or (values_in needs c) k 0)
+      passed : (c k : ℕ) → k < get_or (set s.passed.items l m.position) c 0 → Decided c l → IsMarked t.is_listed.items (get_or (values_in needs c) k 0)
       passed c k low (inl (test, same)) =
           to_t (get_or (values_in needs c) k 0) (subst (λ (x : ℕ). IsMarked s.is_listed.items (get_or (values_in needs x) k 0)) (sym same) (behind k (at_position (cases_lt l (length s.passed.items)))))
         where
@@ -163,12 +163,12 @@ module _ (needs : List (Vec ℕ Global)) (leaders : List ℕ) where
 
       waits : (d c : ℕ) → WaitsOrReady (values_in needs l) m.position l s t → Contains (values_in t.waiting.items d) c → Need c d
       waits d c (inr (end, same, keys)) h = f.waits d c (subst (λ (xs : List (Vec ℕ Global)). Contains (values_in xs d) c) same h)
-      waits d c (inl (low, keys, values)) h = go (told (get_or (values_in needs l) m.position 0) d)
+      waits d c (inl (low, keys, values)) h = go (decided (get_or (values_in needs l) m.position 0) d)
         where
           at : Contains (if get_or (values_in needs l) m.position 0 == d then values_in s.waiting.items d ++ l ∷ [] else values_in s.waiting.items d) c
           at = subst (λ (xs : List ℕ). Contains xs c) (values d) h
 
-          go : Told (get_or (values_in needs l) m.position 0) d → Need c d
+          go : Decided (get_or (values_in needs l) m.position 0) d → Need c d
           go (inr (test, other)) = f.waits d c (subst (λ (xs : List ℕ). Contains xs c) (if-other (get_or (values_in needs l) m.position 0) d (values_in s.waiting.items d ++ l ∷ []) (values_in s.waiting.items d) other) at)
           go (inl (test, same)) = last (Contains-push_cases (values_in s.waiting.items d) l c (subst (λ (xs : List ℕ). Contains xs c) (if-same (get_or (values_in needs l) m.position 0) d (values_in s.waiting.items d ++ l ∷ []) (values_in s.waiting.items d) same) at))
             where
@@ -179,9 +179,9 @@ module _ (needs : List (Vec ℕ Global)) (leaders : List ℕ) where
       -- who waited still does
       still : (c : ℕ) → WaitsOrReady (values_in needs l) m.position l s t → Waits s.waiting.items s.is_listed.items c → Waits t.waiting.items t.is_listed.items c
       still c (inr (end, same, keys)) w = record { need = w.need; among = subst (λ (xs : List (Vec ℕ Global)). Contains (values_in xs w.need) c) (sym same) w.among; unlisted = λ h. w.unlisted (to_s w.need h) }
-      still c (inl (low, keys, values)) w = record { need = w.need; among = subst (λ (xs : List ℕ). Contains xs c) (sym (values w.need)) (go (told (get_or (values_in needs l) m.position 0) w.need)); unlisted = λ h. w.unlisted (to_s w.need h) }
+      still c (inl (low, keys, values)) w = record { need = w.need; among = subst (λ (xs : List ℕ). Contains xs c) (sym (values w.need)) (go (decided (get_or (values_in needs l) m.position 0) w.need)); unlisted = λ h. w.unlisted (to_s w.need h) }
         where
-          go : Told (get_or (values_in needs l) m.position 0) w.need → Contains (if get_or (values_in needs l) m.position 0 == w.need then values_in s.waiting.items w.need ++ l ∷ [] else values_in s.waiting.items w.need) c
+          go : Decided (get_or (values_in needs l) m.position 0) w.need → Contains (if get_or (values_in needs l) m.position 0 == w.need then values_in s.waiting.items w.need ++ l ∷ [] else values_in s.waiting.items w.need) c
           go (inl (test, same)) = rw test (Contains-append_left (values_in s.waiting.items w.need) (l ∷ []) c w.among)
           go (inr (test, other)) = rw test w.among
 
@@ -276,12 +276,12 @@ module _ (needs : List (Vec ℕ Global)) (leaders : List ℕ) where
           unmarked none (inr e) = omega (arith, p.least c h, e)
 
       was_waiting : (d c : ℕ) → Contains (values_in t.waiting.items d) c → Contains (values_in s.waiting.items d) c
-      was_waiting d c h = go (told l d)
+      was_waiting d c h = go (decided l d)
         where
           at : Contains (if l == d then [] else values_in s.waiting.items d) c
           at = subst (λ (xs : List ℕ). Contains xs c) (values d) h
 
-          go : Told l d → Contains (values_in s.waiting.items d) c
+          go : Decided l d → Contains (values_in s.waiting.items d) c
           go (inl (test, same)) = absurd (none_in_empty c (subst (λ (xs : List ℕ). Contains xs c) (if-same l d [] (values_in s.waiting.items d) same) at))
           go (inr (test, other)) = subst (λ (xs : List ℕ). Contains xs c) (if-other l d [] (values_in s.waiting.items d) other) at
 
@@ -292,9 +292,9 @@ module _ (needs : List (Vec ℕ Global)) (leaders : List ℕ) where
           go (inl e) = absurd (unmarked (subst (λ (xs : List Bool). IsMarked xs c) (sym marks) (subst (λ (x : ℕ). IsMarked (set s.is_listed.items l true) x) (sym e) (marked-here s.is_listed.items l within))))
           go (inr later) = inl (subst (λ (xs : List ℕ). Contains xs c) (sym keys) later)
       placed c (inr (inl none)) unmarked = absurd (none_in_empty c none)
-      placed c (inr (inr w)) unmarked = go (told l w.need)
+      placed c (inr (inr w)) unmarked = go (decided l w.need)
         where
-          go : Told l w.need → Contains t.ready.keys c ⊎ (Contains taken c ⊎ Waits t.waiting.items t.is_listed.items c)
+          go : Decided l w.need → Contains t.ready.keys c ⊎ (Contains taken c ⊎ Waits t.waiting.items t.is_listed.items c)
           go (inl (test, same)) = inr (inl (subst (λ (xs : List ℕ). Contains xs c) (sym took) (subst (λ (x : ℕ). Contains (values_in s.waiting.items x) c) (sym same) w.among)))
           go (inr (test, other)) = inr (inr (record {
             need = w.need;

@@ -39,7 +39,7 @@ module _ (n : ℕ) (next previous : List (Vec ℕ Global)) (before first second 
 
   -- the component of the root is unknown before
   mutual-unknown : (b : ℕ) → IsMutual Edge root b → get_or before b 0 ≡ UNKNOWN
-  mutual-unknown b m = go (f.classes.told b)
+  mutual-unknown b m = go (f.classes.decided b)
     where
       go : (get_or before b 0 ≡ UNKNOWN) ⊎ (get_or before b 0 ≡ KNOWN) → get_or before b 0 ≡ UNKNOWN
       go (inl e) = e
@@ -75,7 +75,7 @@ module _ (n : ℕ) (next previous : List (Vec ℕ Global)) (before first second 
 
   -- a node of the candidates' colour is a candidate
   colored-candidate : (b : ℕ) → get_or first b 0 ≡ CANDIDATE → Contains candidates b
-  colored-candidate b e = go (f.leading.others b) (f.classes.told b)
+  colored-candidate b e = go (f.leading.others b) (f.classes.decided b)
     where
       go : (get_or first b 0 ≡ get_or before b 0) ⊎ Contains candidates b → (get_or before b 0 ≡ UNKNOWN) ⊎ (get_or before b 0 ≡ KNOWN) → Contains candidates b
       go (inr h) k = h
@@ -130,27 +130,27 @@ module _ (n : ℕ) (next previous : List (Vec ℕ Global)) (before first second 
       go (inr h) k l = inl h
       go (inl e) (inr h) l = inr (again-unknown b (f.rest.each b h (e ∙ f.leading.are b h)) ∙ sym (f.leading.were b h).1)
       go (inl e) (inl e') (inl e'') = inr (e'' ∙ (e ∙ e'))
-      go (inl e) (inl e') (inr h) = told (f.classes.told b)
+      go (inl e) (inl e') (inr h) = decided (f.classes.decided b)
         where
           candidate_before : get_or before b 0 ≡ CANDIDATE
           candidate_before = sym (e ∙ e') ∙ again-candidate b h
 
-          told : (get_or before b 0 ≡ UNKNOWN) ⊎ (get_or before b 0 ≡ KNOWN) → Contains class b ⊎ (get_or third b 0 ≡ get_or before b 0)
-          told (inl k) = absurd (unknown-candidate (get_or before b 0) k candidate_before)
-          told (inr k) = absurd (known-candidate (get_or before b 0) k candidate_before)
+          decided : (get_or before b 0 ≡ UNKNOWN) ⊎ (get_or before b 0 ≡ KNOWN) → Contains class b ⊎ (get_or third b 0 ≡ get_or before b 0)
+          decided (inl k) = absurd (unknown-candidate (get_or before b 0) k candidate_before)
+          decided (inr k) = absurd (known-candidate (get_or before b 0) k candidate_before)
 
   -- names that are the root's for the component, and as before for all others
   pub takes : (after : List ℕ) → ((b : ℕ) → Contains class b → get_or after b 0 ≡ root) → ((b : ℕ) → (get_or after b 0 ≡ get_or names b 0) ⊎ Contains class b) → Takes Edge before third after root
   takes after of_class of_others = record {
-    classes = record { told = λ a. told a (at_end a) (f.classes.told a); whole = λ a b k m. whole a b k m (at_end a); named = λ a k. own a k (at_end a) };
+    classes = record { decided = λ a. decided a (at_end a) (f.classes.decided a); whole = λ a b k m. whole a b k m (at_end a); named = λ a k. own a k (at_end a) };
     root_known = class-known root (mutual-class root (record { onward = Here refl; back = Here refl }));
     kept = λ a k. kept a k (at_end a);
   }
     where
-      told : (a : ℕ) → Contains class a ⊎ (get_or third a 0 ≡ get_or before a 0) → (get_or before a 0 ≡ UNKNOWN) ⊎ (get_or before a 0 ≡ KNOWN) → (get_or third a 0 ≡ UNKNOWN) ⊎ (get_or third a 0 ≡ KNOWN)
-      told a (inl h) k = inr (class-known a h)
-      told a (inr e) (inl k) = inl (e ∙ k)
-      told a (inr e) (inr k) = inr (e ∙ k)
+      decided : (a : ℕ) → Contains class a ⊎ (get_or third a 0 ≡ get_or before a 0) → (get_or before a 0 ≡ UNKNOWN) ⊎ (get_or before a 0 ≡ KNOWN) → (get_or third a 0 ≡ UNKNOWN) ⊎ (get_or third a 0 ≡ KNOWN)
+      decided a (inl h) k = inr (class-known a h)
+      decided a (inr e) (inl k) = inl (e ∙ k)
+      decided a (inr e) (inr k) = inr (e ∙ k)
 
       kept : (a : ℕ) → get_or before a 0 ≡ KNOWN → Contains class a ⊎ (get_or third a 0 ≡ get_or before a 0) → get_or third a 0 ≡ KNOWN
       kept a k (inl h) = class-known a h

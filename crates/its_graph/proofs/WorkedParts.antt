@@ -4,7 +4,7 @@ use Rattle.std.proofs.Common.{arith}
 use Rattle.model.specs.Paths.{Here, HasEdge, HasPath, any_rule, IsInSet, source_of, target_of}
 use Rattle.model.specs.PathValues.{nested, last_two}
 use Rattle.model.specs.Worked.{bare_rule}
-use Rattle.model.proofs.PathValues.{paths_are_told}
+use Rattle.model.proofs.PathValues.{paths_are_worked}
 use Rattle.its_graph.specs.WorkedParts.{PartsAreWorkedOut, inner_part, first_three}
 use Rattle.its_graph.proofs.Routes.{join, one_edge}
 use Rattle.its_graph.proofs.SharedLeaders.{none_some, number_in}
@@ -82,7 +82,7 @@ fourth_outside (inl e) = omega (arith, e)
 fourth_outside (inr b) =
     let from : 1 ≡ b.from = number_in 1 b.from b.leads in
     let to : 0 ≡ b.to = number_in 0 b.to b.leaves in
-    paths_are_told.no_way_back
+    paths_are_worked.no_way_back
     (subst (λ (x : ℕ). HasPath nested any_rule x 0) (sym from) (subst (λ (x : ℕ). HasPath nested any_rule b.from x) (sym to) b.path))
 
 -- of rules 1, 2 and 3 the last alone has no time
@@ -99,7 +99,7 @@ pub parts-are-worked-out : PartsAreWorkedOut
 parts-are-worked-out = record {
   one_part = λ t u m open_t open_u et eu. inner_set t u (inner_rule t m et) (inner_rule u m eu);
   another_set = λ h. fourth_outside (h 3 1 1 refl refl refl refl 4 fourth_there);
-  different_sets = λ h. paths_are_told.not_in_set (h 4 3 1 refl refl refl refl 4 (inl refl));
+  different_sets = λ h. paths_are_worked.not_in_set (h 4 3 1 refl refl refl refl 4 (inl refl));
   timed_rules = λ t u m open_t open_u et eu e inside.
       subst (λ (x : ℕ). IsInSet nested last_two x e) (only_third t m open_t et ∙ sym (only_third u m open_u eu)) inside;
 }

@@ -1,4 +1,4 @@
--- Components by a name for each node, while they are found.
+-- Components while they are being found: each node has the name of one.
 use Rattle.std.specs.Prelude.{◌≡◌, ◌⊎◌, ◌↔◌, ℕ, ◌<◌, ◌≤◌, List, length, Vec, All, slice_index}
 use Rattle.std.specs.List.{Contains}
 use Rattle.std.specs.declared.alloc.Global.{Global}
@@ -16,7 +16,7 @@ pub record AreTables (n : ℕ) (next previous : List (Vec ℕ Global)) : Type 0 
 
 -- the known nodes are whole components, and each has the name of one of its component, the same for all of it
 pub record AreClasses (Edge : ℕ → ℕ → Type 0) (colors names : List ℕ) : Type 0 where
-  pub told : (a : ℕ) → (slice_index colors a ≡ UNKNOWN) ⊎ (slice_index colors a ≡ KNOWN)
+  pub decided : (a : ℕ) → (slice_index colors a ≡ UNKNOWN) ⊎ (slice_index colors a ≡ KNOWN)
   pub whole : (a b : ℕ) → slice_index colors a ≡ KNOWN → IsMutual Edge a b → (slice_index colors b ≡ KNOWN)
       × (slice_index names b ≡ slice_index names a)
   pub named : (a : ℕ) → slice_index colors a ≡ KNOWN → IsMutual Edge a (slice_index names a)

@@ -1,4 +1,4 @@
--- Where a program has a cycle, told by the components of its graph.
+-- Where a program has a cycle, decided by the components of its graph.
 use Rattle.std.specs.Prelude.{◌↔◌, ℕ, ◌<◌, List, map, All}
 use Rattle.std.specs.List.{Contains}
 use Rattle.model.specs.Programs.{Program}

@@ -1,4 +1,4 @@
--- Floods through nodes of one colour.
+-- Flooding: the nodes reached through nodes of one colour.
 use Rattle.std.specs.Prelude.{◌≡◌, ◌⊎◌, ◌↔◌, ℕ, ◌<◌, List, [], ◌∷◌, ◌++◌, length, if◌then◌else◌, ◌==◌, slice_index}
 use Rattle.std.specs.Prelude.{slice_set}
 use Rattle.std.specs.List.{Contains}
@@ -14,7 +14,7 @@ abbrev pub painted : ℕ → ℕ → ℕ → Painting → Painting
 painted old new b m = if slice_index m.colors b == old
     then record { colors = slice_set m.colors b new; found = m.found ++ b ∷ [] } else m
 
--- so for each node of a list, in order
+-- the same for each node of a list, in order
 abbrev pub all_painted : ℕ → ℕ → List ℕ → Painting → Painting
 all_painted old new [] m = m
 all_painted old new (b ∷ bs) m = all_painted old new bs (painted old new b m)

@@ -1,4 +1,4 @@
--- Names of nodes, one after the other.
+-- Naming of nodes, one after the other.
 use Rattle.std.specs.Prelude.{ℕ, List, [], ◌∷◌, Option, Some, None, slice_set, slice_index_or}
 
 -- the nodes of a list get a name

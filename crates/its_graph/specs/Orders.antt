@@ -1,4 +1,4 @@
--- The order of components by their leaders.
+-- The order of components, by their leaders.
 use Rattle.std.specs.Prelude.{◌≡◌, ◌≢◌, ◌⊎◌, ◌↔◌, ℕ, ◌<◌, ◌≤◌, List, [], ◌∷◌, ◌++◌, length, take, Bool, true, false}
 use Rattle.std.specs.Prelude.{if◌then◌else◌, ◌==◌, Vec, slice_index, slice_index_or, slice_set, replicate}
 use Rattle.std.specs.List.{Contains}

@@ -1,4 +1,4 @@
--- Walks in depth.
+-- Depth-first walks.
 use Rattle.std.specs.Prelude.{◌≡◌, ℕ, ◌<◌, length, All}
 use Rattle.its_graph.specs.declared.roots.Walk.{Walk}
 use Rattle.its_graph.specs.declared.roots.Visit.{Visit}

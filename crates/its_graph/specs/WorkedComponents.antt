@@ -1,5 +1,5 @@
--- Which nodes are in one component, what comes next, which lists are right, and which components have an edge inside,
--- worked out by hand on two graphs.
+-- Worked values, on two graphs, of which nodes are in one component, which component comes next, which lists are right,
+-- and which components have an edge inside.
 use Rattle.std.specs.Prelude.{ℕ, List, [], ◌∷◌}
 use Rattle.its_graph.specs.Groups.{IsPair}
 use Rattle.its_graph.specs.Components.{IsMutual, IsListed, MayComeNext, IsNext, IsListing}

@@ -1,4 +1,4 @@
--- For which parts of rules the sets are the same, worked out by hand on a program of two nested loops.
+-- Worked values of the parts of rules for which the sets are the same, on a program of two nested loops.
 use Rattle.std.specs.Prelude.{ℕ, List, [], ◌∷◌, Option, Some, None}
 use Rattle.model.specs.Paths.{any_rule}
 use Rattle.model.specs.PathValues.{nested, last_two}

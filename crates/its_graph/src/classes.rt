@@ -81,8 +81,8 @@ fn take_root(
     }
 }
 
-// The component of an unknown node becomes known, by the node's name: what leads to the node, and to what the node
-// leads among that. Known nodes are whole components, so no path from the node and back meets one.
+// Finds the component of an unknown node, and names it by the node: the nodes that lead to the node, among those to
+// which it leads. Known nodes are whole components, so no path from the node and back meets one.
 fn take_class(
     alloc: Global,
     next: &[Vec<u32>],

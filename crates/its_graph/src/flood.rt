@@ -1,4 +1,4 @@
-//! Floods: what is reached from a node along edges, through nodes of one colour, which get another.
+//! Flooding: the nodes that are reached from a node along edges, through nodes of one colour, get another colour.
 
 ghost use Rattle.std.specs.Prelude.{◌≡◌, ◌≢◌, ℕ, ◌<◌, length, All, IfOk, OnOk, slice_index};
 ghost use Rattle.its_graph.specs.Groups.{values_in, Joins};
@@ -7,7 +7,7 @@ ghost use Rattle.its_graph.specs.Floods.{painted, all_painted, Fills};
 use model::Memory;
 use std::alloc::Global;
 
-/// The colours of nodes during a search: not yet in a component, perhaps in the one that is looked for, and in one.
+/// The colours of nodes during a search: not yet in a component, perhaps in the current one, and in one.
 pub(crate) const UNKNOWN: u8 = 0;
 
 pub(crate) const CANDIDATE: u8 = 1;

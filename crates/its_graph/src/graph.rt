@@ -1,4 +1,4 @@
-//! The graph of a program, made once for many questions.
+//! The graph of a program, built once for many questions.
 
 ghost use Rattle.std.specs.Prelude.{◌≡◌, ◌↔◌, ℕ, ◌+◌, ◌<◌, ◌≤◌, ◌^◌, length, map, All, IfOk, OnOk, slice_index_or};
 ghost use Rattle.std.specs.Prelude.{None, true, false, replicate, ◌==◌, ◌&&◌, ◌||◌, if◌then◌else◌, ◌++◌, ◌∷◌, []};
@@ -24,11 +24,11 @@ use std::alloc::Global;
 #[derive(Debug, Drop)]
 pub struct Graph {
     pub start: u32,
-    /// A number above that of each symbol.
+    /// An upper bound on the numbers of symbols.
     pub symbols: usize,
-    /// From where to where rule 1, rule 2 and so on lead.
+    /// The source and the target of rule 1, rule 2 and so on.
     pub links: Vec<(u32, u32)>,
-    /// The virtual entry and the rules that lead to each symbol, ascending.
+    /// For each symbol the virtual entry and the rules that lead to it, ascending.
     pub arriving: Vec<Vec<u32>>,
 }
 
@@ -55,8 +55,8 @@ impl Graph {
         })
     }
 
-    /// What can come just before a rule, ascending: the rules that lead to where it comes from, and the virtual entry,
-    /// 0, where that is the start symbol.
+    /// The rules that can come just before a rule, ascending: those that lead to its source, and the virtual entry, 0,
+    /// where that is the start symbol.
     pub fn pre(&self, rule: u32) -> &[u32]
         requires graph { (p : PlainProgram) × IsGraphOf self.now p }
         requires number { (0 < rule) × (rule ≤ length self.now.links.items) }
@@ -66,7 +66,7 @@ impl Graph {
         &self.arriving[source as usize]
     }
 
-    /// Whether a path of rules that aren't cut leads from the start symbol to each symbol. The time is linear in
+    /// For each symbol whether a path of rules that aren't cut leads to it from the start symbol. The time is linear in
     /// symbols, rules and cut.
     ///
     /// # Errors
@@ -84,8 +84,8 @@ impl Graph {
         flooded(alloc, &next, self.start)
     }
 
-    /// The set of an untimed rule, ascending: the rule itself, and each untimed rule from where a path of untimed
-    /// rules, possibly empty, leads to where it comes from. The time is linear in symbols and rules.
+    /// The set of a rule without a time, ascending: the rule itself, and each rule without a time from whose target a
+    /// path of rules without a time, possibly empty, leads to its source. The time is linear in symbols and rules.
     ///
     /// # Errors
     ///
@@ -111,9 +111,10 @@ impl Graph {
         members(alloc, &self.links, untimed, &seen, rule)
     }
 
-    /// For each rule, by its number, the strongly connected component of the graph of the untimed rules that it leads
-    /// from and to, named by its least symbol; there is none where it leads from one to another, nor for the virtual
-    /// entry, 0. The untimed rules of a component have the same set. The time is near-linear in symbols and rules.
+    /// For each rule, by its number, the strongly connected component of the graph of the rules without a time that has
+    /// both its source and its target, named by the component's least symbol; none where these are in different ones,
+    /// nor for the virtual entry, 0. The rules without a time of one component have the same set. The time is
+    /// near-linear in symbols and rules.
     ///
     /// # Errors
     ///

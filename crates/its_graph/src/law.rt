@@ -1,5 +1,4 @@
-//! What components say of cycles, what the runs of a program without a cycle have in common, and that components have
-//! one order.
+//! Laws of components and cycles: runs of a program without a cycle, and the order of components.
 
 ghost use Rattle.its_graph.specs.Acyclic.{WithoutCycleEachRuleAtMostOnce};
 ghost use Rattle.its_graph.specs.Components.{ListingsAreUnique};
@@ -9,7 +8,7 @@ ghost use Rattle.its_graph.specs.WorkedComponents.{ComponentsAreWorkedOut};
 ghost use Rattle.its_graph.specs.WorkedParts.{PartsAreWorkedOut};
 
 /// The law that in each run of a program without a cycle every rule occurs at most once, and that the run has at most
-/// as many steps as there are rules. It has no code: its contract is the law.
+/// as many steps as there are rules. The function has no code: its contract is the law.
 pub fn without_cycle_each_rule_at_most_once()
     ensures { WithoutCycleEachRuleAtMostOnce }
 {}
@@ -29,13 +28,12 @@ pub fn listings_are_unique()
     ensures { ListingsAreUnique }
 {}
 
-/// Which nodes are in one component, which may come next and which lists are right is what was worked out by hand, on
-/// both sides.
+/// Worked values, on both sides, of which nodes are in one component, which may come next and which lists are right.
 pub fn components_are_as_worked_out()
     ensures { ComponentsAreWorkedOut }
 {}
 
-/// Which rules may be in one part, since they have the same set, is what was worked out by hand, on both sides.
+/// Worked values, on both sides, of which rules may be in one part, since they have the same set.
 pub fn parts_are_as_worked_out()
     ensures { PartsAreWorkedOut }
 {}

@@ -1,8 +1,11 @@
-//! The graph of a program: its symbols, with an edge from source to target for each rule, and strongly connected
-//! components. Contract to the layer above: what can come just before a rule, what is reached and the set of an untimed
-//! rule are those of the definitions by paths; the untimed rules that stay in one component have the same set;
-//! `components` gives the only list of components in their order; `has_cycle` answers yes exactly where some component
-//! has an edge inside; and without a cycle each rule occurs at most once in every run.
+//! The graph of a program (its symbols, with an edge from source to target for each rule) and its strongly connected
+//! components.
+//!
+//! Builds on `its_model`, and on `run_counting` for programs without a cycle. Main guarantee: the rules that can come
+//! just before a rule, the reachable symbols and the set of a rule without a time are those of the definitions by
+//! paths; rules without a time that stay in one component have the same set; `components` gives the only list of
+//! components in their order; `has_cycle` answers yes exactly where some component has an edge inside; and without a
+//! cycle each rule occurs at most once in every run.
 #![tactic(auto)]
 
 mod classes;
@@ -25,5 +28,5 @@ pub use law::{
 };
 pub use listing::components;
 
-/// Want of memory.
+/// Running out of memory.
 pub use model::Memory;

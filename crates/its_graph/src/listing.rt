@@ -15,7 +15,7 @@ use std::alloc::Global;
 
 /// The strongly connected components of the graph with this many nodes and these edges. Each comes after all from which
 /// a path leads to it; among those that may come next the one with the least node comes first. The nodes of a component
-/// ascend. The time is near-linear, and no recursion goes along a path.
+/// ascend. The time is near-linear, and there is no recursion along a path.
 ///
 /// # Errors
 ///

@@ -88,8 +88,8 @@ fn sorted(
     Ok(sorting.order)
 }
 
-// The state of sorting: how many needs of each leader are known to be listed, who waits for whom, who is listed, who
-// may come next, and what came so far.
+// The state of sorting: how many needs of each leader are known to be listed, which leaders wait for which, which are
+// listed, which may come next, and the result so far.
 #[derive(Debug, Drop)]
 struct Sorting {
     passed: Vec<usize>,

@@ -1,4 +1,4 @@
-//! Lists of pairs, grouped by the first of each.
+//! Groups lists of pairs by the first element.
 
 ghost use Rattle.std.specs.Prelude.{◌≡◌, ℕ, ◌<◌, [], length, map, IfOk, All};
 ghost use Rattle.its_graph.specs.Groups.{values_of, values_in, swap};
@@ -36,7 +36,7 @@ pub(crate) fn empty_lists(alloc: Global, count: usize) -> Result<Vec<Vec<u32>>, 
     Ok(lists)
 }
 
-/// Each pair turned round.
+/// Each pair reversed.
 pub(crate) fn swapped(alloc: Global, pairs: &[(u32, u32)]) -> Result<Vec<(u32, u32)>, Memory>
     ensures { IfOk result (λ turned. turned.items ≡ map swap pairs.now) }
 {

@@ -1,5 +1,5 @@
-//! In which order nodes are looked at, so that the search for components takes linear time. The order decides nothing
-//! but the time.
+//! The order in which nodes are visited so that the search for components takes linear time. The order affects only the
+//! time.
 
 ghost use Rattle.std.specs.Prelude.{◌≡◌, ℕ, ◌<◌, ◌≤◌, ◌^◌, length, All, IfOk, OnOk};
 ghost use Rattle.std.specs.List.{Contains};
@@ -9,7 +9,7 @@ ghost use Rattle.its_graph.specs.Walks.{IsWalk};
 use model::Memory;
 use std::alloc::Global;
 
-/// The nodes against the order in which a walk in depth leaves them, and then all of them once more.
+/// The nodes in the reverse order in which a depth-first walk leaves them, and then all of them once more.
 pub(crate) fn roots_of(alloc: Global, next: &[Vec<u32>]) -> Result<Vec<u32>, Memory>
     requires few { length next.now ≤ 2 ^ 32 }
     requires edges_within { (a : ℕ) → All (λ b. b < length next.now) (values_in next.now a) }

@@ -9,7 +9,7 @@ use model::Memory;
 use std::alloc::Global;
 use std::collections::BTreeSet;
 
-/// A key gets one value more.
+/// Appends a value to a key's list.
 pub(crate) fn push_to(lists: &mut Vec<Vec<u32>>, key: usize, value: u32) -> Result<(), Memory>
     requires { key < length lists.old.items }
     ensures size { length lists.new.items ≡ length lists.old.items }
@@ -20,7 +20,7 @@ pub(crate) fn push_to(lists: &mut Vec<Vec<u32>>, key: usize, value: u32) -> Resu
     Ok(())
 }
 
-/// The values of a key, which has none then.
+/// Takes the values of a key, which has none afterwards.
 pub(crate) fn take_from(alloc: Global, lists: &mut Vec<Vec<u32>>, key: usize) -> Vec<u32>
     requires { key < length lists.old.items }
     ensures taken { result.items ≡ values_in lists.old.items key }
@@ -30,7 +30,7 @@ pub(crate) fn take_from(alloc: Global, lists: &mut Vec<Vec<u32>>, key: usize) ->
     std::mem::replace(&mut lists[key], Vec::new(alloc))
 }
 
-/// A number more is in the set.
+/// Adds a number to the set.
 pub(crate) fn add_to(set: &mut BTreeSet<u32>, number: u32) -> Result<(), Memory>
     ensures { OnOk result ((q : ℕ) → Contains set.new.keys q ↔ (Contains set.old.keys q ⊎ (q ≡ number))) }
 {
@@ -38,7 +38,7 @@ pub(crate) fn add_to(set: &mut BTreeSet<u32>, number: u32) -> Result<(), Memory>
     Ok(())
 }
 
-/// The least number of the set, which lacks it then.
+/// Removes the least number of the set.
 pub(crate) fn take_least(set: &mut BTreeSet<u32>) -> Option<u32>
     ensures { MatchOption result (set.old.keys ≡ [])
         (λ number. (set.old.keys ≡ number ∷ set.new.keys) × ((q : ℕ) → Contains set.new.keys q → number < q)) }

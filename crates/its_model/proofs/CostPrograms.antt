@@ -85,7 +85,7 @@ rule-of-cost p s r k h e f =
       cost = tt;
     }
 
--- so is its program
+-- the same for its program
 program-of-cost : (p : Program) (s : Symbol) (r : Rule) (k : Term) → IsValidSymbol s → IsValidRule p r → r.cost ≡ Some k → slice_get p.symbols r.source ≡ Some s
     → IsValid (cost_program s r k)
 program-of-cost p s r k v h e f = record {

@@ -6,7 +6,8 @@ use Rattle.std.proofs.lemmas.Int.{ints}
 use Rattle.poly_terms.specs.model.Terms.{Term, Literal, value}
 use Rattle.poly_terms.specs.model.Programs.{AtLeast, Compare, Symbol, Rule, Program, rule_at, AtomHolds, GuardHolds}
 use Rattle.poly_terms.specs.model.Runs.{Config, Step, Leads, IsStep}
-use Rattle.poly_terms.specs.model.Costs.{or_zero, cost_at, cost_by, cost, cost_rule, entering_cost}
+use Rattle.poly_terms.specs.model.Spending.{or_zero, cost_at, cost_by, cost}
+use Rattle.poly_terms.specs.model.Costs.{cost_rule, entering_cost}
 use Rattle.its_model.specs.CostPrograms.{cost_program, LeadsToCost, IsCostProgram, at_cost}
 use Rattle.its_model.proofs.ListLaws.{all-to, all-from}
 

@@ -1,3 +1,4 @@
+-- laws of valid programs, of steps in 128 bits and of their costs, and worked values
 pub mod WorkedValues
 pub mod ListLaws
 pub mod ValidLaws

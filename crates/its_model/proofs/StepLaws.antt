@@ -20,7 +20,7 @@ use Rattle.its_model.specs.Steps.{guard_fault, updates_fault, rule_fault, found_
 use Rattle.its_model.specs.Steps.{maximum_arity, StepsHaveNoFault}
 use Rattle.its_model.proofs.ListLaws.{all-to, all-from}
 
--- a value that is answered is the expression's, and nothing passes 128 bits
+-- a value that is answered is the expression's, and nothing exceeds 128 bits
 pub within-some : (u : Term) (env : List ℤ) (z : ℤ) → Some z ≡ value_within u env → (values_fit u env ≡ true) × (z ≡ value u env)
 within-some u env z e = go (values_fit u env) refl e
   where
@@ -28,7 +28,7 @@ within-some u env z e = go (values_fit u env) refl e
     go true f g = (f, cc)
     go false f g = cc
 
--- no value is answered where one passes 128 bits
+-- no value is answered where one exceeds 128 bits
 pub within-none : (u : Term) (env : List ℤ) → None ≡ value_within u env → values_fit u env ≡ false
 within-none u env e = go (values_fit u env) refl e
   where
@@ -74,7 +74,7 @@ related-answers AtMost x y h = grind (arith, ints)
 related-answers LessThan x y h = grind (arith, ints)
 related-answers EqualTo x y h = equal-answers x y h
 
--- an atom without a fault holds, and nothing passes 128 bits
+-- an atom without a fault holds, and nothing exceeds 128 bits
 atom-holds : (env : List ℤ) (n : ℕ) (a : Atom) → atom_fault env n a ≡ None → AtomHolds env a × AtomFits env a
 atom-holds env n Always h = (tt, tt)
 atom-holds env n (Compare d r e) h = go (values_fit d env) (values_fit e env) (is_related r (value d env) (value e env)) refl refl refl h
@@ -94,7 +94,7 @@ atom-no_fault env n (Compare d r e) h f =
     ∙ (ap (λ (b : Bool). if b then (if is_related r (value d env) (value e env) then None else Some (AtomFails n)) else Some PastRange) f.1
     ∙ ap (λ (b : Bool). if b then None else Some (AtomFails n)) (related-answers r (value d env) (value e env) h))
 
--- so for all atoms
+-- the same for all atoms
 guard-holds : (env : List ℤ) (n : ℕ) (atoms : List Atom) → guard_fault env n atoms ≡ None → AllByRecursion (AtomHolds env) atoms × AllByRecursion (AtomFits env) atoms
 guard-holds env n [] h = (tt, tt)
 guard-holds env n (a ∷ atoms) h =

@@ -9,11 +9,11 @@ use Rattle.poly_terms.specs.model.Costs.{HasCost}
 use Rattle.its_model.specs.CostPrograms.{IsCostProgram}
 use Rattle.its_model.specs.WorkedPrograms.{small_program}
 use Rattle.its_model.specs.WorkedSteps.{maximum, A, B, one_more, standing_at, by_rule}
-use Rattle.its_model.specs.WorkedCosts.{more_than_B, paying, CostFaultsAreTold, cost_of_B, from_dollar}
-use Rattle.its_model.specs.WorkedCosts.{CostProgramsAreTold, CostStepsAreTold, CostsAreWorkedOut}
+use Rattle.its_model.specs.WorkedCosts.{more_than_B, paying, CostFaultsAreWorkedOut, cost_of_B, from_dollar}
+use Rattle.its_model.specs.WorkedCosts.{CostProgramsAreWorkedOut, CostStepsAreWorkedOut, CostsAreWorkedOut}
 use Rattle.its_model.proofs.CostFaults.{costs-have-no-fault}
 
-faults : CostFaultsAreTold
+faults : CostFaultsAreWorkedOut
 faults = record {
   taken = refl;
   guard_fails = refl;
@@ -55,7 +55,7 @@ update_of (r ∷ rs) = first r.updates
 update-is-cost : (p q : Program) (t : ℕ) → IsCostProgram p t q → update_of q.rules ≡ cost_in (rule_at p t)
 update-is-cost p q t k = ap (λ (w : Program). update_of w.rules) k.program ∙ sym (cost-found p t k.costs)
 
-programs : CostProgramsAreTold
+programs : CostProgramsAreWorkedOut
 programs = record {
   written = record { rule = _; numbered = refl; cost = B; written = refl };
   none_written = λ h. let e = cost-found small_program 1 h in cc;
@@ -90,7 +90,7 @@ abbrev first_value : List ℤ → ℤ
 first_value [] = pos 0
 first_value (x ∷ xs) = x
 
-steps : CostStepsAreTold
+steps : CostStepsAreWorkedOut
 steps = record {
   cost = record {
     source = refl;

@@ -4,7 +4,8 @@ use Rattle.std.specs.Prelude.{slice_get}
 use Rattle.poly_terms.specs.model.Terms.{Term, value}
 use Rattle.poly_terms.specs.model.Programs.{Name, Symbol, Rule, Program, rule_at, GuardHolds}
 use Rattle.poly_terms.specs.model.Runs.{Config, Step, IsStep}
-use Rattle.poly_terms.specs.model.Costs.{cost, cost_rule, HasCost, entering_cost}
+use Rattle.poly_terms.specs.model.Spending.{cost}
+use Rattle.poly_terms.specs.model.Costs.{cost_rule, HasCost, entering_cost}
 use Rattle.text_core.specs.Names.{is_same}
 use Rattle.its_model.specs.Valid.{IsValid}
 
@@ -29,8 +30,8 @@ pub record IsCostProgram (p : Program) (t : ℕ) (q : Program) : Type 0 where
   pub source : slice_get p.symbols costs.rule.source ≡ Some symbol
   pub program : q ≡ cost_program symbol costs.rule costs.cost
 
--- at the values of c and these free values the rule's guard holds and its cost k is at least 0, c stands at symbol 0,
--- and d at symbol 1 with the cost as its one value
+-- at the values of c and these free values the rule's guard holds and its cost k is at least 0; c is at symbol 0, and d
+-- is at symbol 1 with the cost as its only value
 pub record LeadsToCost (r : Rule) (k : Term) (c : Config) (free : List ℤ) (d : Config) : Type 0 where
   pub source : c.at ≡ 0
   pub left : length c.values ≡ r.left

@@ -1,4 +1,4 @@
--- What keeps a use of a rule from having a cost that is known in 128 bits, and what comes first.
+-- Why a use of a rule has no cost in 128 bits, and which reason comes first.
 use Rattle.std.specs.Prelude.{◌≡◌, ◌↔◌, ◌&&◌, if◌then◌else◌, nat_eq, true, List, ◌++◌, length, ℤ, Option, Some, None, ⊤}
 use Rattle.poly_terms.specs.model.Terms.{Term}
 use Rattle.poly_terms.specs.model.Programs.{Rule, Program, rule_at}
@@ -6,7 +6,7 @@ use Rattle.poly_terms.specs.model.Runs.{Config, Step}
 use Rattle.poly_terms.specs.Checked.{values_fit}
 use Rattle.its_model.specs.Steps.{StepFault, OtherRule, PastRange, step_fault}
 
--- the fault of a written cost: some value of it passes 128 bits
+-- the fault of a written cost: some value of it exceeds 128 bits
 abbrev pub written_fault : Option Term → List ℤ → Option StepFault
 written_fault None env = None
 written_fault (Some c) env = if values_fit c env then None else Some PastRange
@@ -27,12 +27,12 @@ found_cost_fault (Some r) c free = rule_cost_fault r c free
 abbrev pub cost_fault : Program → Config → Step → Option StepFault
 cost_fault p c s = found_cost_fault (rule_at p s.rule) c s.free
 
--- no value of a cost passes 128 bits
+-- no value of a cost exceeds 128 bits
 abbrev pub CostFits : List ℤ → Option Term → Type 0
 CostFits env None = ⊤
 CostFits env (Some c) = values_fit c env ≡ true
 
--- the rule that is used is there, leaves the symbol, has so many free variables, and no value of its cost passes 128
+-- the rule that is used exists, leaves the symbol, has this many free variables, and no value of its cost exceeds 128
 -- bits
 pub record HasFittingCost (p : Program) (c : Config) (s : Step) : Type 0 where
   pub rule : Rule

@@ -1,4 +1,4 @@
--- What the error of a step says.
+-- The meaning of the errors of a step.
 use Rattle.std.specs.Prelude.{◌≡◌, ℕ, ℤ, if◌then◌else◌, Option, Some, None, MatchOption}
 use Rattle.poly_terms.specs.model.Programs.{Relation}
 use Rattle.its_model.specs.declared.step_error.StepError.{StepError}
@@ -11,7 +11,7 @@ fault_of code.WrongRule = OtherRule
 fault_of (code.GuardFails atom) = AtomFails atom
 fault_of code.PassedRange = PastRange
 
--- the fault of a comparison with a number, where a side without a value passes 128 bits
+-- the fault of a comparison with a number, where a side without a value exceeds 128 bits
 abbrev pub comparison_fault : Option ℤ → Relation → Option ℤ → ℕ → Option StepFault
 comparison_fault (Some x) r (Some y) n = if is_related r x y then None else Some (AtomFails n)
 comparison_fault (Some x) r None n = Some PastRange

@@ -1,4 +1,4 @@
--- What taking a step asks of a rule.
+-- The preconditions on a rule for taking a step by it.
 use Rattle.std.specs.Prelude.{◌+◌, ◌≤◌, length, map}
 use Rattle.std.specs.List.{AllByRecursion}
 use Rattle.poly_terms.specs.model.Limits.{atom_limit}

@@ -1,4 +1,4 @@
--- What keeps a use of a rule from being a step, and what comes first.
+-- Why a use of a rule is no step, and which reason comes first.
 use Rattle.std.specs.Prelude.{◌≡◌, ℕ, suc, Bool, ◌&&◌, if◌then◌else◌, nat_eq, List, [], ◌∷◌, ◌++◌, length, map, max, ℤ}
 use Rattle.std.specs.Prelude.{int_lt, int_le, Option, Some, None, true, ⊤}
 use Rattle.std.specs.List.{AllByRecursion}
@@ -11,7 +11,7 @@ use Rattle.poly_terms.specs.model.Runs.{Config, Step, IsStep}
 use Rattle.poly_terms.specs.Checked.{values_fit}
 
 -- the faults of a use of a rule: there is no such rule, it leaves another symbol, or has another number of free
--- variables; an atom, counted from 1, doesn't hold; a value passes 128 bits
+-- variables; an atom, counted from 1, doesn't hold; a value exceeds 128 bits
 pub data StepFault : Type 0 where
   OtherRule : StepFault
   AtomFails : ℕ → StepFault
@@ -72,18 +72,18 @@ abbrev pub maximum_arity : List Symbol → ℕ
 maximum_arity [] = 0
 maximum_arity (s ∷ symbols) = max s.arity (maximum_arity symbols)
 
--- no value of an atom passes 128 bits
+-- no value of an atom exceeds 128 bits
 abbrev pub AtomFits : List ℤ → Atom → Type 0
 AtomFits env Always = ⊤
 AtomFits env (Compare d r e) = (values_fit d env ≡ true) × (values_fit e env ≡ true)
 
--- no value of a rule's guard and updates passes 128 bits
+-- no value of a rule's guard and updates exceeds 128 bits
 pub record RuleFits (r : Rule) (env : List ℤ) : Type 0 where
   pub guard : AllByRecursion (AtomFits env) r.guard
   pub updates : AllByRecursion (λ u. values_fit u env ≡ true) r.updates
 
 -- from a configuration with a value for each left variable, a use of a rule has no fault exactly where it is a step and
--- no value passes 128 bits on the way
+-- no value exceeds 128 bits on the way
 pub record StepsHaveNoFault : Type 0 where
   pub step : (p : Program) (c : Config) (s : Step) (r : Rule) → rule_at p s.rule ≡ Some r → length c.values ≡ r.left
       → step_fault p c s ≡ None

@@ -1,4 +1,4 @@
--- Valid programs: what every program that is read is, and what callers rely on.
+-- Valid programs: the properties of every program that is read, on which callers rely.
 use Rattle.std.specs.Prelude.{◌≡◌, ℕ, ◌+◌, ◌≤◌, ◌<◌, nat_eq, length, map, pos, Option, Some, None, IsTrue, ⊤}
 use Rattle.std.specs.List.{AllByRecursion, list_any}
 use Rattle.poly_terms.specs.model.Limits.{rule_limit, place_limit, variable_limit, atom_limit}

@@ -1,4 +1,4 @@
--- What holds of every valid program.
+-- Laws of every valid program.
 use Rattle.poly_terms.specs.model.Programs.{Program}
 use Rattle.poly_terms.specs.model.RunLaws.{AritiesAgree}
 use Rattle.its_model.specs.Valid.{IsValid}

@@ -1,4 +1,4 @@
--- What programs, configurations and steps of the code are as plain data.
+-- Programs, configurations and steps of the code as plain data.
 use Rattle.std.specs.Prelude.{map, option_map}
 use Rattle.poly_terms.specs.Views.{term_of}
 use Rattle.poly_terms.specs.model.Programs as plain

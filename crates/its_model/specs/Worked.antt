@@ -1,4 +1,4 @@
--- What was worked out by hand of how programs, configurations and steps are read.
+-- Worked values of programs, configurations and steps as plain data.
 use Rattle.std.specs.Prelude.{◌≡◌, ℕ, List, [], ◌∷◌, pos, negsuc, Some, None, ⊤}
 use Rattle.poly_terms.specs.model.Terms.{Literal, Variable}
 use Rattle.poly_terms.specs.model.Programs as plain
@@ -28,12 +28,12 @@ pub record GuardsAreRead : Type 0 where
   pub equal_to : relation_of Eq ≡ EqualTo
   -- `TRUE` is the atom that always holds
   pub always : atom_of Always ≡ plain.Always
-  -- what stands on the left stays there: `A >= -3`, and `B < A` with B numbered 1 and A numbered 0
+  -- sides of a comparison are not swapped: `A >= -3`, and `B < A` with B numbered 1 and A numbered 0
   pub with_literal : atom_of (Compare (Var 0) Ge (Num (negsuc 2)))
       ≡ plain.Compare (Variable 0) AtLeast (Literal (negsuc 2))
   pub with_variables : atom_of (Compare (Var 1) Lt (Var 0)) ≡ plain.Compare (Variable 1) LessThan (Variable 0)
 
--- the symbol has a name with these bytes, and so many places
+-- the symbol has a name with these bytes, and this many places
 pub record IsSymbol (bytes : plain.Name) (places : ℕ) (s : Symbol) : Type 0 where
   pub named : s.name.bytes.items ≡ bytes
   pub arity : s.arity ≡ places
@@ -120,7 +120,7 @@ worked_program = record {
   rules = first_rule ∷ second_rule ∷ [];
 }
 
--- how symbols, rules and programs are read, wherever in memory their parts stand
+-- how symbols, rules and programs are read, wherever their parts lie in memory
 pub record ProgramsAreRead : Type 0 where
   -- a symbol keeps its name and its number of places: `f1` with three
   pub symbol : (s : Symbol) → IsSymbol (102 ∷ 49 ∷ []) 3 s → symbol_of s ≡ record { name = 102 ∷ 49 ∷ []; arity = 3 }
@@ -132,7 +132,7 @@ pub record ProgramsAreRead : Type 0 where
   -- a program keeps its start, and its symbols, start names and rules in order
   pub program : (p : Program) → IsWorkedProgram p → program_of p ≡ worked_program
 
--- how configurations and steps are read, wherever in memory their values stand
+-- how configurations and steps are read, wherever their values lie in memory
 pub record RunsAreRead : Type 0 where
   -- a configuration keeps its symbol, and its values in order: the symbol 2 with 5 and -2
   pub config : (c : Config) → c.at ≡ 2 → c.values.items ≡ pos 5 ∷ negsuc 1 ∷ []

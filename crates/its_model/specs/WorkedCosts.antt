@@ -1,4 +1,4 @@
--- Why a step may have no cost in 128 bits, and the programs of costs, worked out by hand.
+-- Worked values of steps without a cost in 128 bits, and of the programs of costs.
 use Rattle.std.specs.Prelude.{◌≡◌, ℕ, [], ◌∷◌, ℤ, pos, negsuc, Some, None}
 use Rattle.poly_terms.specs.model.Terms.{Term, Literal, Addition, Subtraction}
 use Rattle.poly_terms.specs.model.Programs.{AtLeast, MoreThan, Atom, Compare, Program}
@@ -19,7 +19,7 @@ abbrev pub paying : Term → Program
 paying k = starting_at 0 (rule_costing k (more_than_B ∷ []) ∷ [])
 
 -- which uses of a rule have no cost in 128 bits
-pub record CostFaultsAreTold : Type 0 where
+pub record CostFaultsAreWorkedOut : Type 0 where
   -- A + B is a cost at (3, 2), and at (2, 3) too, where the guard fails and there is no step
   pub taken : cost_fault (paying (Addition A B)) (standing_at 0 (pos 3) (pos 2)) (by_rule 1 []) ≡ None
   pub guard_fails : cost_fault (paying (Addition A B)) (standing_at 0 (pos 2) (pos 3)) (by_rule 1 []) ≡ None
@@ -35,10 +35,10 @@ pub record CostFaultsAreTold : Type 0 where
   pub on_the_way : cost_fault (paying (Subtraction one_more (Literal (pos 1)))) (standing_at 0 maximum (pos 0))
       (by_rule 1 []) ≡ Some PastRange
   pub largest : cost_fault (paying A) (standing_at 0 maximum (pos 0)) (by_rule 1 []) ≡ None
-  -- where no cost is written, none passes 128 bits, though an update does
+  -- where no cost is written, none exceeds 128 bits, though an update does
   pub none_written : cost_fault small_program (standing_at 0 maximum (pos 1)) (by_rule 1 []) ≡ None
   pub past_in_update : step_fault small_program (standing_at 0 maximum (pos 1)) (by_rule 1 []) ≡ Some PastRange
-  -- the same said by what has to be there
+  -- the same facts, stated by the conditions on a step whose cost fits
   pub fitting : HasFittingCost (paying A) (standing_at 0 (pos 2) (pos 3)) (by_rule 1 [])
   pub not_fitting : ¬ (HasFittingCost (paying one_more) (standing_at 0 maximum (pos 0)) (by_rule 1 []))
   pub not_of_rule_2 : ¬ (HasFittingCost (paying A) (standing_at 0 (pos 2) (pos 3)) (by_rule 2 []))
@@ -107,7 +107,7 @@ cost_from_dollar = record {
 }
 
 -- which rules have a cost, and the programs of their costs
-pub record CostProgramsAreTold : Type 0 where
+pub record CostProgramsAreWorkedOut : Type 0 where
   pub written : HasCost (paying B) 1
   pub none_written : ¬ (HasCost small_program 1)
   pub no_rule : ¬ (HasCost (paying B) 2)
@@ -133,7 +133,7 @@ alone_at s z = record { at = s; values = z ∷ [] }
 
 -- from (3, 2) to the cost 2, and from (3, 0) to 0; not to another value or symbol, not where the cost is -1, and not
 -- where the guard fails
-pub record CostStepsAreTold : Type 0 where
+pub record CostStepsAreWorkedOut : Type 0 where
   pub cost : LeadsToB (pos 3) (pos 2) (alone_at 1 (pos 2))
   pub nothing : LeadsToB (pos 3) (pos 0) (alone_at 1 (pos 0))
   pub other_value : ¬ (LeadsToB (pos 3) (pos 2) (alone_at 1 (pos 3)))
@@ -143,6 +143,6 @@ pub record CostStepsAreTold : Type 0 where
 
 -- all of it
 pub record CostsAreWorkedOut : Type 0 where
-  pub faults : CostFaultsAreTold
-  pub programs : CostProgramsAreTold
-  pub steps : CostStepsAreTold
+  pub faults : CostFaultsAreWorkedOut
+  pub programs : CostProgramsAreWorkedOut
+  pub steps : CostStepsAreWorkedOut

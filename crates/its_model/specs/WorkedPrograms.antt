@@ -1,4 +1,4 @@
--- Valid programs, and what keeps a program from being one, worked out by hand.
+-- Worked values of valid programs, and of programs that aren't valid.
 use Rattle.std.specs.Prelude.{◌≡◌, ℕ, List, [], ◌∷◌, replicate, pos, Some, None}
 use Rattle.poly_terms.specs.model.Terms.{Term, Literal, Variable, Addition, Subtraction, Exponentiation}
 use Rattle.poly_terms.specs.model.Programs.{AtLeast, MoreThan, AtMost, LessThan, EqualTo, Atom, Always, Compare, Name}
@@ -36,7 +36,7 @@ rule_costing c guard = record {
 abbrev pub rule_with : List Term → List Atom → Rule
 rule_with updates guard = rule_to 1 updates guard
 
--- a rule to l1(A) without atoms, from a symbol by its number, with so many left and free variables of these names
+-- a rule to l1(A) without atoms, from a symbol by its number, with this many left and free variables of these names
 abbrev pub rule_from : ℕ → ℕ → ℕ → List Name → Rule
 rule_from source left free names = record {
   source = source;

@@ -1,4 +1,4 @@
--- What keeps a use of a rule from being a step, and what comes first, worked out by hand.
+-- Worked values of why a use of a rule is no step, and which reason comes first.
 use Rattle.std.specs.Prelude.{◌≡◌, ℕ, Bool, true, false, List, [], ◌∷◌, ℤ, pos, negsuc, Option, Some, None}
 use Rattle.poly_terms.specs.model.Terms.{Term, Literal, Variable, Negation, Addition, Subtraction, Multiplication}
 use Rattle.poly_terms.specs.model.Programs.{Relation, AtLeast, MoreThan, AtMost, LessThan, EqualTo, Atom, Always}
@@ -28,7 +28,7 @@ C = Variable 2
 abbrev pub nothing : Term
 nothing = Literal (pos 0)
 
--- A + 1, which passes 128 bits at the maximum alone
+-- A + 1, which exceeds 128 bits at the maximum alone
 abbrev pub one_more : Term
 one_more = Addition A (Literal (pos 1))
 
@@ -103,7 +103,7 @@ pub record FreeValuesAreTaken : Type 0 where
 abbrev pub both_ways : List Atom
 both_ways = Compare A MoreThan B ∷ Compare B MoreThan A ∷ []
 
--- what comes first where two faults are there
+-- which of two faults comes first
 pub record FaultsComeInOrder : Type 0 where
   -- the guard before the updates: A > B fails at (maximum, maximum), where A + 1 is no value
   pub guard_first : fault_at maximum maximum (pos 0) (Compare A MoreThan B ∷ []) one_more B ≡ Some (AtomFails 1)
@@ -128,7 +128,7 @@ pub record FaultsComeInOrder : Type 0 where
   pub right_side : fault_at maximum (pos 0) (pos 0) (Compare nothing AtLeast one_more ∷ []) A B ≡ Some PastRange
   pub right_side_holds : fault_at maximum (pos 0) (pos 0) (Compare nothing LessThan one_more ∷ []) A B ≡ Some PastRange
 
--- which values pass 128 bits
+-- which values exceed 128 bits
 pub record ValuesPassRange : Type 0 where
   -- both ends are values; one more than the one and one less than the other are none, and the opposite of the lower one
   pub ends : fault_at maximum minimum (pos 0) (Compare A MoreThan B ∷ []) A B ≡ None

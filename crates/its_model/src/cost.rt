@@ -1,8 +1,8 @@
-//! What steps cost, in 128 bits.
+//! The cost of steps, in 128 bits.
 
 ghost use Rattle.std.specs.Prelude.{◌≡◌, ℕ, ◌+◌, ◌++◌, length, option_map, None, Some, ⊤};
 ghost use Rattle.std.specs.Prelude.{MatchOption, MatchResult, IfOk, IfErr};
-ghost use Rattle.poly_terms.specs.model.Costs.{cost, cost_at, or_zero as or_zero_of};
+ghost use Rattle.poly_terms.specs.model.Spending.{cost, cost_at, or_zero as or_zero_of};
 ghost use Rattle.poly_terms.specs.model.Programs.{arity_of};
 ghost use Rattle.poly_terms.specs.Views.{term_of};
 ghost use Rattle.its_model.specs.Costs.{written_fault, rule_cost_fault, cost_fault, CostsHaveNoFault};
@@ -17,13 +17,13 @@ use crate::step::rule_position;
 use crate::step_error::StepError;
 use poly_terms::{Expr, value_in_parts};
 
-/// What a use of a rule costs: the value of the rule's cost at the values before the step, or 0 where that is negative;
-/// 1 where the rule has no cost. Whether the guard holds doesn't matter. Takes no memory.
+/// The cost of a use of a rule: the value of the rule's cost at the values before the step, or 0 where that is
+/// negative; 1 where the rule has no cost. Whether the guard holds doesn't matter. It allocates no memory.
 ///
 /// # Errors
 ///
 /// `WrongRule` where there is no such rule, it leaves another symbol, or it has another number of free variables;
-/// `PassedRange` where a value of the cost passes 128 bits; never `GuardFails`.
+/// `PassedRange` where a value of the cost exceeds 128 bits; never `GuardFails`.
 pub fn cost_checked(p: &Program, now: &Config, step: &Step) -> Result<u128, StepError>
     requires valid { IsValid (program_of p.now) }
     requires places { length now.now.values.items ≡ arity_of (program_of p.now) now.now.at }
@@ -40,7 +40,7 @@ pub fn cost_checked(p: &Program, now: &Config, step: &Step) -> Result<u128, Step
     }
 }
 
-// What a use of a rule costs.
+// The cost of a use of a rule.
 fn cost_by(rule: &Rule, now: &Config, free: &[i128]) -> Result<u128, StepError>
     requires valid { IsValidCost (rule.now.left + rule.now.free) (option_map term_of rule.now.cost) }
     requires left { now.now.at ≡ rule.now.source → length now.now.values.items ≡ rule.now.left }
@@ -59,7 +59,7 @@ fn cost_by(rule: &Rule, now: &Config, free: &[i128]) -> Result<u128, StepError>
     }
 }
 
-// What a cost comes to, or `None` where a value of it passes 128 bits.
+// The value of a cost, or `None` where a value in it exceeds 128 bits.
 fn cost_in_parts(cost: &Option<Expr>, left: &[i128], free: &[i128]) -> Option<u128>
     requires { IsValidCost (length left.now + length free.now) (option_map term_of cost.now) }
     ensures fault { MatchOption result
@@ -81,8 +81,8 @@ fn or_zero(z: i128) -> u128
     if z < 0 { 0 } else { z as u128 }
 }
 
-/// The cost of a use of a rule has no fault exactly where the rule is there, leaves the symbol, has that many free
-/// variables and a cost whose values stay within 128 bits. It has no code: its contract is the law.
+/// The cost of a use of a rule has no fault exactly where the rule exists, leaves the symbol, has that many free
+/// variables and a cost whose values stay within 128 bits. The function has no code: its contract is the law.
 pub fn costs_have_no_fault()
     ensures { CostsHaveNoFault }
 {}

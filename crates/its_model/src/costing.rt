@@ -1,4 +1,4 @@
-//! Programs that lead to what a step costs.
+//! Builds the program that leads to the cost of a rule's steps.
 
 ghost use Rattle.std.specs.Prelude.{◌≡◌, ◌<◌, IfOk, Some, length, option_map};
 ghost use Rattle.poly_terms.specs.model.Costs.{cost_rule, HasCost};
@@ -15,9 +15,9 @@ use poly_terms::{Expr, Memory};
 use std::alloc::Global;
 use text_core::Name;
 
-/// The program of the cost of the rule with a number, which has one: its one rule leaves the rule's source, where the
-/// program starts, has the rule's variables and guard with the atom that the cost is at least 0, and leads to the cost
-/// as the one value of a symbol named `$`, or `$$` where the source is called `$`.
+/// The program of the cost of the rule with this number, which must have a cost. Its only rule leaves the rule's
+/// source, where the program starts, has the rule's variables and its guard with the atom that the cost is at least 0,
+/// and leads to the cost as the only value of a symbol named `$`, or `$$` where the source is called `$`.
 ///
 /// # Errors
 ///
@@ -92,8 +92,8 @@ fn rule_from(alloc: Global, rule: &Rule, cost: &Expr) -> Result<Rule, Memory>
     })
 }
 
-/// The program of a cost is valid where the program is, and its one rule leads to the cost of each step whose cost
-/// isn't negative, and nowhere else. It has no code: its contract is the law.
+/// The program of a cost is valid where the program is, and its only rule leads to the cost of each step whose cost
+/// isn't negative, and nowhere else. The function has no code: its contract is the law.
 pub fn cost_programs_tell_costs()
     ensures { CostProgramsTellCosts }
 {}

@@ -1,4 +1,4 @@
-//! How guards, programs, configurations and steps are read, and what holds of valid programs.
+//! Guards, programs, configurations and steps as plain data, and laws of valid programs.
 
 ghost use Rattle.its_model.specs.ValidLaws.{AritiesOfValidAgree};
 ghost use Rattle.its_model.specs.Worked.{WorkedValues};
@@ -6,24 +6,23 @@ ghost use Rattle.its_model.specs.WorkedCosts.{CostsAreWorkedOut};
 ghost use Rattle.its_model.specs.WorkedPrograms.{ProgramsAreWorkedOut};
 ghost use Rattle.its_model.specs.WorkedSteps.{StepsAreWorkedOut};
 
-/// The plain data of relations, atoms, symbols, rules, programs, configurations and steps are what was worked out by
-/// hand. It has no code: its contract is the law.
+/// Worked values of the plain data of relations, atoms, symbols, rules, programs, configurations and steps. The
+/// function has no code: its contract is the law.
 pub fn worked_values_hold()
     ensures { WorkedValues }
 {}
 
-/// Which programs are valid, and the differences of comparisons, are what was worked out by hand.
+/// Worked values of which programs are valid, and of the differences of comparisons.
 pub fn programs_are_worked_out()
     ensures { ProgramsAreWorkedOut }
 {}
 
-/// The faults of steps, and which comes first, are what was worked out by hand.
+/// Worked values of the faults of steps, and of which comes first.
 pub fn steps_are_worked_out()
     ensures { StepsAreWorkedOut }
 {}
 
-/// Why a use of a rule may have no cost in 128 bits, and the programs of costs with their steps, are what was worked
-/// out by hand.
+/// Worked values of why a use of a rule may have no cost in 128 bits, and of the programs of costs with their steps.
 pub fn costs_are_worked_out()
     ensures { CostsAreWorkedOut }
 {}

@@ -1,4 +1,4 @@
-//! Programs: symbols, rules and where a run starts.
+//! Programs: symbols, rules and the start symbol.
 
 use crate::guard::Atom;
 use poly_terms::Expr;

@@ -1,4 +1,4 @@
-//! Where a run stands, and what it does next.
+//! Configurations, which are the states of a run, and steps.
 
 /// A configuration: a symbol, and one value for each of its places.
 #[derive(Debug, PartialEq, Eq, Drop)]

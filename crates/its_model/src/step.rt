@@ -1,4 +1,4 @@
-//! Steps that are taken in 128 bits.
+//! Takes steps in 128 bits.
 
 ghost use Rattle.std.specs.Prelude.{◌≡◌, ◌+◌, ◌<◌, ◌≤◌, ◌^◌, ◌++◌, ◌∷◌, [], ℕ, length, map, slice_index_or, true};
 ghost use Rattle.std.specs.Prelude.{false, MatchResult, MatchOption, IfOk, vec_len, vec_capacity};
@@ -22,11 +22,11 @@ use crate::run::{Config, Step};
 use crate::step_error::StepError;
 use poly_terms::{Expr, value_in_parts};
 
-/// Takes a step: `next` becomes the configuration that it reaches. Takes no memory.
+/// Takes a step: `next` becomes the configuration that it reaches. It allocates no memory.
 ///
 /// # Errors
 ///
-/// The first fault: the rule, then the atoms in order, then the updates. `next` is then open.
+/// The first fault: the rule, then the atoms in order, then the updates. `next` is then unspecified.
 pub fn step_checked(
     p: &Program,
     now: &Config,
@@ -49,7 +49,7 @@ pub fn step_checked(
     }
 }
 
-// Where the rule with a number stands.
+// The position of the rule with this number.
 pub(crate) fn rule_position(p: &Program, number: u32) -> Option<usize>
     ensures { MatchOption result
         (rule_at (program_of p.now) number ≡ None)
@@ -83,7 +83,7 @@ fn step_by(rule: &Rule, now: &Config, free: &[i128], next: &mut Config) -> Resul
     take(rule, &now.values, free, next)
 }
 
-// Looks at the guard and takes the updates.
+// Checks the guard and executes the updates.
 fn take(rule: &Rule, left: &[i128], free: &[i128], next: &mut Config) -> Result<(), StepError>
     requires valid { IsSteppable rule.now }
     requires left { length left.now ≡ rule.now.left }
@@ -177,7 +177,7 @@ fn related(x: i128, rel: Rel, y: i128) -> bool
     }
 }
 
-// Puts the values of the updates in place of the old ones. Answers whether none passes 128 bits.
+// Replaces the old values by those of the updates. Returns whether none exceeds 128 bits.
 fn update(updates: &[Expr], left: &[i128], free: &[i128], values: &mut Vec<i128>) -> bool
     requires valid { AllByRecursion (IsValidTerm (length left.now + length free.now)) (map term_of updates.now) }
     requires room { length updates.now ≤ vec_capacity values.old }
@@ -206,8 +206,8 @@ fn put(values: &mut Vec<i128>, z: i128)
     let _ = values.push(z);
 }
 
-/// From a configuration with a value for each left variable, a use of a rule has no fault exactly where it is a step
-/// and no value passes 128 bits on the way. It has no code: its contract is the law.
+/// For a configuration with a value for each left variable, a use of a rule has no fault exactly where it is a step and
+/// no value exceeds 128 bits on the way. The function has no code: its contract is the law.
 pub fn steps_have_no_fault()
     ensures { StepsHaveNoFault }
 {}

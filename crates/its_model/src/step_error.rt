@@ -7,6 +7,6 @@ pub enum StepError {
     WrongRule,
     /// The atom with this number, from 1, doesn't hold.
     GuardFails { atom: u32 },
-    /// A value passes 128 bits.
+    /// A value exceeds 128 bits.
     PassedRange,
 }

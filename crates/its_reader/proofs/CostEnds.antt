@@ -18,14 +18,14 @@ use Rattle.its_text.specs.FrontFaults.{Tokens, ends_expression, last_faults}
 use Rattle.its_reader.specs.Tests.{inner_next}
 use Rattle.its_reader.specs.Faults.{maybe_kind}
 use Rattle.its_reader.specs.FaultTests.{is_costing}
-use Rattle.its_reader.specs.Places.{CostSettled, SettledAt, IsCosting, IsCosted}
-use Rattle.its_reader.specs.TokenSteps.{Settles}
-use Rattle.its_reader.specs.PartEnds.{ends_in, AfterCost, CostSettlesBy, CostSettles}
+use Rattle.its_reader.specs.Places.{CostPartEnded, PartEndedAt, IsCosting, IsCosted}
+use Rattle.its_reader.specs.TokenSteps.{EndsPart}
+use Rattle.its_reader.specs.PartEnds.{ends_in, AfterCost, CostEndsPartBy, CostEndsPart}
 use Rattle.its_reader.specs.declared.fault.Kind.{Kind}
-use Rattle.its_reader.specs.declared.place.CostPlace.{CostPlace}
-use Rattle.its_reader.specs.declared.place.CostPlace.TheVariants as costs
-use Rattle.its_reader.specs.declared.place.Place.{Place}
-use Rattle.its_reader.specs.declared.place.Place.TheVariants as places
+use Rattle.its_reader.specs.declared.parser_state.CostState.{CostState}
+use Rattle.its_reader.specs.declared.parser_state.CostState.TheVariants as costs
+use Rattle.its_reader.specs.declared.parser_state.ParserState.{ParserState}
+use Rattle.its_reader.specs.declared.parser_state.ParserState.TheVariants as places
 use Rattle.its_reader.specs.declared.draft.RuleDraft.{RuleDraft}
 use Rattle.its_reader.specs.declared.draft.Draft.{Draft}
 use Rattle.its_reader.proofs.ExpressionEnds.{ends_by, ended_names, made_is, ended_found, going_silent}
@@ -54,42 +54,42 @@ module _ (ts : Tokens) (next : Option Piece) (r : Ruling) (t : LeftTerm) (e : ex
   }
 
   -- a cost ends or goes on
-  cost_settled : (rule : RuleDraft) (now : Place) (refusal : Option Kind) → CostSettlesBy (ends_in old.rule.expression (inner_next next)) costs.Costing old.rule now refusal rule
-      → SettledAt ts next now (record old { rule = rule }) (fronts.Costing r t e) × ((at : ℕ) → maybe_kind refusal at ≡ last_faults at (fronts.Costing r t e) next)
-  cost_settled rule now refusal h = go (ends_in old.rule.expression (inner_next next)) refl h
+  cost_part_ended : (rule : RuleDraft) (now : ParserState) (refusal : Option Kind) → CostEndsPartBy (ends_in old.rule.expression (inner_next next)) costs.Costing old.rule now refusal rule
+      → PartEndedAt ts next now (record old { rule = rule }) (fronts.Costing r t e) × ((at : ℕ) → maybe_kind refusal at ≡ last_faults at (fronts.Costing r t e) next)
+  cost_part_ended rule now refusal h = go (ends_in old.rule.expression (inner_next next)) refl h
     where
-      go : (v : Bool) → ends_in old.rule.expression (inner_next next) ≡ v → CostSettlesBy v costs.Costing old.rule now refusal rule
-          → SettledAt ts next now (record old { rule = rule }) (fronts.Costing r t e) × ((at : ℕ) → maybe_kind refusal at ≡ last_faults at (fronts.Costing r t e) next)
+      go : (v : Bool) → ends_in old.rule.expression (inner_next next) ≡ v → CostEndsPartBy v costs.Costing old.rule now refusal rule
+          → PartEndedAt ts next now (record old { rule = rule }) (fronts.Costing r t e) × ((at : ℕ) → maybe_kind refusal at ≡ last_faults at (fronts.Costing r t e) next)
       go true v h =
           let s = ends_by (left_names t) e (names_in old.rule.variables) old.rule.expression k.expression next true v in (
-            subst (λ p. SettledAt ts next p (record old { rule = rule }) (fronts.Costing r t e)) (sym h.0) (r, (t, (e, (s.0, (refl, cost_over rule refusal s.0 s.1.0 s.1.1 h.1))))),
+            subst (λ p. PartEndedAt ts next p (record old { rule = rule }) (fronts.Costing r t e)) (sym h.0) (r, (t, (e, (s.0, (refl, cost_over rule refusal s.0 s.1.0 s.1.1 h.1))))),
             λ at. h.1.found_is at ∙ ended_found (left_names t) e (names_in old.rule.variables) old.rule.expression k.expression s.0 s.1.0 at next h.1.made h.1.ends s.1.1,
           )
       go false v h =
           let stops = ends_by (left_names t) e (names_in old.rule.variables) old.rule.expression k.expression next false v in (
-            subst (λ p. SettledAt ts next p (record old { rule = rule }) (fronts.Costing r t e)) (sym h.0)
-                (subst (λ q. CostSettled ts next costs.Costing (record old { rule = q }) (fronts.Costing r t e)) (sym h.1.1) (r, (t, (e, (refl, (k, stops)))))),
+            subst (λ p. PartEndedAt ts next p (record old { rule = rule }) (fronts.Costing r t e)) (sym h.0)
+                (subst (λ q. CostPartEnded ts next costs.Costing (record old { rule = q }) (fronts.Costing r t e)) (sym h.1.1) (r, (t, (e, (refl, (k, stops)))))),
             λ at. ap (λ o. maybe_kind o at) h.1.0 ∙ going_silent at (left_names t) e next stops,
           )
 
 -- what ends within the braces of a cost ends in what is written, and what its last byte shows is found
-pub cost_settles : (place : CostPlace) (old : Draft) (rule : RuleDraft) (next : Option Piece) (now : Place) (refusal : Option Kind) → CostSettles place old.rule next now refusal rule
-    → Settles (places.InCost place) old next now (maybe_kind refusal) (record old { rule = rule })
-cost_settles costs.Costing old rule next now refusal h = record {
-  settled = λ ts f k. subst (λ f. SettledAt ts next now (record old { rule = rule }) f) (sym k.1.1.1.0) (cost_settled ts next k.0 k.1.0 k.1.1.0 old k.1.1.1.1 rule now refusal h.by).0;
-  found_is = λ ts at f k. (cost_settled ts next k.0 k.1.0 k.1.1.0 old k.1.1.1.1 rule now refusal h.by).1 at ∙ sym (ap (λ f. last_faults at f next) k.1.1.1.0);
+pub cost_ends_part : (state : CostState) (old : Draft) (rule : RuleDraft) (next : Option Piece) (now : ParserState) (refusal : Option Kind) → CostEndsPart state old.rule next now refusal rule
+    → EndsPart (places.InCost state) old next now (maybe_kind refusal) (record old { rule = rule })
+cost_ends_part costs.Costing old rule next now refusal h = record {
+  part_ended = λ ts f k. subst (λ f. PartEndedAt ts next now (record old { rule = rule }) f) (sym k.1.1.1.0) (cost_part_ended ts next k.0 k.1.0 k.1.1.0 old k.1.1.1.1 rule now refusal h.by).0;
+  found_is = λ ts at f k. (cost_part_ended ts next k.0 k.1.0 k.1.1.0 old k.1.1.1.1 rule now refusal h.by).1 at ∙ sym (ap (λ f. last_faults at f next) k.1.1.1.0);
 }
-cost_settles costs.Costed old rule next now refusal h = record { settled = λ ts f k. absurd k; found_is = λ ts at f k. absurd k }
+cost_ends_part costs.Costed old rule next now refusal h = record { part_ended = λ ts f k. absurd k; found_is = λ ts at f k. absurd k }
 
 -- a cost that ends before the next piece has ended
-pub cost_is_over : {place : CostPlace} {old new : RuleDraft} {n : Option inner.Piece} {next : Option Piece} {refusal : Option Kind} → is_costing place && ends_in old.expression n ≡ true → n ≡ inner_next next → AfterCost old refusal new
-    → CostSettles place old next (places.InCost costs.Costed) refusal new
-cost_is_over {place} {old} {new} {n} {next} {refusal} e same a = record {
-  by = subst (λ v. CostSettlesBy v place old (places.InCost costs.Costed) refusal new) (sym (ap (λ n. is_costing place && ends_in old.expression n) (sym same) ∙ e)) (refl, a);
+pub cost_is_over : {state : CostState} {old new : RuleDraft} {n : Option inner.Piece} {next : Option Piece} {refusal : Option Kind} → is_costing state && ends_in old.expression n ≡ true → n ≡ inner_next next → AfterCost old refusal new
+    → CostEndsPart state old next (places.InCost costs.Costed) refusal new
+cost_is_over {state} {old} {new} {n} {next} {refusal} e same a = record {
+  by = subst (λ v. CostEndsPartBy v state old (places.InCost costs.Costed) refusal new) (sym (ap (λ n. is_costing state && ends_in old.expression n) (sym same) ∙ e)) (refl, a);
 }
 
 -- where no cost ends before the next piece nothing changes
-pub cost_is_on : {place : CostPlace} {old : RuleDraft} {n : Option inner.Piece} {next : Option Piece} → is_costing place && ends_in old.expression n ≡ false → n ≡ inner_next next → CostSettles place old next (places.InCost place) None old
-cost_is_on {place} {old} {n} {next} e same = record {
-  by = subst (λ v. CostSettlesBy v place old (places.InCost place) None old) (sym (ap (λ n. is_costing place && ends_in old.expression n) (sym same) ∙ e)) (refl, (refl, refl));
+pub cost_is_on : {state : CostState} {old : RuleDraft} {n : Option inner.Piece} {next : Option Piece} → is_costing state && ends_in old.expression n ≡ false → n ≡ inner_next next → CostEndsPart state old next (places.InCost state) None old
+cost_is_on {state} {old} {n} {next} e same = record {
+  by = subst (λ v. CostEndsPartBy v state old (places.InCost state) None old) (sym (ap (λ n. is_costing state && ends_in old.expression n) (sym same) ∙ e)) (refl, (refl, refl));
 }

@@ -19,23 +19,23 @@ use Rattle.its_text.specs.FrontFaults.{Tokens, ends_expression}
 use Rattle.its_text.specs.Steps.{step, cost_step}
 use Rattle.its_reader.specs.Tests as tests
 use Rattle.its_reader.specs.Standing.{KnowsSymbols, without_cost}
-use Rattle.its_reader.specs.Places.{CostSettled, LeadsTo, IsCosting, IsCosted}
-use Rattle.its_reader.specs.PlaceSteps.{GoTogether, IsModestPiece, GoesOn, Takes, TakesPiece, CostLeads}
+use Rattle.its_reader.specs.Places.{CostPartEnded, LeadsTo, IsCosting, IsCosted}
+use Rattle.its_reader.specs.StateSteps.{GoTogether, IsModestPiece, GoesOn, Takes, TakesPiece, CostLeads}
 use Rattle.its_reader.specs.declared.draft.Draft.{Draft}
-use Rattle.its_reader.specs.declared.place.CostPlace.{CostPlace}
-use Rattle.its_reader.specs.declared.place.CostPlace.TheVariants as costs
-use Rattle.its_reader.specs.declared.place.RightPlace.TheVariants as rights
-use Rattle.its_reader.specs.declared.place.Place.{Place}
-use Rattle.its_reader.specs.declared.place.Place.TheVariants as places
+use Rattle.its_reader.specs.declared.parser_state.CostState.{CostState}
+use Rattle.its_reader.specs.declared.parser_state.CostState.TheVariants as costs
+use Rattle.its_reader.specs.declared.parser_state.TargetState.TheVariants as rights
+use Rattle.its_reader.specs.declared.parser_state.ParserState.{ParserState}
+use Rattle.its_reader.specs.declared.parser_state.ParserState.TheVariants as places
 use Rattle.its_reader.proofs.LeftLaws.{leads_together}
 use Rattle.its_reader.proofs.LedLaws.{led_kept}
 use Rattle.its_reader.proofs.RightPromises.{takes_written}
 
 -- the place within the braces while a cost is read
-abbrev reading : Place
+abbrev reading : ParserState
 reading = places.InCost costs.Costing
 
-module _ (r : Ruling) (t : LeftTerm) (e : expression.Front) (p : inner.Piece) (old new : Draft) (result : Option Place) where
+module _ (r : Ruling) (t : LeftTerm) (e : expression.Front) (p : inner.Piece) (old new : Draft) (result : Option ParserState) where
   -- a piece goes on with a cost, and what is known beside it stays
   cost_goes_on : (ts : Tokens) (more : expression.Front) → IsCosting ts r t e old → expression_steps.step e p ≡ Some more → IsModest p → GoesOn old p new → IsCosting ts r t more new
   cost_goes_on ts more k led modest g = record {
@@ -63,7 +63,7 @@ module _ (r : Ruling) (t : LeftTerm) (e : expression.Front) (p : inner.Piece) (o
       go None h = rw h.0 tt
 
 -- in a cost that goes on the code leads where what is written does
-pub costing_promise : (p : Piece) (old new : Draft) (result : Option Place) → TakesPiece reading old p result new → CostLeads costs.Costing old p result new
+pub costing_promise : (p : Piece) (old new : Draft) (result : Option ParserState) → TakesPiece reading old p result new → CostLeads costs.Costing old p result new
 costing_promise p old new result h = record {
   together = λ ts f k. rw k.1.1.1.0 (together ts p h k.0 k.1.0 k.1.1.0 k.1.1.1.1.0 k.1.1.1.1.1);
   each = λ ts next f k modest. rw k.1.1.1.0 (each ts next p h modest k.0 k.1.0 k.1.1.0 k.1.1.1.1.0 k.1.1.1.1.1);
@@ -82,7 +82,7 @@ costing_promise p old new result h = record {
     each ts next _ h modest r t e k stops = rw h.0 tt
 
 -- behind a cost that has ended only `}>` leads on
-costed_leads : (ts : Tokens) (next : Option Piece) (p : Piece) (f : Front) (d : Draft) → CostSettled ts (Some p) costs.Costed d f
+costed_leads : (ts : Tokens) (next : Option Piece) (p : Piece) (f : Front) (d : Draft) → CostPartEnded ts (Some p) costs.Costed d f
     → LeadsTo ts next (step f p) (if tests.closes_cost p then Some (places.InRight rights.Arrowed) else None) d
 costed_leads ts next p f d k = rw k.1.1.1.1.0 (go p known.ends)
   where
@@ -98,13 +98,13 @@ costed_leads ts next p f d k = rw k.1.1.1.1.0 (go p known.ends)
     go CostClose ends = rw known.finish_is (record { ruling = k.0; left = k.1.0; cost = Some k.1.1.1.0 }, (refl, known.left))
     go _ ends = tt
 
--- so does the code
-pub costed_promise : (p : Piece) (old : Draft) (result : Option Place) → result ≡ (if tests.closes_cost p then Some (places.InRight rights.Arrowed) else None) → CostLeads costs.Costed old p result old
+-- the same for the code
+pub costed_promise : (p : Piece) (old : Draft) (result : Option ParserState) → result ≡ (if tests.closes_cost p then Some (places.InRight rights.Arrowed) else None) → CostLeads costs.Costed old p result old
 costed_promise p old result h = record {
   together = λ ts f k. leads_together ts None (step f p) result old (rw h (costed_leads ts None p f old k));
   each = λ ts next f k modest. rw h (costed_leads ts next p f old k);
 }
 
--- the place within the braces of a cost may be told by an equation
-pub in_cost_place : (place known : CostPlace) (old new : Draft) (p : Piece) (result : Option Place) → place ≡ known → CostLeads known old p result new → CostLeads place old p result new
-in_cost_place place known old new p result e h = subst (λ (q : CostPlace). CostLeads q old p result new) (sym e) h
+-- the same for a state inside the braces of a cost that is given by an equation
+pub in_cost_state : (state known : CostState) (old new : Draft) (p : Piece) (result : Option ParserState) → state ≡ known → CostLeads known old p result new → CostLeads state old p result new
+in_cost_state state known old new p result e h = subst (λ (q : CostState). CostLeads q old p result new) (sym e) h

@@ -63,7 +63,7 @@ module _ (before : List Name) (e : expression.Front) (names : List Name) (x : Ex
     pub made_is : (made : Term) → Ends x made → made ≡ limited (sum_term (with_sum before s) s)
     made_is made h = h.each before names e s k finish ∙ ap (λ ns. limited (sum_term ns s)) ended_names
 
-    -- what stands in the way of expanding it is shown at its last byte
+    -- the fault that prevents its expansion is shown at its last byte
     pub ended_found : (at : ℕ) (next : Option Piece) (made : Term) → Ends x made → ends_expression e next ≡ true
         → expansion_faults at (first_fault made) ≡ (if ends_expression e next then argument_faults at before (expression_steps.finish e) else [])
     ended_found at next made h ends =

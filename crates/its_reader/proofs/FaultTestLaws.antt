@@ -1,4 +1,5 @@
--- What is noted one after the other is noted together, and the tests of the code are those of what is written.
+-- Keeping the first of several faults one after the other keeps the first of all; and the tests of the code agree with
+-- those of the written text.
 use Rattle.std.specs.Prelude.{◌≡◌, ℕ, is_some, List, [], ◌∷◌, ◌++◌, Option, Some, None, refl}
 use Rattle.std.proofs.Common.{sym, ap, ◌∙◌, append-nil}
 use Rattle.model.specs.Programs.{Name}
@@ -20,30 +21,30 @@ use Rattle.its_reader.specs.Places.{InSections}
 use Rattle.its_reader.specs.declared.draft.Draft.{Draft}
 use Rattle.its_reader.specs.declared.draft.Sections.{Sections}
 use Rattle.its_reader.specs.declared.draft.Start as code
-use Rattle.its_reader.specs.declared.place.SectionPlace.{SectionPlace}
-use Rattle.its_reader.specs.declared.place.SectionPlace.TheVariants as sections
+use Rattle.its_reader.specs.declared.parser_state.SectionState.{SectionState}
+use Rattle.its_reader.specs.declared.parser_state.SectionState.TheVariants as sections
 
--- faults that are noted one list after the other are noted together
-pub both_noted : (best : Option (Fault Kind)) (xs ys : FaultList) → first_among programs best (xs ++ ys) ≡ first_among programs (first_among programs best xs) ys
-both_noted best [] ys = refl
-both_noted best (x ∷ xs) ys = both_noted (Some (first_of programs best x)) xs ys
+-- the first fault of one list and then of another is the first of both lists
+pub both_first_fault : (best : Option (Fault Kind)) (xs ys : FaultList) → first_among programs best (xs ++ ys) ≡ first_among programs (first_among programs best xs) ys
+both_first_fault best [] ys = refl
+both_first_fault best (x ∷ xs) ys = both_first_fault (Some (first_of programs best x)) xs ys
 
 -- three lists of faults one after the other
-pub three_noted : (best one two three : Option (Fault Kind)) (xs ys zs : FaultList) → one ≡ first_among programs best xs → two ≡ first_among programs one ys → three ≡ first_among programs two zs
+pub three_first_fault : (best one two three : Option (Fault Kind)) (xs ys zs : FaultList) → one ≡ first_among programs best xs → two ≡ first_among programs one ys → three ≡ first_among programs two zs
     → three ≡ first_among programs best (xs ++ ys ++ zs)
-three_noted best one two three xs ys zs a b c =
-    c ∙ (ap (λ o. first_among programs o zs) (b ∙ (ap (λ o. first_among programs o ys) a ∙ sym (both_noted best xs ys))) ∙ sym (both_noted best (xs ++ ys) zs))
+three_first_fault best one two three xs ys zs a b c =
+    c ∙ (ap (λ o. first_among programs o zs) (b ∙ (ap (λ o. first_among programs o ys) a ∙ sym (both_first_fault best xs ys))) ∙ sym (both_first_fault best (xs ++ ys) zs))
 
 -- and one more
 pub one_more : (best one two : Option (Fault Kind)) (xs ys : FaultList) → one ≡ first_among programs best xs → two ≡ first_among programs one ys → two ≡ first_among programs best (xs ++ ys)
-one_more best one two xs ys a b = b ∙ (ap (λ o. first_among programs o ys) a ∙ sym (both_noted best xs ys))
+one_more best one two xs ys a b = b ∙ (ap (λ o. first_among programs o ys) a ∙ sym (both_first_fault best xs ys))
 
 -- four lists of faults, and one behind them
-pub four_noted : (best one two three four : Option (Fault Kind)) (xs ys zs ws : FaultList) → one ≡ first_among programs best xs → two ≡ first_among programs one ys → three ≡ first_among programs two zs → four ≡ first_among programs three ws
+pub four_first_fault : (best one two three four : Option (Fault Kind)) (xs ys zs ws : FaultList) → one ≡ first_among programs best xs → two ≡ first_among programs one ys → three ≡ first_among programs two zs → four ≡ first_among programs three ws
     → four ≡ first_among programs best (xs ++ ys ++ zs ++ ws)
-four_noted best one two three four xs ys zs ws a b c d = one_more best three four (xs ++ ys ++ zs) ws (three_noted best one two three xs ys zs a b c) d
+four_first_fault best one two three four xs ys zs ws a b c d = one_more best three four (xs ++ ys ++ zs) ws (three_first_fault best one two three xs ys zs a b c) d
 
--- a list that is noted behind four others is noted together with them
+-- the first fault of a list after four others is the first of all five lists
 pub one_more_behind : (best one two : Option (Fault Kind)) (xs ys zs ws vs : FaultList) → one ≡ first_among programs best (xs ++ ys ++ zs ++ ws) → two ≡ first_among programs one vs → two ≡ first_among programs best (xs ++ ys ++ zs ++ ws ++ vs)
 one_more_behind best one two xs ys zs ws vs a b = one_more best one two (xs ++ ys ++ zs ++ ws) vs a b
 
@@ -87,29 +88,29 @@ module _ (ts : Tokens) (at : ℕ) (next behind : Option Piece) where
   between_shows ss s k = simp append-nil (ap (λ v. fault_if v RepeatedSection at ++ fault_if (long_name next) (Limit LongName) at) (repeats_is ts ss s k next behind))
 
   -- at the next token a front outside rules shows a repeated section and a name that is too long
-  pub section_shows : (place : SectionPlace) (d : Draft) (f : Front) → InSections ts place d f → next_faults at f next behind ≡ fault_if (repeats_in place d.sections next behind) RepeatedSection at ++ fault_if (long_name next) (Limit LongName) at
+  pub section_shows : (state : SectionState) (d : Draft) (f : Front) → InSections ts state d f → next_faults at f next behind ≡ fault_if (repeats_in state d.sections next behind) RepeatedSection at ++ fault_if (long_name next) (Limit LongName) at
   section_shows sections.Between d f k = rw k.1.0 (between_shows k.0 d.sections k.1.1.sections)
   section_shows sections.Opened d f k = rw k.1.0 (simp append-nil)
   section_shows sections.GoalNamed d f k = rw k.1.0 (simp append-nil)
-  section_shows sections.GoalSaid d f k = rw k.1.0 (simp append-nil)
+  section_shows sections.GoalRead d f k = rw k.1.0 (simp append-nil)
   section_shows sections.StartNamed d f k = rw k.1.0 (simp append-nil)
   section_shows sections.StartOpened d f k = rw k.1.0 (simp append-nil)
   section_shows sections.StartListed d f k = rw k.1.0 (simp append-nil)
-  section_shows sections.StartSaid d f k = rw k.1.1.0 (simp append-nil)
-  section_shows sections.StartShut d f k = rw k.1.1.0 (simp append-nil)
+  section_shows sections.StartRead d f k = rw k.1.1.0 (simp append-nil)
+  section_shows sections.StartClosed d f k = rw k.1.1.0 (simp append-nil)
   section_shows sections.Listing d f k = rw k.1.1.0 (simp append-nil)
   section_shows sections.CommentNamed d f k = rw k.1.0 (simp append-nil)
 
 -- what a front outside rules shows at the last byte that was read: nothing
-pub section_silent : (ts : Tokens) (at : ℕ) (next : Option Piece) (place : SectionPlace) (d : Draft) (f : Front) → InSections ts place d f → last_faults at f next ≡ []
+pub section_silent : (ts : Tokens) (at : ℕ) (next : Option Piece) (state : SectionState) (d : Draft) (f : Front) → InSections ts state d f → last_faults at f next ≡ []
 section_silent ts at next sections.Between d f k = rw k.1.0 refl
 section_silent ts at next sections.Opened d f k = rw k.1.0 refl
 section_silent ts at next sections.GoalNamed d f k = rw k.1.0 refl
-section_silent ts at next sections.GoalSaid d f k = rw k.1.0 refl
+section_silent ts at next sections.GoalRead d f k = rw k.1.0 refl
 section_silent ts at next sections.StartNamed d f k = rw k.1.0 refl
 section_silent ts at next sections.StartOpened d f k = rw k.1.0 refl
 section_silent ts at next sections.StartListed d f k = rw k.1.0 refl
-section_silent ts at next sections.StartSaid d f k = rw k.1.1.0 refl
-section_silent ts at next sections.StartShut d f k = rw k.1.1.0 refl
+section_silent ts at next sections.StartRead d f k = rw k.1.1.0 refl
+section_silent ts at next sections.StartClosed d f k = rw k.1.1.0 refl
 section_silent ts at next sections.Listing d f k = rw k.1.1.0 refl
 section_silent ts at next sections.CommentNamed d f k = rw k.1.0 refl

@@ -13,7 +13,7 @@ use Rattle.its_text.specs.expr_text.FrontNames.{goes_on_with}
 use Rattle.its_text.specs.Pieces.{Piece, In}
 use Rattle.its_text.specs.Kinds.{Kind, kind_number, NumberTooLarge}
 use Rattle.its_text.specs.Written.{Target, Marked, Bare}
-use Rattle.its_text.specs.Fronts.{Front, LeftShut, RightShut, Targeted, front_pieces}
+use Rattle.its_text.specs.Fronts.{Front, SourceClosed, TargetClosed, Targeted, front_pieces}
 use Rattle.its_text.specs.Grammar.{programs}
 use Rattle.its_text.specs.FrontFaults.{FaultList, OpenExpression, open_expression, token_faults, is_large, next_faults}
 use Rattle.its_text.specs.FrontFaults.{has_other_arity, bare_differs}
@@ -25,7 +25,7 @@ below_or a b = go (nat_lt a b) refl
     go true e = inl (grind (arith, nat_tests))
     go false e = inr (grind (arith, nat_tests))
 
--- a fault is final behind a token: it stands before its last byte, or there with a number up to k
+-- a fault is final behind a token: it is before the token's last byte, or at it with a number up to k
 abbrev pub IsFinal : ℕ → Token Piece → Fault Kind → Type 0
 IsFinal k t x = (x.at < t.upto - 1) ⊎ ((x.at ≤ t.upto - 1) × (kind_number x.kind ≤ k))
 
@@ -72,8 +72,8 @@ large_shown at f p behind g e h l =
 
 -- behind digits no arity differs
 pub digits_differ : (g : Front) (ds : List ℕ) (ps : List Piece) → front_pieces g ≡ In (inner.Digits ds) ∷ ps → has_other_arity g ≡ false
-digits_differ (LeftShut r t) ds ps e = cc
-digits_differ (RightShut l t) ds ps e = cc
+digits_differ (SourceClosed r t) ds ps e = cc
+digits_differ (TargetClosed l t) ds ps e = cc
 digits_differ (Targeted h) ds ps e = go h.target refl
   where
     go : (t : Target) → h.target ≡ t → bare_differs h.led h.target ≡ false

@@ -42,7 +42,7 @@ pub tabled_symbols : (symbols : List Symbol) → tabled (names_of symbols) (arit
 tabled_symbols [] = refl
 tabled_symbols (s ∷ symbols) = ap (λ ss. s ∷ ss) (tabled_symbols symbols)
 
--- a name stands at its number
+-- a name is at its number in the list
 found_named : (n : Name) (names : List Name) → is_among n names ≡ true → (k : Name) → is_named_by k (slice_get names (position_of n names)) ≡ is_same k n
 found_named n [] h k = cc
 found_named n (m ∷ names) h k = go (is_same n m) refl h (λ i. found_named n names i k)
@@ -194,7 +194,7 @@ module _ (d : Draft) (n : ℕ) where
         (refusal_said (record { kind = MissingSection; at = length bytes }) e (h ∙ ap (λ i. Some (record { kind = MissingSection; at = i })) l));
   }
 
-  -- so is a text without rules
+  -- the same for a text without rules
   pub finishes_ruleless : (e : ReadError) → d.sections.rules ≡ false → fault_in e ≡ Some (record { kind = MissingSection; at = n }) → Finishes d n (Err e)
   finishes_ruleless e none h = record {
     each = λ bytes ss l k v.
@@ -202,7 +202,7 @@ module _ (d : Draft) (n : ℕ) where
         (refusal_said (record { kind = MissingSection; at = length bytes }) e (h ∙ ap (λ i. Some (record { kind = MissingSection; at = i })) l));
   }
 
-  -- a text with a start symbol and rules comes to what is made of these
+  -- a text with a start symbol and rules gives the program that is made of these
   pub finishes_made : (start : Name) (at : ℕ) (result : Result code.Program ReadError) → started_of d.sections.start ≡ Some (record { name = start; at = at }) → d.sections.rules ≡ true → Makes start at d result → Finishes d n result
   finishes_made start at result started_here there m = record { each = λ bytes ss l k v. of_rules bytes ss k v (rules_of ss) refl (rules_there ss ∙ (sym k.sections.rules ∙ there)) k.last }
     where

@@ -36,11 +36,11 @@ use Rattle.its_text.specs.FrontFaults.{front_faults, last_faults, next_faults}
 use Rattle.its_text.proofs.Ends.{front_known}
 use Rattle.its_reader.specs.Tests as tests
 use Rattle.its_reader.specs.FaultTests.{IsDigital}
-use Rattle.its_reader.specs.PlaceSteps.{IsModestPiece}
+use Rattle.its_reader.specs.StateSteps.{IsModestPiece}
 use Rattle.its_reader.specs.Reading.{IsReading}
 use Rattle.its_reader.specs.TokenSteps.{AllowsName, least_of, is_final}
 use Rattle.its_reader.specs.declared.draft.Draft.{Draft}
-use Rattle.its_reader.specs.declared.place.Place.{Place}
+use Rattle.its_reader.specs.declared.parser_state.ParserState.{ParserState}
 use Rattle.its_reader.proofs.Finality.{IsFinal, IsFinalIn, found_final, among_left, among_right, large_shown}
 use Rattle.its_reader.proofs.Finality.{digits_differ}
 use Rattle.its_reader.proofs.Stopping.{last_least, last_least_9}
@@ -136,12 +136,12 @@ left_shown at f next behind y a =
     (fault_if (too_many_rules f next behind) (Limit TooManyRules) at)
     (among_right y (fault_if (targets_again f next behind) Syntax at ++ fault_if (repeats_at f next behind) RepeatedSection at ++ fault_if (targets_many f next behind) ManyTargets at) (left_of at (left_wanted f) next behind) a)))))
 
-module _ (bytes : List ℕ) (place : Place) (last : ℕ) (best first : Option (Fault Kind)) (old : Draft) (t : Token Piece) (rest : Tokens) (r : IsReading bytes place last best old (t ∷ rest))
-    (noted : first ≡ first_among programs best (front_faults (length bytes) r.done r.front (t ∷ rest))) where
+module _ (bytes : List ℕ) (state : ParserState) (last : ℕ) (best first : Option (Fault Kind)) (old : Draft) (t : Token Piece) (rest : Tokens) (r : IsReading bytes state last best old (t ∷ rest))
+    (first_fault_ahead : first ≡ first_among programs best (front_faults (length bytes) r.done r.front (t ∷ rest))) where
   -- what the next token shows makes the refusal so far final there, where its number is low
   shown_final : (k : ℕ) (y : Fault Kind) → Among y (next_faults t.at r.front (Some t.piece) (next_piece rest)) → y.at ≡ t.at → kind_number y.kind ≤ k → IsFinalIn k t first
   shown_final k y a at n =
-      subst (IsFinalIn k t) (sym noted)
+      subst (IsFinalIn k t) (sym first_fault_ahead)
       (found_final k t best (front_faults (length bytes) r.done r.front (t ∷ rest)) y (among_right y (last_faults (last_byte r.done) r.front (Some t.piece)) (next_faults t.at r.front (Some t.piece) (next_piece rest)) a) at r.ordered.1 n)
 
   -- a left argument that is named again is shown
@@ -190,7 +190,7 @@ module _ (bytes : List ℕ) (place : Place) (last : ℕ) (best first : Option (F
 
   -- a final refusal is the answer
   pub stops : (x : Fault Kind) (g : Front) → first ≡ Some x → step r.front t.piece ≡ Some g → IsFinal (least_of t.piece) t x → verdict bytes ≡ Refused x
-  stops x g f e h = reading_stops bytes place last best old t rest r x g (sym f ∙ noted) e (by h)
+  stops x g f e h = reading_stops bytes state last best old t rest r x g (sym f ∙ first_fault_ahead) e (by h)
     where
       known : front_pieces g ≡ t.piece ∷ pieces r.done
       known = (front_known (t.piece ∷ pieces r.done) g (ap (λ (o : Option Front). next step o t.piece) r.led ∙ e)).0

@@ -27,7 +27,7 @@ pub named_at : (b n : ℕ) (others text : List ℕ) → is_white_space b ≡ fal
     → lexeme (word (take (1 + n) text)) (1 + n) ≡ lexeme_at b others
 named_at b n others text w h e t = rw (e, w, h) (ap (λ ws. lexeme (word ws) (1 + length (prefix continues_name others))) (first-take continues_name b others text t))
 
--- at a digit the text begins with the lexeme of all the digits that stand there
+-- at a digit the first lexeme of the text is the longest row of digits
 pub counted_at : (b n : ℕ) (others text : List ℕ) → is_white_space b ≡ false → begins_name b ≡ false → is_ascii_digit b ≡ true → n ≡ length (prefix is_ascii_digit others) → text ≡ b ∷ others
     → lexeme (digits (take (1 + n) text)) (1 + n) ≡ lexeme_at b others
 counted_at b n others text w h d e t = rw (e, w, h, d) (ap (λ ws. lexeme (digits ws) (1 + length (prefix is_ascii_digit others))) (first-take is_ascii_digit b others text t))

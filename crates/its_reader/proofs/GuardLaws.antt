@@ -22,8 +22,8 @@ use Rattle.expr_reader.specs.Views.{front_of}
 use Rattle.expr_reader.specs.Standing.{IsFresh, IsModest, Stands}
 use Rattle.expr_reader.specs.GuardParts.{is_read}
 use Rattle.expr_reader.specs.GuardStanding as standing
-use Rattle.expr_reader.specs.GuardStanding.{IsEnded, IsSettled, settled_none, settled_left, settled_right, settled_end}
-use Rattle.expr_reader.specs.declared.guard.GuardPlace.TheVariants as guard_places
+use Rattle.expr_reader.specs.GuardStanding.{IsEnded, IsPartEnded, part_ended_none, part_ended_left, part_ended_right, part_ended_end}
+use Rattle.expr_reader.specs.declared.guard.GuardState.TheVariants as guard_places
 use Rattle.expr_reader.specs.declared.guard.GuardReader.{GuardReader}
 use Rattle.expr_reader.proofs.Standing.{fresh_stands}
 use Rattle.expr_reader.proofs.Endings.{goes_on_is}
@@ -37,29 +37,29 @@ use Rattle.its_text.specs.FrontFaults.{Tokens}
 use Rattle.its_reader.specs.Tests as tests
 use Rattle.its_reader.specs.Standing.{KnowsSymbols, KnowsHeaded, symbols_headed}
 use Rattle.its_reader.specs.Places.{LeadsTo, IsGuard}
-use Rattle.its_reader.specs.PlaceSteps.{GoTogether, IsModestPiece}
+use Rattle.its_reader.specs.StateSteps.{GoTogether, IsModestPiece}
 use Rattle.its_reader.specs.TailSteps.{is_modest, goes_on_in, guarding_if, TakesInner, TakesAtom, TakesPiece}
 use Rattle.its_reader.specs.TailSteps.{TakesMaybe, AtomTakes}
-use Rattle.its_reader.specs.declared.place.Fence.{Fence}
-use Rattle.its_reader.specs.declared.place.Fence.TheVariants as fences
-use Rattle.its_reader.specs.declared.place.Place.{Place}
+use Rattle.its_reader.specs.declared.parser_state.GuardOpening.{GuardOpening}
+use Rattle.its_reader.specs.declared.parser_state.GuardOpening.TheVariants as fences
+use Rattle.its_reader.specs.declared.parser_state.ParserState.{ParserState}
 use Rattle.its_reader.specs.declared.draft.Draft.{Draft}
 use Rattle.its_reader.specs.declared.draft.RuleDraft.{RuleDraft}
 use Rattle.its_reader.proofs.LeftLaws.{leads_together}
 use Rattle.its_reader.proofs.LedLaws.{led_kept}
 use Rattle.std.proofs.lemmas.Bool.{ltb-false as at_most, le-ltb as not_below}
 
--- the written front of a guard behind what it stands behind, and that of one that may be there
-abbrev pub guarded : Fence → Headed → GuardFront → Front
+-- the written front of a guard behind its opening, and of a guard that may be absent
+abbrev pub guarded : GuardOpening → Headed → GuardFront → Front
 guarded fences.Mark h g = fronts.MarkGuarding h g
 guarded fences.Square h g = fronts.SquareGuarding h g
 
-abbrev pub mapped : Option GuardFront → Fence → Headed → Option Front
+abbrev pub mapped : Option GuardFront → GuardOpening → Headed → Option Front
 mapped None fence h = None
 mapped (Some g) fence h = Some (guarded fence h g)
 
 -- an atom has been read or not
-read_unread : (r : GuardReader) → is_read r.place ≡ false → r.place ≡ guard_places.AtomRead → ⊥
+read_unread : (r : GuardReader) → is_read r.state ≡ false → r.state ≡ guard_places.AtomRead → ⊥
 read_unread r h e = let t = ap is_read e in cc
 
 -- what is no name and no closing bracket ends no rule
@@ -85,36 +85,36 @@ right_step c l sign e p h = go (expression_steps.step e p) h
 
 module _ (before names : List Name) (r : GuardReader) where
   -- within an atom a guard doesn't end before what is no piece of one
-  pub unfinished : (g : GuardFront) → IsSettled None before g names r → is_read r.place ≡ false → guards.finish g ≡ None
-  unfinished g (settled_none at) u = ap guards.finish at.front_is
-  unfinished g (settled_left at) u = ap guards.finish at.front_is ∙ ap (ended at.conjoined) (at.follows refl)
-  unfinished g (settled_right at) u = ap guards.finish at.right.front_is ∙ ap (λ o. ended at.right.conjoined (compared at.right.left at.right.sign o)) (at.goes_on refl)
-  unfinished g (settled_end at) u = absurd (read_unread r u at.place_is)
+  pub unfinished : (g : GuardFront) → IsPartEnded None before g names r → is_read r.state ≡ false → guards.finish g ≡ None
+  unfinished g (part_ended_none at) u = ap guards.finish at.front_is
+  unfinished g (part_ended_left at) u = ap guards.finish at.front_is ∙ ap (ended at.conjoined) (at.follows refl)
+  unfinished g (part_ended_right at) u = ap guards.finish at.right.front_is ∙ ap (λ o. ended at.right.conjoined (compared at.right.left at.right.sign o)) (at.goes_on refl)
+  unfinished g (part_ended_end at) u = absurd (read_unread r u at.state_is)
 
   -- nor before a piece that doesn't go on with it
-  stuck : (h : Headed) (g : GuardFront) (p : inner.Piece) → IsSettled (Some p) before g names r → is_read r.place ≡ false → guards.step g p ≡ None → guard_ended h (guards.finish g) p ≡ None
-  stuck h g p (settled_none at) u n = ap (λ o. guard_ended h o p) (ap guards.finish at.front_is)
-  stuck h g p (settled_left at) u n = go (operates p) refl
+  stuck : (h : Headed) (g : GuardFront) (p : inner.Piece) → IsPartEnded (Some p) before g names r → is_read r.state ≡ false → guards.step g p ≡ None → guard_ended h (guards.finish g) p ≡ None
+  stuck h g p (part_ended_none at) u n = ap (λ o. guard_ended h o p) (ap guards.finish at.front_is)
+  stuck h g p (part_ended_left at) u n = go (operates p) refl
     where
       go : (v : Bool) → operates p ≡ v → guard_ended h (guards.finish g) p ≡ None
       go true e = operator_stays h (guards.finish g) p e
       go false e = ap (λ o. guard_ended h o p) (ap guards.finish at.front_is ∙ ap (ended at.conjoined) (at.follows e))
-  stuck h g p (settled_right at) u n =
+  stuck h g p (part_ended_right at) u n =
       let none = right_step at.right.conjoined at.right.left at.right.sign at.right.read p (sym (ap (λ g. guards.step g p) at.right.front_is) ∙ n) in
       ap (λ o. guard_ended h o p)
       (ap guards.finish at.right.front_is
       ∙ ap (λ o. ended at.right.conjoined (compared at.right.left at.right.sign o)) (at.goes_on (ap (λ (o : Option expression.Front). not (is_front o)) none)))
-  stuck h g p (settled_end at) u n = absurd (read_unread r u at.place_is)
+  stuck h g p (part_ended_end at) u n = absurd (read_unread r u at.state_is)
 
-  ends_nothing : (h : Headed) (g : GuardFront) (p : inner.Piece) → IsSettled (Some p) before g names r → not (is_read r.place) || tests.joins (In p) ≡ true → guards.step g p ≡ None → guard_ended h (guards.finish g) p ≡ None
-  ends_nothing h g p s still n = go (is_read r.place) refl still
+  ends_nothing : (h : Headed) (g : GuardFront) (p : inner.Piece) → IsPartEnded (Some p) before g names r → not (is_read r.state) || tests.joins (In p) ≡ true → guards.step g p ≡ None → guard_ended h (guards.finish g) p ≡ None
+  ends_nothing h g p s still n = go (is_read r.state) refl still
     where
-      go : (v : Bool) → is_read r.place ≡ v → not v || tests.joins (In p) ≡ true → guard_ended h (guards.finish g) p ≡ None
+      go : (v : Bool) → is_read r.state ≡ v → not v || tests.joins (In p) ≡ true → guard_ended h (guards.finish g) p ≡ None
       go false e o = stuck h g p s e n
       go true e o = joint_stays h (guards.finish g) p o
 
   -- so a piece leads on from a written front where it leads on within the guard
-  pub guard_step : (fence : Fence) (h : Headed) (g : GuardFront) (p : inner.Piece) → IsSettled (Some p) before g names r → not (is_read r.place) || tests.joins (In p) ≡ true
+  pub guard_step : (fence : GuardOpening) (h : Headed) (g : GuardFront) (p : inner.Piece) → IsPartEnded (Some p) before g names r → not (is_read r.state) || tests.joins (In p) ≡ true
       → step (guarded fence h g) (In p) ≡ mapped (guards.step g p) fence h
   guard_step fences.Mark h g p s still = go (guards.step g p) refl
     where
@@ -128,7 +128,7 @@ module _ (before names : List Name) (r : GuardReader) where
       go None = refl
 
   -- what is no piece of a guard leads nowhere
-  pub none_behind : (fence : Fence) (h : Headed) (g : GuardFront) (p : Piece) → tests.inner_in p ≡ None → IsSettled None before g names r → is_read r.place ≡ false → step (guarded fence h g) p ≡ None
+  pub none_behind : (fence : GuardOpening) (h : Headed) (g : GuardFront) (p : Piece) → tests.inner_in p ≡ None → IsPartEnded None before g names r → is_read r.state ≡ false → step (guarded fence h g) p ≡ None
   none_behind fences.Mark h g (In p) n s u = cc
   none_behind fences.Mark h g _ n s u = refl
   none_behind fences.Square h g (In p) n s u = cc
@@ -136,18 +136,18 @@ module _ (before names : List Name) (r : GuardReader) where
   none_behind fences.Square h g _ n s u = refl
 
   -- an atom has ended
-  pub ended_of : (next : Option inner.Piece) (g : GuardFront) → IsSettled next before g names r → is_read r.place ≡ true → IsEnded next before g names r
-  ended_of next g (settled_none at) u = absurd (let t = ap is_read at.place_is in cc)
-  ended_of next g (settled_left at) u = absurd (let t = ap is_read at.place_is in cc)
-  ended_of next g (settled_right at) u = absurd (let t = ap is_read at.right.place_is in cc)
-  ended_of next g (settled_end at) u = at
+  pub ended_of : (next : Option inner.Piece) (g : GuardFront) → IsPartEnded next before g names r → is_read r.state ≡ true → IsEnded next before g names r
+  ended_of next g (part_ended_none at) u = absurd (let t = ap is_read at.state_is in cc)
+  ended_of next g (part_ended_left at) u = absurd (let t = ap is_read at.state_is in cc)
+  ended_of next g (part_ended_right at) u = absurd (let t = ap is_read at.right.state_is in cc)
+  ended_of next g (part_ended_end at) u = at
 
   -- whether a row of digits goes on with an atom
   abbrev is_going : Option GuardFront → Bool
   is_going None = false
   is_going (Some g) = true
 
-  goes : (p : inner.Piece) → is_read r.place ≡ false → (base : List Name) (e : expression.Front) → Stands base e names r.expression → goes_on_in r p ≡ is_front (expression_steps.step e p)
+  goes : (p : inner.Piece) → is_read r.state ≡ false → (base : List Name) (e : expression.Front) → Stands base e names r.expression → goes_on_in r p ≡ is_front (expression_steps.step e p)
   goes p u base e s = ap (λ v. not v && goes_on_from (front_of r.expression).outer (front_of r.expression).operand p) u ∙ goes_on_is base e names r.expression p s
 
   digits_left : (c : Conjoined) (e : expression.Front) (ds : Name) → is_going (guards.step (LeftSide c e) (inner.Digits ds)) ≡ is_front (expression_steps.step e (inner.Digits ds))
@@ -164,23 +164,23 @@ module _ (before names : List Name) (r : GuardReader) where
       go None = refl
       go (Some more) = refl
 
-  digits_go : (g : GuardFront) (ds : Name) → IsSettled (Some (inner.Digits ds)) before g names r → is_going (guards.step g (inner.Digits ds)) ≡ goes_on_in r (inner.Digits ds)
-  digits_go g ds (settled_none at) =
+  digits_go : (g : GuardFront) (ds : Name) → IsPartEnded (Some (inner.Digits ds)) before g names r → is_going (guards.step g (inner.Digits ds)) ≡ goes_on_in r (inner.Digits ds)
+  digits_go g ds (part_ended_none at) =
       ap (λ g. is_going (guards.step g (inner.Digits ds))) at.front_is
-      ∙ sym (goes (inner.Digits ds) (ap is_read at.place_is) names beginning (fresh_stands names r.expression at.expression))
-  digits_go g ds (settled_left at) =
+      ∙ sym (goes (inner.Digits ds) (ap is_read at.state_is) names beginning (fresh_stands names r.expression at.expression))
+  digits_go g ds (part_ended_left at) =
       ap (λ g. is_going (guards.step g (inner.Digits ds))) at.front_is
-      ∙ (digits_left at.conjoined at.read ds ∙ sym (goes (inner.Digits ds) (ap is_read at.place_is) (with_conjoined before at.conjoined) at.read at.expression))
-  digits_go g ds (settled_right at) =
+      ∙ (digits_left at.conjoined at.read ds ∙ sym (goes (inner.Digits ds) (ap is_read at.state_is) (with_conjoined before at.conjoined) at.read at.expression))
+  digits_go g ds (part_ended_right at) =
       ap (λ g. is_going (guards.step g (inner.Digits ds))) at.right.front_is
       ∙ (digits_right at.right.conjoined at.right.left at.right.sign at.right.read ds
-      ∙ sym (goes (inner.Digits ds) (ap is_read at.right.place_is) (with_sum (with_conjoined before at.right.conjoined) at.right.left) at.right.read at.right.expression))
-  digits_go g ds (settled_end at) =
+      ∙ sym (goes (inner.Digits ds) (ap is_read at.right.state_is) (with_sum (with_conjoined before at.right.conjoined) at.right.left) at.right.read at.right.expression))
+  digits_go g ds (part_ended_end at) =
       ap is_going (at.joins (inner.Digits ds) refl)
-      ∙ sym (ap (λ place. not (is_read place) && goes_on_from (front_of r.expression).outer (front_of r.expression).operand (inner.Digits ds)) at.place_is)
+      ∙ sym (ap (λ state. not (is_read state) && goes_on_from (front_of r.expression).outer (front_of r.expression).operand (inner.Digits ds)) at.state_is)
 
   -- a literal that is too large leads on in the code exactly where it does in the guard
-  pub digits_together : (fence : Fence) (h : Headed) (g : GuardFront) (p : inner.Piece) (result : Option Place) → is_modest p ≡ false → IsSettled (Some p) before g names r → result ≡ guarding_if (goes_on_in r p) fence
+  pub digits_together : (fence : GuardOpening) (h : Headed) (g : GuardFront) (p : inner.Piece) (result : Option ParserState) → is_modest p ≡ false → IsPartEnded (Some p) before g names r → result ≡ guarding_if (goes_on_in r p) fence
       → GoTogether (mapped (guards.step g p) fence h) result
   digits_together fence h g (inner.Digits ds) result m s e = go (guards.step g (inner.Digits ds)) (goes_on_in r (inner.Digits ds)) (digits_go g ds s) e
     where
@@ -208,7 +208,7 @@ is_modest_is (inner.Digits ds) m = rw (m.0, not_below coefficient_limit (number_
 is_modest_is _ m = refl
 
 -- what is known of a target stays while a guard is read
-pub headed_stays : (ts : Tokens) (h : Headed) (fence : Fence) (p : Piece) (behind : Option Piece) (result : Option Place) (old new : Draft) → KnowsHeaded ts h old → AtomTakes fence old p behind result new → KnowsHeaded ts h new
+pub headed_stays : (ts : Tokens) (h : Headed) (fence : GuardOpening) (p : Piece) (behind : Option Piece) (result : Option ParserState) (old new : Draft) → KnowsHeaded ts h old → AtomTakes fence old p behind result new → KnowsHeaded ts h new
 headed_stays ts h fence p behind result old new k a = record {
   led = led_kept ts h.led old new k.led a.sections a.rules a.stays.source a.stays.left a.stays.cost;
   symbols = subst (KnowsSymbols (symbols_headed h)) (sym a.symbols) k.symbols;
@@ -216,14 +216,14 @@ headed_stays ts h fence p behind result old new k a = record {
   updates_are = ap (λ v. map term_of v.items) a.stays.updates ∙ k.updates_are;
 }
 
-module _ (ts : Tokens) (h : Headed) (fence : Fence) (behind : Option Piece) (result : Option Place) (old new : Draft) where
-  is_guard : (fence : Fence) (g : GuardFront) → IsGuard behind fence h g (guarded fence h g)
+module _ (ts : Tokens) (h : Headed) (fence : GuardOpening) (behind : Option Piece) (result : Option ParserState) (old new : Draft) where
+  is_guard : (fence : GuardOpening) (g : GuardFront) → IsGuard behind fence h g (guarded fence h g)
   is_guard fences.Mark g = inl refl
   is_guard fences.Square g = refl
 
   -- a modest piece leads in the code where it leads in the guard
   guard_leads : (g : GuardFront) (p : inner.Piece) → AtomTakes fence old (In p) behind result new → KnowsHeaded ts h old → IsFresh old.rule.expression
-      → IsSettled (Some p) (headed_names h) g (names_in old.rule.variables) old.rule.guard → IsModest p → TakesInner true fence old.rule p (tests.inner_next behind) result new.rule
+      → IsPartEnded (Some p) (headed_names h) g (names_in old.rule.variables) old.rule.guard → IsModest p → TakesInner true fence old.rule p (tests.inner_next behind) result new.rule
       → LeadsTo ts behind (mapped (guards.step g p) fence h) result new
   guard_leads g p a k fresh s modest t = go (guards.step g p) t.0 t.1.0 (t.1.1.each (headed_names h) g s modest)
     where
@@ -241,17 +241,17 @@ module _ (ts : Tokens) (h : Headed) (fence : Fence) (behind : Option Piece) (res
 
   -- where a piece leads within an atom, or one that joins behind it
   pub atom_each : (g : GuardFront) (p : Piece) → AtomTakes fence old p behind result new → KnowsHeaded ts h old → IsFresh old.rule.expression
-      → IsSettled (tests.inner_in p) (headed_names h) g (names_in old.rule.variables) old.rule.guard → not (is_read old.rule.guard.place) || tests.joins p ≡ true → IsModestPiece p
+      → IsPartEnded (tests.inner_in p) (headed_names h) g (names_in old.rule.variables) old.rule.guard → not (is_read old.rule.guard.state) || tests.joins p ≡ true → IsModestPiece p
       → LeadsTo ts behind (step (guarded fence h g) p) result new
   atom_each g (In p) a k fresh s still modest =
       subst (λ o. LeadsTo ts behind o result new) (sym (guard_step (headed_names h) (names_in old.rule.variables) old.rule.guard fence h g p s still))
       (guard_leads g p a k fresh s modest (subst (λ v. TakesInner v fence old.rule p (tests.inner_next behind) result new.rule) (is_modest_is p modest) a.takes.by))
   atom_each g p a k fresh s still modest =
-      rw a.takes.by (subst (λ o. LeadsTo ts behind o None new) (sym (none_behind (headed_names h) (names_in old.rule.variables) old.rule.guard fence h g p refl s (unread (is_read old.rule.guard.place) still))) tt)
+      rw a.takes.by (subst (λ o. LeadsTo ts behind o None new) (sym (none_behind (headed_names h) (names_in old.rule.variables) old.rule.guard fence h g p refl s (unread (is_read old.rule.guard.state) still))) tt)
 
   -- a piece within an atom, or one that joins behind it, leads on where it does in what is written
   pub atom_together : (g : GuardFront) (p : Piece) → AtomTakes fence old p behind result new → KnowsHeaded ts h old → IsFresh old.rule.expression
-      → IsSettled (tests.inner_in p) (headed_names h) g (names_in old.rule.variables) old.rule.guard → not (is_read old.rule.guard.place) || tests.joins p ≡ true
+      → IsPartEnded (tests.inner_in p) (headed_names h) g (names_in old.rule.variables) old.rule.guard → not (is_read old.rule.guard.state) || tests.joins p ≡ true
       → GoTogether (step (guarded fence h g) p) result
   atom_together g (In p) a k fresh s still =
       subst (λ o. GoTogether o result) (sym (guard_step (headed_names h) (names_in old.rule.variables) old.rule.guard fence h g p s still)) (go (is_modest p) refl a.takes.by)
@@ -260,7 +260,7 @@ module _ (ts : Tokens) (h : Headed) (fence : Fence) (behind : Option Piece) (res
       go true e t = leads_together ts behind (mapped (guards.step g p) fence h) result new (guard_leads g p a k fresh s (modest_is p e) t)
       go false e t = digits_together (headed_names h) (names_in old.rule.variables) old.rule.guard fence h g p result e s t
   atom_together g p a k fresh s still =
-      rw a.takes.by (subst (λ o. GoTogether o None) (sym (none_behind (headed_names h) (names_in old.rule.variables) old.rule.guard fence h g p refl s (unread (is_read old.rule.guard.place) still))) tt)
+      rw a.takes.by (subst (λ o. GoTogether o None) (sym (none_behind (headed_names h) (names_in old.rule.variables) old.rule.guard fence h g p refl s (unread (is_read old.rule.guard.state) still))) tt)
 
 -- a name behind `:|:` that begins an atom stands for the guard
 word_step : (h : Headed) (name : Name) (p : Piece) → shown.is_open (Some p) ≡ false → step (fronts.WordRead h name) p ≡ step (fronts.MarkGuarding h (guard_named name)) p
@@ -269,27 +269,27 @@ word_step h name (In _) e = refl
 word_step h name _ e = refl
 
 -- a front that stands for a guard leads where the guard behind its fence does
-pub front_step : (fence : Fence) (h : Headed) (g : GuardFront) (f : Front) (p : Piece) → IsGuard (Some p) fence h g f → step f p ≡ step (guarded fence h g) p
+pub front_step : (fence : GuardOpening) (h : Headed) (g : GuardFront) (f : Front) (p : Piece) → IsGuard (Some p) fence h g f → step f p ≡ step (guarded fence h g) p
 front_step fences.Square h g f p e = ap (λ f. step f p) e
 front_step fences.Mark h g f p (inl e) = ap (λ f. step f p) e
 front_step fences.Mark h g f p (inr (name, (e, (is, closed)))) = ap (λ f. step f p) e ∙ (word_step h name p closed ∙ ap (λ g. step (fronts.MarkGuarding h g) p) (sym is))
 
 -- a literal that is too large, a modest piece, and no piece
-pub large_taken : {fence : Fence} {old new : RuleDraft} {p : inner.Piece} {behind : Option inner.Piece} {result : Option Place} → is_modest p ≡ false → result ≡ guarding_if (goes_on_in old.guard p) fence → TakesPiece fence old p behind result new
+pub large_taken : {fence : GuardOpening} {old new : RuleDraft} {p : inner.Piece} {behind : Option inner.Piece} {result : Option ParserState} → is_modest p ≡ false → result ≡ guarding_if (goes_on_in old.guard p) fence → TakesPiece fence old p behind result new
 large_taken {fence} {old} {new} {p} {behind} {result} m e = record { by = subst (λ v. TakesInner v fence old p behind result new) (sym m) e }
 
-pub modest_taken : {fence : Fence} {old new : RuleDraft} {p : inner.Piece} {behind : Option inner.Piece} {result : Option Place} (taken : Bool) → is_modest p ≡ true → result ≡ guarding_if taken fence
+pub modest_taken : {fence : GuardOpening} {old new : RuleDraft} {p : inner.Piece} {behind : Option inner.Piece} {result : Option ParserState} (taken : Bool) → is_modest p ≡ true → result ≡ guarding_if taken fence
     → standing.Takes (names_in old.variables) old.guard p behind taken (names_in new.variables) new.guard → TakesPiece fence old p behind result new
 modest_taken {fence} {old} {new} {p} {behind} {result} taken m e t = record { by = subst (λ v. TakesInner v fence old p behind result new) (sym m) (taken, (e, t)) }
 
--- a piece that is told to be there is taken as it is
-pub some_taken : {fence : Fence} {old new : RuleDraft} {p : inner.Piece} {behind : Option inner.Piece} {result : Option Place} (o : Option inner.Piece) → o ≡ Some p → TakesPiece fence old p behind result new → TakesMaybe fence old o behind result new
+-- a piece that is present is taken as it is
+pub some_taken : {fence : GuardOpening} {old new : RuleDraft} {p : inner.Piece} {behind : Option inner.Piece} {result : Option ParserState} (o : Option inner.Piece) → o ≡ Some p → TakesPiece fence old p behind result new → TakesMaybe fence old o behind result new
 some_taken {fence} {old} {new} {p} {behind} {result} o e t = record { by = subst (λ o. TakesAtom fence old o behind result new) (sym e) t.by }
 
--- where no piece is told to be there, nothing leads on
-pub none_taken : {fence : Fence} {old new : RuleDraft} {behind : Option inner.Piece} (o : Option inner.Piece) → o ≡ None → TakesMaybe fence old o behind None new
+-- where no piece is present, there is no next state
+pub none_taken : {fence : GuardOpening} {old new : RuleDraft} {behind : Option inner.Piece} (o : Option inner.Piece) → o ≡ None → TakesMaybe fence old o behind None new
 none_taken {fence} {old} {new} {behind} o e = record { by = subst (λ o. TakesAtom fence old o behind None new) (sym e) refl }
 
--- the piece that is taken and the one behind it may be told by equations
-pub taken_alike : {fence : Fence} {old new : RuleDraft} {o p a b : Option inner.Piece} {result : Option Place} → o ≡ p → a ≡ b → TakesMaybe fence old o a result new → TakesMaybe fence old p b result new
+-- the same for a piece and the one behind it that are given by equations
+pub taken_alike : {fence : GuardOpening} {old new : RuleDraft} {o p a b : Option inner.Piece} {result : Option ParserState} → o ≡ p → a ≡ b → TakesMaybe fence old o a result new → TakesMaybe fence old p b result new
 taken_alike {fence} {old} {new} {o} {p} {a} {b} {result} e f t = subst (λ p. TakesMaybe fence old p b result new) e (subst (λ b. TakesMaybe fence old o b result new) f t)

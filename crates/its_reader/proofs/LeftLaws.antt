@@ -23,15 +23,15 @@ use Rattle.its_reader.specs.Tests as tests
 use Rattle.its_reader.specs.Standing.{KnowsSections, KnowsRuling, KnowsSource, KnowsLeft, KnowsSymbols, IsFreshRule}
 use Rattle.its_reader.specs.Standing.{without_cost}
 use Rattle.its_reader.specs.Places.{InLeft, IsSource, IsCosting, LeadsTo}
-use Rattle.its_reader.specs.declared.place.LeftPlace.{LeftPlace}
-use Rattle.its_reader.specs.PlaceSteps.{GoTogether, Named, LeftLeads, RuleLeads, IsNew, StaysAround, AfterLeft}
+use Rattle.its_reader.specs.declared.parser_state.SourceState.{SourceState}
+use Rattle.its_reader.specs.StateSteps.{GoTogether, Named, LeftLeads, RuleLeads, IsNew, StaysAround, AfterLeft}
 use Rattle.its_reader.specs.declared.draft.Draft.{Draft}
-use Rattle.its_reader.specs.declared.place.SectionPlace.TheVariants as sections
-use Rattle.its_reader.specs.declared.place.LeftPlace.TheVariants as lefts
-use Rattle.its_reader.specs.declared.place.CostPlace.TheVariants as costs
-use Rattle.its_reader.specs.declared.place.RightPlace.TheVariants as rights
-use Rattle.its_reader.specs.declared.place.Place.{Place}
-use Rattle.its_reader.specs.declared.place.Place.TheVariants as places
+use Rattle.its_reader.specs.declared.parser_state.SectionState.TheVariants as sections
+use Rattle.its_reader.specs.declared.parser_state.SourceState.TheVariants as lefts
+use Rattle.its_reader.specs.declared.parser_state.CostState.TheVariants as costs
+use Rattle.its_reader.specs.declared.parser_state.TargetState.TheVariants as rights
+use Rattle.its_reader.specs.declared.parser_state.ParserState.{ParserState}
+use Rattle.its_reader.specs.declared.parser_state.ParserState.TheVariants as places
 use Rattle.its_reader.proofs.SymbolTables.{symbols_with, arity_at, number_stays}
 use Rattle.expr_reader.specs.Standing.{IsFresh, Stands}
 use Rattle.expr_reader.proofs.Standing.{fresh_stands}
@@ -39,11 +39,11 @@ use Rattle.expr_reader.specs.GuardStanding.{IsWanting}
 use Rattle.its_text.specs.expr_text.GuardFronts.{no_atoms}
 
 -- what leads somewhere in both does so together
-pub leads_together : (ts : Tokens) (next : Option Piece) (o : Option Front) (r : Option Place) (d : Draft) → LeadsTo ts next o r d → GoTogether o r
+pub leads_together : (ts : Tokens) (next : Option Piece) (o : Option Front) (r : Option ParserState) (d : Draft) → LeadsTo ts next o r d → GoTogether o r
 leads_together ts next None None d h = tt
-leads_together ts next None (Some place) d h = h
+leads_together ts next None (Some state) d h = h
 leads_together ts next (Some g) None d h = h
-leads_together ts next (Some g) (Some place) d h = tt
+leads_together ts next (Some g) (Some state) d h = tt
 
 module _ (ts : Tokens) (next : Option Piece) where
   -- behind the source of a rule only an opening bracket leads on
@@ -75,17 +75,17 @@ module _ (ts : Tokens) (next : Option Piece) where
   }
 
   -- behind a left term only an arrow leads on, with a cost or none
-  pub shut_leads : (p : Piece) (f : Front) (d : Draft) → InLeft ts (Some p) lefts.LeftShut d f
+  pub shut_leads : (p : Piece) (f : Front) (d : Draft) → InLeft ts (Some p) lefts.SourceClosed d f
       → LeadsTo ts next (step f p) (if tests.leads p then Some (places.InRight rights.Arrowed) else if tests.opens_cost p then Some (places.InCost costs.Costing) else None) d
   shut_leads p f d k = rw k.1.1.0 (go p)
     where
-      go : (p : Piece) → LeadsTo ts next (step (fronts.LeftShut k.0 k.1.0) p) (if tests.leads p then Some (places.InRight rights.Arrowed) else if tests.opens_cost p then Some (places.InCost costs.Costing) else None) d
+      go : (p : Piece) → LeadsTo ts next (step (fronts.SourceClosed k.0 k.1.0) p) (if tests.leads p then Some (places.InRight rights.Arrowed) else if tests.opens_cost p then Some (places.InCost costs.Costing) else None) d
       go Arrow = (without_cost k.0 k.1.0, (refl, k.1.1.1.0))
       go CostOpen = (k.0, (k.1.0, (expression.beginning, (refl, cost_begins k.0 k.1.0 d k.1.1.1.0))))
       go (In _) = tt
       go _ = tt
 
-  -- behind a left argument only a comma leads on, but for the bracket that closes
+  -- behind a left argument only a comma leads on, except for the bracket that closes
   pub parted_leads : (p : Piece) (f : Front) (d : Draft) → InLeft ts (Some p) lefts.LeftRead d f → tests.closes p ≡ false → LeadsTo ts next (step f p) (if tests.parts p then Some (places.InLeft lefts.LeftParted) else None) d
   parted_leads p f d k h = rw k.1.1.1.1.0 (go p h)
     where
@@ -189,25 +189,25 @@ module _ (ts : Tokens) (next : Option Piece) where
       ∙ ap (λ n. not (n == length arguments)) (arity_at (with_symbol (symbols_of r.rules) name (length arguments)) name))))
 
   left_ends : (r : Ruling) (name : Name) (arguments : List Name) (old new : Draft) → KnowsSource ts r name arguments old → AfterLeft old new
-      → LeadsTo ts next (Some (left_shut r name arguments)) (Some (places.InLeft lefts.LeftShut)) new
+      → LeadsTo ts next (Some (left_shut r name arguments)) (Some (places.InLeft lefts.SourceClosed)) new
   left_ends r name arguments old new k h =
       let left = left_known r name arguments old new k h in
       (r, (record { name = name; arguments = arguments }, (refl, (left, left_differs r name arguments old new k h left))))
 
   -- a closing bracket right behind the opening one ends a left term without arguments
-  pub opened_ends : (p : Piece) (f : Front) (old new : Draft) → InLeft ts (Some p) lefts.LeftOpened old f → tests.closes p ≡ true → AfterLeft old new → LeadsTo ts next (step f p) (Some (places.InLeft lefts.LeftShut)) new
+  pub opened_ends : (p : Piece) (f : Front) (old new : Draft) → InLeft ts (Some p) lefts.LeftOpened old f → tests.closes p ≡ true → AfterLeft old new → LeadsTo ts next (step f p) (Some (places.InLeft lefts.SourceClosed)) new
   opened_ends p f old new k c h = rw k.1.1.0 (go p c)
     where
-      go : (p : Piece) → tests.closes p ≡ true → LeadsTo ts next (step (fronts.LeftOpened k.0 k.1.0) p) (Some (places.InLeft lefts.LeftShut)) new
+      go : (p : Piece) → tests.closes p ≡ true → LeadsTo ts next (step (fronts.LeftOpened k.0 k.1.0) p) (Some (places.InLeft lefts.SourceClosed)) new
       go (In inner.Close) c = left_ends k.0 k.1.0 [] old new k.1.1.1 h
       go (In _) c = cc
       go _ c = cc
 
   -- a closing bracket behind a left argument ends the left term
-  pub read_ends : (p : Piece) (f : Front) (old new : Draft) → InLeft ts (Some p) lefts.LeftRead old f → tests.closes p ≡ true → AfterLeft old new → LeadsTo ts next (step f p) (Some (places.InLeft lefts.LeftShut)) new
+  pub read_ends : (p : Piece) (f : Front) (old new : Draft) → InLeft ts (Some p) lefts.LeftRead old f → tests.closes p ≡ true → AfterLeft old new → LeadsTo ts next (step f p) (Some (places.InLeft lefts.SourceClosed)) new
   read_ends p f old new k c h = rw k.1.1.1.1.0 (go p c)
     where
-      go : (p : Piece) → tests.closes p ≡ true → LeadsTo ts next (step (fronts.LeftRead k.0 k.1.0 k.1.1.0 k.1.1.1.0) p) (Some (places.InLeft lefts.LeftShut)) new
+      go : (p : Piece) → tests.closes p ≡ true → LeadsTo ts next (step (fronts.LeftRead k.0 k.1.0 k.1.1.0 k.1.1.1.0) p) (Some (places.InLeft lefts.SourceClosed)) new
       go (In inner.Close) c = left_ends k.0 k.1.0 (k.1.1.0 ∷ k.1.1.1.0) old new k.1.1.1.1.1 h
       go (In _) c = cc
       go _ c = cc
@@ -215,10 +215,10 @@ module _ (ts : Tokens) (next : Option Piece) where
   -- a rule's source is named
   pub ruled_named : (p : Piece) (r : Ruling) (old new : Draft) (name : Name) → KnowsRuling ts r old → IsFreshRule old.rule → tests.word p ≡ Some name → new.rule.name.now ≡ name
       → new.sections ≡ old.sections → new.rules ≡ old.rules → new.symbols ≡ old.symbols → new.rule.variables ≡ old.rule.variables → new.rule.updates ≡ old.rule.updates → new.rule.expression ≡ old.rule.expression → new.rule.guard ≡ old.rule.guard
-      → new.rule.cost ≡ old.rule.cost → LeadsTo ts next (step (fronts.Ruled r) p) (Some (places.InLeft lefts.SourceNamed)) new
+      → new.rule.cost ≡ old.rule.cost → LeadsTo ts next (step (fronts.AfterRule r) p) (Some (places.InLeft lefts.SourceNamed)) new
   ruled_named p r old new name k fresh w e a b c v u x g y = go p w
     where
-      go : (p : Piece) → tests.word p ≡ Some name → LeadsTo ts next (step (fronts.Ruled r) p) (Some (places.InLeft lefts.SourceNamed)) new
+      go : (p : Piece) → tests.word p ≡ Some name → LeadsTo ts next (step (fronts.AfterRule r) p) (Some (places.InLeft lefts.SourceNamed)) new
       go (In (inner.Word n)) w = (
         r,
         (
@@ -245,10 +245,10 @@ module _ (ts : Tokens) (next : Option Piece) where
 
   -- the rules end
   pub ruled_ends : (p : Piece) (r : Ruling) (old new : Draft) → KnowsRuling ts r old → tests.closes p ≡ true → new ≡ record old { sections = record old.sections { rules = true } }
-      → LeadsTo ts next (step (fronts.Ruled r) p) (Some (places.InSections sections.Between)) new
+      → LeadsTo ts next (step (fronts.AfterRule r) p) (Some (places.InSections sections.Between)) new
   ruled_ends p r old new k c e = rw e (go p c)
     where
-      go : (p : Piece) → tests.closes p ≡ true → LeadsTo ts next (step (fronts.Ruled r) p) (Some (places.InSections sections.Between)) (record old { sections = record old.sections { rules = true } })
+      go : (p : Piece) → tests.closes p ≡ true → LeadsTo ts next (step (fronts.AfterRule r) p) (Some (places.InSections sections.Between)) (record old { sections = record old.sections { rules = true } })
       go (In inner.Close) c = (
         section_of r,
         (
@@ -263,31 +263,31 @@ module _ (ts : Tokens) (next : Option Piece) where
       go _ c = cc
 
   -- between rules nothing but a name and a closing bracket leads on
-  pub ruled_stops : (p : Piece) (r : Ruling) (d : Draft) → tests.word p ≡ None → tests.closes p ≡ false → LeadsTo ts next (step (fronts.Ruled r) p) None d
+  pub ruled_stops : (p : Piece) (r : Ruling) (d : Draft) → tests.word p ≡ None → tests.closes p ≡ false → LeadsTo ts next (step (fronts.AfterRule r) p) None d
   ruled_stops (In (inner.Word n)) r d w c = cc
   ruled_stops (In inner.Close) r d w c = cc
   ruled_stops (In _) r d w c = tt
   ruled_stops _ r d w c = tt
 
   -- a name can follow where a left argument is wanted
-  opened_follows : (p : Piece) (f : Front) (old : Draft) (a : Name) (place : Place) → InLeft ts (Some p) lefts.LeftOpened old f → tests.word p ≡ Some a → GoTogether (step f p) (Some place)
-  opened_follows p f old a place k h = rw k.1.1.0 (go p h)
+  opened_follows : (p : Piece) (f : Front) (old : Draft) (a : Name) (state : ParserState) → InLeft ts (Some p) lefts.LeftOpened old f → tests.word p ≡ Some a → GoTogether (step f p) (Some state)
+  opened_follows p f old a state k h = rw k.1.1.0 (go p h)
     where
-      go : (p : Piece) → tests.word p ≡ Some a → GoTogether (step (fronts.LeftOpened k.0 k.1.0) p) (Some place)
+      go : (p : Piece) → tests.word p ≡ Some a → GoTogether (step (fronts.LeftOpened k.0 k.1.0) p) (Some state)
       go (In (inner.Word b)) h = tt
       go (In _) h = cc
       go _ h = cc
 
-  parted_follows : (p : Piece) (f : Front) (old : Draft) (a : Name) (place : Place) → InLeft ts (Some p) lefts.LeftParted old f → tests.word p ≡ Some a → GoTogether (step f p) (Some place)
-  parted_follows p f old a place k h = rw k.1.1.1.1.0 (go p h)
+  parted_follows : (p : Piece) (f : Front) (old : Draft) (a : Name) (state : ParserState) → InLeft ts (Some p) lefts.LeftParted old f → tests.word p ≡ Some a → GoTogether (step f p) (Some state)
+  parted_follows p f old a state k h = rw k.1.1.1.1.0 (go p h)
     where
-      go : (p : Piece) → tests.word p ≡ Some a → GoTogether (step (fronts.LeftParted k.0 k.1.0 k.1.1.0 k.1.1.1.0) p) (Some place)
+      go : (p : Piece) → tests.word p ≡ Some a → GoTogether (step (fronts.LeftParted k.0 k.1.0 k.1.1.0 k.1.1.1.0) p) (Some state)
       go (In (inner.Word b)) h = tt
       go (In _) h = cc
       go _ h = cc
 
 -- what the functions of each place promise
-pub opened_promise : (p : Piece) (old new : Draft) (result : Option Place) → tests.closes p ≡ false → Named (tests.word p) result old new → LeftLeads lefts.LeftOpened old p result new
+pub opened_promise : (p : Piece) (old new : Draft) (result : Option ParserState) → tests.closes p ≡ false → Named (tests.word p) result old new → LeftLeads lefts.LeftOpened old p result new
 opened_promise p old new result c h = go (tests.word p) refl h
   where
     go : (o : Option Name) → tests.word p ≡ o → Named o result old new → LeftLeads lefts.LeftOpened old p result new
@@ -301,7 +301,7 @@ opened_promise p old new result c h = go (tests.word p) refl h
     })
 
 -- behind a comma between left arguments the code leads where what is written does
-pub parted_promise : (p : Piece) (old new : Draft) (result : Option Place) → Named (tests.word p) result old new → LeftLeads lefts.LeftParted old p result new
+pub parted_promise : (p : Piece) (old new : Draft) (result : Option ParserState) → Named (tests.word p) result old new → LeftLeads lefts.LeftParted old p result new
 parted_promise p old new result h = go (tests.word p) refl h
   where
     go : (o : Option Name) → tests.word p ≡ o → Named o result old new → LeftLeads lefts.LeftParted old p result new
@@ -315,29 +315,29 @@ parted_promise p old new result h = go (tests.word p) refl h
     })
 
 -- where a piece leads whatever was named before
-pub always : (place : LeftPlace) (p : Piece) (old new : Draft) (result : Option Place) → ((ts : Tokens) (next : Option Piece) (f : Front) → InLeft ts (Some p) place old f → LeadsTo ts next (step f p) result new) → LeftLeads place old p result new
-always place p old new result h = record {
+pub always : (state : SourceState) (p : Piece) (old new : Draft) (result : Option ParserState) → ((ts : Tokens) (next : Option Piece) (f : Front) → InLeft ts (Some p) state old f → LeadsTo ts next (step f p) result new) → LeftLeads state old p result new
+always state p old new result h = record {
   together = λ ts f k. leads_together ts None (step f p) result new (h ts None f k);
   each = λ ts next f k fresh. h ts next f k;
 }
 
 -- so it does behind a left argument where no bracket closes
-pub read_promise : (p : Piece) (old : Draft) (result : Option Place) (v : Bool) → tests.closes p ≡ false → v ≡ tests.parts p → result ≡ (if v then Some (places.InLeft lefts.LeftParted) else None) → LeftLeads lefts.LeftRead old p result old
+pub read_promise : (p : Piece) (old : Draft) (result : Option ParserState) (v : Bool) → tests.closes p ≡ false → v ≡ tests.parts p → result ≡ (if v then Some (places.InLeft lefts.LeftParted) else None) → LeftLeads lefts.LeftRead old p result old
 read_promise p old result v c e h = always lefts.LeftRead p old old result (λ ts next f k. rw (h, e) (parted_leads ts next p f old k c))
 
 -- so it does behind the source of a rule
-pub source_promise : (p : Piece) (old : Draft) (result : Option Place) (v : Bool) → v ≡ tests.opens p → result ≡ (if v then Some (places.InLeft lefts.LeftOpened) else None) → LeftLeads lefts.SourceNamed old p result old
+pub source_promise : (p : Piece) (old : Draft) (result : Option ParserState) (v : Bool) → v ≡ tests.opens p → result ≡ (if v then Some (places.InLeft lefts.LeftOpened) else None) → LeftLeads lefts.SourceNamed old p result old
 source_promise p old result v e h = always lefts.SourceNamed p old old result (λ ts next f k. rw (h, e) (source_leads ts next p f old k))
 
 -- so it does behind a left term
-pub shut_promise : (p : Piece) (old : Draft) (result : Option Place) → result ≡ (if tests.leads p then Some (places.InRight rights.Arrowed) else if tests.opens_cost p then Some (places.InCost costs.Costing) else None)
-    → LeftLeads lefts.LeftShut old p result old
-shut_promise p old result h = always lefts.LeftShut p old old result (λ ts next f k. rw h (shut_leads ts next p f old k))
+pub closed_promise : (p : Piece) (old : Draft) (result : Option ParserState) → result ≡ (if tests.leads p then Some (places.InRight rights.Arrowed) else if tests.opens_cost p then Some (places.InCost costs.Costing) else None)
+    → LeftLeads lefts.SourceClosed old p result old
+closed_promise p old result h = always lefts.SourceClosed p old old result (λ ts next f k. rw h (shut_leads ts next p f old k))
 
 -- and so it does between rules
-pub ruled_promise : (p : Piece) (old new : Draft) (result : Option Place) → RuleLeads old p result new → LeftLeads lefts.Ruled old p result new
-ruled_promise p old new result h = always lefts.Ruled p old new result (λ ts next f k. rw k.1.0 (h.each ts next k.0 k.1.1.0 k.1.1.1))
+pub ruled_promise : (p : Piece) (old new : Draft) (result : Option ParserState) → RuleLeads old p result new → LeftLeads lefts.AfterRule old p result new
+ruled_promise p old new result h = always lefts.AfterRule p old new result (λ ts next f k. rw k.1.0 (h.each ts next k.0 k.1.1.0 k.1.1.1))
 
--- the place up to the end of a left term may be told by an equation
-pub in_left_place : (place known : LeftPlace) (old new : Draft) (p : Piece) (result : Option Place) → place ≡ known → LeftLeads known old p result new → LeftLeads place old p result new
-in_left_place place known old new p result e h = subst (λ (q : LeftPlace). LeftLeads q old p result new) (sym e) h
+-- the same for a state up to the end of a left term that is given by an equation
+pub in_left_state : (state known : SourceState) (old new : Draft) (p : Piece) (result : Option ParserState) → state ≡ known → LeftLeads known old p result new → LeftLeads state old p result new
+in_left_state state known old new p result e h = subst (λ (q : SourceState). LeftLeads q old p result new) (sym e) h

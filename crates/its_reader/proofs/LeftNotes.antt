@@ -19,8 +19,8 @@ use Rattle.its_reader.specs.Tests as tests
 use Rattle.its_reader.specs.Standing.{rules_so_far}
 use Rattle.its_reader.specs.Places.{InLeft, IsSource}
 use Rattle.its_reader.specs.FaultTests.{left_argument_name_faults, left_faults}
-use Rattle.its_reader.specs.declared.place.LeftPlace.{LeftPlace}
-use Rattle.its_reader.specs.declared.place.LeftPlace.TheVariants as lefts
+use Rattle.its_reader.specs.declared.parser_state.SourceState.{SourceState}
+use Rattle.its_reader.specs.declared.parser_state.SourceState.TheVariants as lefts
 use Rattle.its_reader.specs.declared.draft.RuleDraft.{RuleDraft}
 use Rattle.its_reader.specs.declared.draft.Draft.{Draft}
 
@@ -80,8 +80,8 @@ module _ (ts : Tokens) (at : ℕ) (next behind : Option Piece) (d : Draft) (f : 
   wanted_shows arguments e = ap (λ xs. xs ++ fault_if (long_name next) (Limit LongName) at) (argument_is at arguments d.rule next behind e)
 
   -- what a front of a left term shows at the next token is what the code finds there
-  pub left_next : (place : LeftPlace) → InLeft ts next place d f → next_faults at f next behind ≡ left_faults place d at next behind
-  left_next lefts.Ruled k = rw k.1.0 (simp append-nil
+  pub left_next : (state : SourceState) → InLeft ts next state d f → next_faults at f next behind ≡ left_faults state d at next behind
+  left_next lefts.AfterRule k = rw k.1.0 (simp append-nil
       (ap (λ n. fault_if (is_word next && nat_le rule_limit n) (Limit TooManyRules) at ++ fault_if (long_name next) (Limit LongName) at) (sym (as_many_rules k.0.rules d k.1.1.0.rules.rules_are))))
   left_next lefts.SourceNamed k = either k.1.1.0
     where
@@ -91,4 +91,4 @@ module _ (ts : Tokens) (at : ℕ) (next behind : Option Piece) (d : Draft) (f : 
   left_next lefts.LeftOpened k = rw k.1.1.0 (simp append-nil (wanted_shows [] k.1.1.1.arguments_are))
   left_next lefts.LeftParted k = rw k.1.1.1.1.0 (simp append-nil (wanted_shows (k.1.1.0 ∷ k.1.1.1.0) k.1.1.1.1.1.arguments_are))
   left_next lefts.LeftRead k = rw k.1.1.1.1.0 (simp append-nil)
-  left_next lefts.LeftShut k = rw k.1.1.0 (simp append-nil)
+  left_next lefts.SourceClosed k = rw k.1.1.0 (simp append-nil)

@@ -1,3 +1,4 @@
+-- the code's parser of programs follows the one of `its_text`: its tokens, states, faults and program
 pub mod Comments
 pub mod Tokens
 pub mod Modes

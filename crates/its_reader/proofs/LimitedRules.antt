@@ -1,4 +1,4 @@
--- In a valid program no exponent is over 8, so it is as it is written.
+-- In a valid program no exponent is over 8, so limiting exponents doesn't change it.
 use Rattle.std.specs.Prelude.{◌≡◌, ℕ, ◌+◌, pos, List, [], ◌∷◌, map, Option, Some, None, option_map, Result, Ok, Err}
 use Rattle.std.specs.Prelude.{IfOk, refl}
 use Rattle.std.specs.List.{AllByRecursion}

@@ -19,9 +19,9 @@ use Rattle.its_reader.specs.declared.error.ReadError.{ReadError}
 use Rattle.its_reader.specs.declared.fault.Fault as found
 use Rattle.its_reader.specs.declared.lexer.Lexer.{Lexer}
 use Rattle.its_reader.specs.declared.piece.Token as code
-use Rattle.its_reader.specs.declared.place.Place.{Place}
-use Rattle.its_reader.specs.declared.place.Place.TheVariants as places
-use Rattle.its_reader.specs.declared.place.SectionPlace.TheVariants as sections
+use Rattle.its_reader.specs.declared.parser_state.ParserState.{ParserState}
+use Rattle.its_reader.specs.declared.parser_state.ParserState.TheVariants as places
+use Rattle.its_reader.specs.declared.parser_state.SectionState.TheVariants as sections
 use Rattle.its_reader.specs.declared.reading.ReaderState.{ReaderState}
 use Rattle.its_reader.specs.declared.reading.TokenStep.{TokenStep}
 use Rattle.its_reader.specs.declared.reading.TokenStep.TheVariants as turns
@@ -44,16 +44,16 @@ loop_begins bytes d l k m next behind known text at mode first second = subst (I
         ∙ (first ∙ ap (listed next) second)
 
 -- a token leads on, or the answer is known
-pub turned_on : {bytes : List ℕ} {place : Place} {last : ℕ} {best : Option (Fault Kind)} {old new : Draft} {t : Token Piece} {behind : Option Piece} {rest : Tokens} (turn : TokenStep) (s : ReaderState) → turn ≡ turns.On s
-    → Turns place last best old t behind (token_result_of turn) new → next_piece rest ≡ behind → IsReading bytes place last best old (t ∷ rest) → IsReading bytes s.place s.last (maybe_fault s.best) new rest
-turned_on {bytes} {place} {last} {best} {old} {new} {t} {behind} {rest} turn s e h n r = subst (λ turn. TurnsTo bytes rest (token_result_of turn) new) e (h.each bytes rest n r)
+pub turned_on : {bytes : List ℕ} {state : ParserState} {last : ℕ} {best : Option (Fault Kind)} {old new : Draft} {t : Token Piece} {behind : Option Piece} {rest : Tokens} (turn : TokenStep) (s : ReaderState) → turn ≡ turns.On s
+    → Turns state last best old t behind (token_result_of turn) new → next_piece rest ≡ behind → IsReading bytes state last best old (t ∷ rest) → IsReading bytes s.state s.last (maybe_fault s.best) new rest
+turned_on {bytes} {state} {last} {best} {old} {new} {t} {behind} {rest} turn s e h n r = subst (λ turn. TurnsTo bytes rest (token_result_of turn) new) e (h.each bytes rest n r)
 
 -- where a token decides, the refusal that it ends with is the answer to the text
-pub turned_over : {bytes : List ℕ} {place : Place} {last : ℕ} {best : Option (Fault Kind)} {old new : Draft} {t : Token Piece} {behind : Option Piece} {rest : Tokens} (turn : TokenStep) (x : found.Fault) (error : ReadError) → turn ≡ turns.Over x
-    → fault_in error ≡ Some (fault_of x) → Turns place last best old t behind (token_result_of turn) new → next_piece rest ≡ behind → IsReading bytes place last best old (t ∷ rest) → Says (verdict bytes) (Err error)
-turned_over {bytes} {place} {last} {best} {old} {new} {t} {behind} {rest} turn x error e f h n r =
+pub turned_over : {bytes : List ℕ} {state : ParserState} {last : ℕ} {best : Option (Fault Kind)} {old new : Draft} {t : Token Piece} {behind : Option Piece} {rest : Tokens} (turn : TokenStep) (x : found.Fault) (error : ReadError) → turn ≡ turns.Over x
+    → fault_in error ≡ Some (fault_of x) → Turns state last best old t behind (token_result_of turn) new → next_piece rest ≡ behind → IsReading bytes state last best old (t ∷ rest) → Says (verdict bytes) (Err error)
+turned_over {bytes} {state} {last} {best} {old} {new} {t} {behind} {rest} turn x error e f h n r =
     subst (λ a. Says a (Err error)) (sym (subst (λ turn. TurnsTo bytes rest (token_result_of turn) new) e (h.each bytes rest n r))) (refusal_said (fault_of x) error f)
 
 -- one token further on
-pub next_read : {bytes : List ℕ} {place : Place} {last : ℕ} {best : Option (Fault Kind)} {d : Draft} (next : Option code.Token) (ts more : Tokens) → ts ≡ more → IsReading bytes place last best d (listed next ts) → IsReading bytes place last best d (listed next more)
-next_read {bytes} {place} {last} {best} {d} next ts more e r = subst (λ ts. IsReading bytes place last best d (listed next ts)) e r
+pub next_read : {bytes : List ℕ} {state : ParserState} {last : ℕ} {best : Option (Fault Kind)} {d : Draft} (next : Option code.Token) (ts more : Tokens) → ts ≡ more → IsReading bytes state last best d (listed next ts) → IsReading bytes state last best d (listed next more)
+next_read {bytes} {state} {last} {best} {d} next ts more e r = subst (λ ts. IsReading bytes state last best d (listed next ts)) e r

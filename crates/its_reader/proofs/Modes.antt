@@ -18,7 +18,7 @@ abbrev pub keyword_or : Piece → Option (List ℕ) → Mode
 keyword_or p (Some w) = behind_keyword w
 keyword_or p None = beside p
 
--- at the keyword a word tells the mode, and other pieces lead on by whether they open or close
+-- at the keyword a word decides the mode, and other pieces change it if they open or close a bracket
 pub bracket_behind : (p : Piece) → mode_behind AtKeyword (Some p) ≡ keyword_or p (tests.word p)
 bracket_behind (In (inner.Word w)) = refl
 bracket_behind (In inner.Open) = refl

@@ -1,4 +1,4 @@
--- A name stands among names exactly where its position is below their number.
+-- A name is in a list exactly where its position is below the list's length.
 use Rattle.std.specs.Prelude.{◌≡◌, Bool, true, false, nat_lt, ◌||◌, List, [], ◌∷◌, length, refl}
 use Rattle.std.proofs.Common.{arith}
 use Rattle.std.proofs.lemmas.Bool.Decides.{nat_tests}

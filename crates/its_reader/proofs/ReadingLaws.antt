@@ -20,9 +20,9 @@ use Rattle.its_reader.specs.Standing.{KnowsBetween}
 use Rattle.its_reader.specs.Places.{StandsAt}
 use Rattle.its_reader.specs.Reading.{IsReading}
 use Rattle.its_reader.specs.declared.draft.Draft.{Draft}
-use Rattle.its_reader.specs.declared.place.Place.{Place}
-use Rattle.its_reader.specs.declared.place.Place.TheVariants as places
-use Rattle.its_reader.specs.declared.place.SectionPlace.TheVariants as sections
+use Rattle.its_reader.specs.declared.parser_state.ParserState.{ParserState}
+use Rattle.its_reader.specs.declared.parser_state.ParserState.TheVariants as places
+use Rattle.its_reader.specs.declared.parser_state.SectionState.TheVariants as sections
 use Rattle.its_reader.proofs.DigitLaws.{tokens_digital}
 use Rattle.its_reader.proofs.Stopping.{answer_before, answer_here, stopped_is, ordered}
 
@@ -40,7 +40,7 @@ reading_begins bytes d k = record {
   stands = ([], (refl, k));
 }
 
--- the token behind so many
+-- the token behind this many
 at_onto : (done : Tokens) (t : Token Piece) (rest : Tokens) → at_index (onto done (t ∷ rest)) (length done) ≡ t.at
 at_onto done t rest = ap (at_index (onto done (t ∷ rest))) (let e : length done ≡ length done + 0 = omega arith in e) ∙ go done 0 (t ∷ rest) t refl
   where
@@ -52,7 +52,7 @@ length-pieces : (done : Tokens) → length (pieces done) ≡ length done
 length-pieces [] = refl
 length-pieces (t ∷ done) = ap suc (length-pieces done)
 
-module _ (bytes : List ℕ) (place : Place) (last : ℕ) (best : Option (Fault Kind)) (d : Draft) (t : Token Piece) (rest : Tokens) (r : IsReading bytes place last best d (t ∷ rest)) where
+module _ (bytes : List ℕ) (state : ParserState) (last : ℕ) (best : Option (Fault Kind)) (d : Draft) (t : Token Piece) (rest : Tokens) (r : IsReading bytes state last best d (t ∷ rest)) where
   -- the next token's position by its number
   pub position_is : t.at ≡ at_index (tokens_of bytes) (length (front_pieces r.front))
   position_is =
@@ -60,9 +60,9 @@ module _ (bytes : List ℕ) (place : Place) (last : ℕ) (best : Option (Fault K
       ∙ ap (at_index (tokens_of bytes)) (sym (ap length (front_known (pieces r.done) r.front r.led).0 ∙ length-pieces r.done)))
 
   -- one token further
-  pub reading_goes_on : (now : Option (Fault Kind)) (g : Front) (reached_place : Place) (new : Draft) → now ≡ first_among programs best (front_faults (length bytes) r.done r.front (t ∷ rest)) → step r.front t.piece ≡ Some g
-      → StandsAt (tokens_of bytes) (next_piece rest) reached_place new g → IsReading bytes reached_place (t.upto - 1) now new rest
-  reading_goes_on now g reached_place new b e k = record {
+  pub reading_goes_on : (now : Option (Fault Kind)) (g : Front) (reached_state : ParserState) (new : Draft) → now ≡ first_among programs best (front_faults (length bytes) r.done r.front (t ∷ rest)) → step r.front t.piece ≡ Some g
+      → StandsAt (tokens_of bytes) (next_piece rest) reached_state new g → IsReading bytes reached_state (t.upto - 1) now new rest
+  reading_goes_on now g reached_state new b e k = record {
     done = t ∷ r.done;
     front = g;
     whole = r.whole;
@@ -104,6 +104,6 @@ module _ (bytes : List ℕ) (place : Place) (last : ℕ) (best : Option (Fault K
       go (inr a) = answer_here rest (length bytes) (t ∷ r.done) g x a.0 behind a.1
 
 -- the end of a text
-pub reading_ends : (bytes : List ℕ) (place : Place) (last : ℕ) (best now : Option (Fault Kind)) (d : Draft) → (r : IsReading bytes place last best d []) → now ≡ first_among programs best (front_faults (length bytes) r.done r.front [])
+pub reading_ends : (bytes : List ℕ) (state : ParserState) (last : ℕ) (best now : Option (Fault Kind)) (d : Draft) → (r : IsReading bytes state last best d []) → now ≡ first_among programs best (front_faults (length bytes) r.done r.front [])
     → answer programs (length bytes) (tokens_of bytes) ≡ ended programs now (finish r.front) (record { kind = break_kind r.front []; at = length bytes })
-reading_ends bytes place last best now d r b = r.pending ∙ ap (λ now. ended programs now (finish r.front) (off_at programs (length bytes) r.front [])) (sym b)
+reading_ends bytes state last best now d r b = r.pending ∙ ap (λ now. ended programs now (finish r.front) (off_at programs (length bytes) r.front [])) (sym b)

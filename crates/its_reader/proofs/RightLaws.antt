@@ -13,7 +13,7 @@ use Rattle.its_text.specs.FrontFaults.{other_arity}
 use Rattle.its_text.specs.Steps.{right_shut}
 use Rattle.its_reader.specs.Standing.{updates_of}
 use Rattle.its_reader.specs.Places.{IsArgued, behind_wrap}
-use Rattle.its_reader.specs.PlaceSteps.{AfterRight}
+use Rattle.its_reader.specs.StateSteps.{AfterRight}
 use Rattle.its_reader.proofs.LedLaws.{led_kept}
 use Rattle.its_reader.proofs.SymbolTables.{symbols_with, arity_at, number_stays}
 use Rattle.its_text.specs.expr_text.Pieces as inner
@@ -28,7 +28,7 @@ use Rattle.its_text.specs.FrontNames.{names_with}
 use Rattle.its_text.specs.FrontFaults.{ends_expression}
 use Rattle.its_text.specs.Steps.{argument_step}
 use Rattle.its_reader.specs.Places.{IsArguing}
-use Rattle.its_reader.specs.PlaceSteps.{GoesOn, Takes}
+use Rattle.its_reader.specs.StateSteps.{GoesOn, Takes}
 use Rattle.expr_reader.specs.GuardStanding.{IsWanting}
 use Rattle.its_text.specs.Pieces.{Piece, In, Comma}
 use Rattle.its_text.specs.Fronts as fronts
@@ -38,15 +38,15 @@ use Rattle.its_text.specs.FrontNames.{symbols_behind}
 use Rattle.its_text.specs.Steps.{step}
 use Rattle.its_reader.specs.Tests as tests
 use Rattle.its_reader.specs.Standing.{KnowsSymbols, KnowsLeft, KnowsAimed}
-use Rattle.its_reader.specs.Places.{InRight, RightSettled, LeadsTo, wrap_of, IsAimed, IsHeaded}
-use Rattle.its_reader.specs.PlaceSteps.{StaysBut}
+use Rattle.its_reader.specs.Places.{InRight, RightPartEnded, LeadsTo, wrap_of, IsAimed, IsHeaded}
+use Rattle.its_reader.specs.StateSteps.{StaysBut}
 use Rattle.its_reader.specs.declared.draft.Draft.{Draft}
-use Rattle.its_reader.specs.declared.place.Wrap.{Wrap}
-use Rattle.its_reader.specs.declared.place.Wrap.TheVariants as wraps
-use Rattle.its_reader.specs.declared.place.RightPlace.TheVariants as rights
-use Rattle.its_reader.specs.declared.place.TailPlace.TheVariants as tails
-use Rattle.its_reader.specs.declared.place.Place.{Place}
-use Rattle.its_reader.specs.declared.place.Place.TheVariants as places
+use Rattle.its_reader.specs.declared.parser_state.Wrap.{Wrap}
+use Rattle.its_reader.specs.declared.parser_state.Wrap.TheVariants as wraps
+use Rattle.its_reader.specs.declared.parser_state.TargetState.TheVariants as rights
+use Rattle.its_reader.specs.declared.parser_state.TailState.TheVariants as tails
+use Rattle.its_reader.specs.declared.parser_state.ParserState.{ParserState}
+use Rattle.its_reader.specs.declared.parser_state.ParserState.TheVariants as places
 
 module _ (ts : Tokens) (next : Option Piece) where
   -- behind `Com_1` only an opening bracket leads on
@@ -144,7 +144,7 @@ module _ (ts : Tokens) (next : Option Piece) where
   }
 
   -- where an inner piece leads within an argument that doesn't end before it
-  pub argument_leads : (w : Wrap) (a : Aimed) (arguments : List Sum) (e : expression.Front) (p : inner.Piece) (old new : Draft) (result : Option Place) → a.wrap ≡ wrap_of w → KnowsAimed ts a arguments old
+  pub argument_leads : (w : Wrap) (a : Aimed) (arguments : List Sum) (e : expression.Front) (p : inner.Piece) (old new : Draft) (result : Option ParserState) → a.wrap ≡ wrap_of w → KnowsAimed ts a arguments old
       → Stands (names_with a.led arguments) e (names_in old.rule.variables) old.rule.expression → (ends_expression e (Some (In p)) ≡ true → expression_steps.finish e ≡ None) → IsModest p
       → Takes (goes_on_with e p) (places.InRight (rights.Arguing w)) old p result new → LeadsTo ts next (argument_step a arguments e (expression_steps.step e p) p) result new
   argument_leads w a arguments e p old new result wrap k s stops modest t = go (expression_steps.step e p) refl t
@@ -220,7 +220,7 @@ module _ (ts : Tokens) (next : Option Piece) where
       rw e (record { led = a.led; target = Bare (record { name = a.name; arguments = arguments }) }, (refl, (headed, right_differs a arguments (Bare (record { name = a.name; arguments = arguments })) old new refl k h headed)))
 
   -- a closing bracket right behind the opening one ends a right term without arguments
-  pub opened_right_ends : (w : Wrap) (p : Piece) (f : Front) (old new : Draft) → RightSettled ts (Some p) (rights.RightOpened w) old f → tests.closes p ≡ true → AfterRight old new → LeadsTo ts next (step f p) (Some (behind_wrap w)) new
+  pub opened_right_ends : (w : Wrap) (p : Piece) (f : Front) (old new : Draft) → RightPartEnded ts (Some p) (rights.RightOpened w) old f → tests.closes p ≡ true → AfterRight old new → LeadsTo ts next (step f p) (Some (behind_wrap w)) new
   opened_right_ends w p f old new k c h = rw k.1.0 (go p c)
     where
       go : (p : Piece) → tests.closes p ≡ true → LeadsTo ts next (step (fronts.RightOpened k.0) p) (Some (behind_wrap w)) new
@@ -229,7 +229,7 @@ module _ (ts : Tokens) (next : Option Piece) where
       go _ c = cc
 
   -- a closing bracket behind an argument that has ended ends the right term
-  pub argued_ends : (w : Wrap) (p : Piece) (f : Front) (old new : Draft) → RightSettled ts (Some p) (rights.Argued w) old f → tests.closes p ≡ true → AfterRight old new → LeadsTo ts next (step f p) (Some (behind_wrap w)) new
+  pub argued_ends : (w : Wrap) (p : Piece) (f : Front) (old new : Draft) → RightPartEnded ts (Some p) (rights.Argued w) old f → tests.closes p ≡ true → AfterRight old new → LeadsTo ts next (step f p) (Some (behind_wrap w)) new
   argued_ends w p f old new k c h = rw k.1.1.1.1.0 (go p c k.1.1.1.1.1.ends)
     where
       known : IsArgued ts (Some p) w k.0 k.1.0 k.1.1.0 k.1.1.1.0 old
@@ -245,7 +245,7 @@ module _ (ts : Tokens) (next : Option Piece) where
       go _ c ends = cc
 
   -- the comma behind an argument
-  pub argued_parts : (w : Wrap) (p : Piece) (f : Front) (d : Draft) → RightSettled ts (Some p) (rights.Argued w) d f → tests.closes p ≡ false → LeadsTo ts next (step f p) (if tests.parts p then Some (places.InRight (rights.Arguing w)) else None) d
+  pub argued_parts : (w : Wrap) (p : Piece) (f : Front) (d : Draft) → RightPartEnded ts (Some p) (rights.Argued w) d f → tests.closes p ≡ false → LeadsTo ts next (step f p) (if tests.parts p then Some (places.InRight (rights.Arguing w)) else None) d
   argued_parts w p f d k c = rw k.1.1.1.1.0 (go p c k.1.1.1.1.1.ends)
     where
       known : IsArgued ts (Some p) w k.0 k.1.0 k.1.1.0 k.1.1.1.0 d
@@ -278,13 +278,13 @@ module _ (ts : Tokens) (next : Option Piece) where
       go _ c ends = tt
 
   -- the bracket that closes `Com_1(`
-  pub com_ends : (p : Piece) (f : Front) (old new : Draft) → RightSettled ts (Some p) rights.RightShut old f → tests.closes p ≡ true → new ≡ record old { rule = record old.rule { differs = false } } → LeadsTo ts next (step f p) (Some (places.InTail tails.Targeted)) new
+  pub com_ends : (p : Piece) (f : Front) (old new : Draft) → RightPartEnded ts (Some p) rights.TargetClosed old f → tests.closes p ≡ true → new ≡ record old { rule = record old.rule { differs = false } } → LeadsTo ts next (step f p) (Some (places.InTail tails.Targeted)) new
   com_ends p f old new k c e = rw (k.1.1.0, e) (go p c)
     where
       known : IsHeaded ts (record { led = k.0; target = Marked k.1.0 }) old
       known = k.1.1.1.0
 
-      go : (p : Piece) → tests.closes p ≡ true → LeadsTo ts next (step (fronts.RightShut k.0 k.1.0) p) (Some (places.InTail tails.Targeted)) (record old { rule = record old.rule { differs = false } })
+      go : (p : Piece) → tests.closes p ≡ true → LeadsTo ts next (step (fronts.TargetClosed k.0 k.1.0) p) (Some (places.InTail tails.Targeted)) (record old { rule = record old.rule { differs = false } })
       go (In inner.Close) c = (
         record { led = k.0; target = Marked k.1.0 },
         (
@@ -309,10 +309,10 @@ module _ (ts : Tokens) (next : Option Piece) where
       go _ c = cc
 
   -- behind the right term in `Com_1` nothing but the closing bracket leads on
-  pub com_stops : (p : Piece) (f : Front) (d : Draft) → RightSettled ts (Some p) rights.RightShut d f → tests.closes p ≡ false → LeadsTo ts next (step f p) None d
+  pub com_stops : (p : Piece) (f : Front) (d : Draft) → RightPartEnded ts (Some p) rights.TargetClosed d f → tests.closes p ≡ false → LeadsTo ts next (step f p) None d
   com_stops p f d k c = rw k.1.1.0 (go p c)
     where
-      go : (p : Piece) → tests.closes p ≡ false → LeadsTo ts next (step (fronts.RightShut k.0 k.1.0) p) None d
+      go : (p : Piece) → tests.closes p ≡ false → LeadsTo ts next (step (fronts.TargetClosed k.0 k.1.0) p) None d
       go (In inner.Close) c = cc
       go (In _) c = tt
       go _ c = tt

@@ -20,11 +20,11 @@ use Rattle.its_text.specs.FrontNames.{names_with}
 use Rattle.its_text.specs.FrontFaults.{Tokens, fault_if, long_name, is_open, begins}
 use Rattle.its_text.specs.FrontFaults.{targets_again, targets_many, passes_arguments, token_faults}
 use Rattle.its_text.specs.FrontFaults.{next_faults}
-use Rattle.its_reader.specs.Places.{RightSettled, IsArguing}
+use Rattle.its_reader.specs.Places.{RightPartEnded, IsArguing}
 use Rattle.its_reader.specs.FaultTests.{names_one, names_many, begins_full, right_faults, IsDigital}
-use Rattle.its_reader.specs.declared.place.Wrap.{Wrap}
-use Rattle.its_reader.specs.declared.place.RightPlace.{RightPlace}
-use Rattle.its_reader.specs.declared.place.RightPlace.TheVariants as rights
+use Rattle.its_reader.specs.declared.parser_state.Wrap.{Wrap}
+use Rattle.its_reader.specs.declared.parser_state.TargetState.{TargetState}
+use Rattle.its_reader.specs.declared.parser_state.TargetState.TheVariants as rights
 use Rattle.its_reader.specs.declared.draft.Draft.{Draft}
 use Rattle.its_reader.proofs.RightLaws.{length-terms, updates_count}
 use Rattle.its_reader.proofs.RightPromises.{first_stands}
@@ -76,7 +76,7 @@ module _ (ts : Tokens) (at : ℕ) (next behind : Option Piece) (d : Draft) (f : 
       count = sym (length-terms term_of d.rule.updates.items) ∙ (ap length k.aimed.updates_are ∙ updates_count (arrow_names a.led.left a.led.cost) arguments)
 
   -- what a front of a right term shows at the next token is what the code finds there
-  pub right_next : (place : RightPlace) → RightSettled ts next place d f → IsDigital next → next_faults at f next behind ≡ right_faults place d.rule at next behind
+  pub right_next : (state : TargetState) → RightPartEnded ts next state d f → IsDigital next → next_faults at f next behind ≡ right_faults state d.rule at next behind
   right_next rights.Arrowed k digital = rw k.1.0 (simp append-nil (ap (λ v. fault_if v ManyTargets at ++ fault_if (long_name next) (Limit LongName) at) (many_is k.0 next)))
   right_next rights.ComNamed k digital = rw k.1.0 (simp append-nil)
   right_next rights.ComOpened k digital = rw (k.1.0, again_is k.0 next, many_within k.0 next) (simp append-nil)
@@ -91,4 +91,4 @@ module _ (ts : Tokens) (at : ℕ) (next behind : Option Piece) (d : Draft) (f : 
     finished_begun k.1.1.0 k.1.1.1.0 k.1.1.1.1.1.finish_is,
     ended_going at behind k.1.1.0 (record { names = names_with k.0.led k.1.0; front = k.1.1.0; leads_atom = false }) next refl k.1.1.1.1.1.ends,
   ) (simp append-nil)
-  right_next rights.RightShut k digital = rw k.1.1.0 (simp append-nil)
+  right_next rights.TargetClosed k digital = rw k.1.1.0 (simp append-nil)

@@ -4,11 +4,11 @@ use Rattle.std.proofs.Common.{sym, ap, subst}
 use Rattle.model.specs.Programs.{Name}
 use Rattle.expr_reader.proofs.Standing.{fresh_stands}
 use Rattle.its_reader.specs.Places.{behind_wrap}
-use Rattle.its_reader.specs.PlaceSteps.{AfterRight, RightLeads, Targets, TakesPiece, GoTogether, IsModestPiece}
+use Rattle.its_reader.specs.StateSteps.{AfterRight, RightLeads, Targets, TakesPiece, GoTogether, IsModestPiece}
 use Rattle.its_text.specs.expr_text.TermFronts.{goes_on_from}
 use Rattle.expr_reader.specs.Views.{front_of}
 use Rattle.expr_reader.proofs.Endings.{goes_on_is}
-use Rattle.its_reader.specs.declared.place.RightPlace.{RightPlace}
+use Rattle.its_reader.specs.declared.parser_state.TargetState.{TargetState}
 use Rattle.its_reader.proofs.LeftLaws.{leads_together}
 use Rattle.its_text.specs.expr_text.Pieces as inner
 use Rattle.expr_reader.specs.Variables.{names_in}
@@ -21,48 +21,48 @@ use Rattle.its_text.specs.FrontNames.{names_with}
 use Rattle.its_text.specs.FrontFaults.{ends_expression}
 use Rattle.its_text.specs.Steps.{argument_step}
 use Rattle.its_reader.specs.Places.{IsArguing}
-use Rattle.its_reader.specs.PlaceSteps.{Takes}
+use Rattle.its_reader.specs.StateSteps.{Takes}
 use Rattle.its_text.specs.Pieces.{Piece, In, Comma}
 use Rattle.its_text.specs.Fronts as fronts
 use Rattle.its_text.specs.Fronts.{Front, Aimed}
 use Rattle.its_text.specs.FrontFaults.{Tokens}
 use Rattle.its_text.specs.Steps.{step}
 use Rattle.its_reader.specs.Tests as tests
-use Rattle.its_reader.specs.Places.{RightSettled, LeadsTo, IsAimed}
+use Rattle.its_reader.specs.Places.{RightPartEnded, LeadsTo, IsAimed}
 use Rattle.its_reader.specs.declared.draft.Draft.{Draft}
-use Rattle.its_reader.specs.declared.place.Wrap.{Wrap}
-use Rattle.its_reader.specs.declared.place.Wrap.TheVariants as wraps
-use Rattle.its_reader.specs.declared.place.RightPlace.TheVariants as rights
-use Rattle.its_reader.specs.declared.place.Place.{Place}
-use Rattle.its_reader.specs.declared.place.Place.TheVariants as places
+use Rattle.its_reader.specs.declared.parser_state.Wrap.{Wrap}
+use Rattle.its_reader.specs.declared.parser_state.Wrap.TheVariants as wraps
+use Rattle.its_reader.specs.declared.parser_state.TargetState.TheVariants as rights
+use Rattle.its_reader.specs.declared.parser_state.ParserState.{ParserState}
+use Rattle.its_reader.specs.declared.parser_state.ParserState.TheVariants as places
 use Rattle.its_reader.proofs.RightLaws.{com_named_leads, target_named_leads, bare_leads, arrowed_stops, within_leads}
 use Rattle.its_reader.proofs.RightLaws.{within_stops, argument_leads, opened_right_ends, argued_ends, argued_parts}
 
 -- what the functions of each place promise
-pub always_right : (place : RightPlace) (p : Piece) (old new : Draft) (result : Option Place) → ((ts : Tokens) (next : Option Piece) (f : Front) → RightSettled ts (Some p) place old f → LeadsTo ts next (step f p) result new) → RightLeads place old p result new
-always_right place p old new result h = record {
+pub always_right : (state : TargetState) (p : Piece) (old new : Draft) (result : Option ParserState) → ((ts : Tokens) (next : Option Piece) (f : Front) → RightPartEnded ts (Some p) state old f → LeadsTo ts next (step f p) result new) → RightLeads state old p result new
+always_right state p old new result h = record {
   together = λ ts f k. leads_together ts None (step f p) result new (h ts None f k);
   each = λ ts next f k modest. h ts next f k;
 }
 
--- the place from the arrow to the end of the target may be told by an equation
-pub in_right_place : (place known : RightPlace) (old new : Draft) (p : Piece) (result : Option Place) → place ≡ known → RightLeads known old p result new → RightLeads place old p result new
-in_right_place place known old new p result e h = subst (λ (q : RightPlace). RightLeads q old p result new) (sym e) h
+-- the same for a state between the arrow and the end of the target that is given by an equation
+pub in_right_state : (state known : TargetState) (old new : Draft) (p : Piece) (result : Option ParserState) → state ≡ known → RightLeads known old p result new → RightLeads state old p result new
+in_right_state state known old new p result e h = subst (λ (q : TargetState). RightLeads q old p result new) (sym e) h
 
 -- behind `Com_1` the code leads where what is written does
-pub com_named_promise : (p : Piece) (old : Draft) (result : Option Place) (v : Bool) → v ≡ tests.opens p → result ≡ (if v then Some (places.InRight rights.ComOpened) else None) → RightLeads rights.ComNamed old p result old
+pub com_named_promise : (p : Piece) (old : Draft) (result : Option ParserState) (v : Bool) → v ≡ tests.opens p → result ≡ (if v then Some (places.InRight rights.ComOpened) else None) → RightLeads rights.ComNamed old p result old
 com_named_promise p old result v e h = always_right rights.ComNamed p old old result (λ ts next f k. rw (h, e) (com_named_leads ts next p f old k))
 
 -- so it does behind the target's name
-pub target_named_promise : (w : Wrap) (p : Piece) (old : Draft) (result : Option Place) (v : Bool) → v ≡ tests.opens p → result ≡ (if v then Some (places.InRight (rights.RightOpened w)) else None) → RightLeads (rights.TargetNamed w) old p result old
+pub target_named_promise : (w : Wrap) (p : Piece) (old : Draft) (result : Option ParserState) (v : Bool) → v ≡ tests.opens p → result ≡ (if v then Some (places.InRight (rights.RightOpened w)) else None) → RightLeads (rights.TargetNamed w) old p result old
 target_named_promise w p old result v e h = always_right (rights.TargetNamed w) p old old result (λ ts next f k. rw (h, e) (target_named_leads ts next w p f old k))
 
 -- so it does behind an argument that has ended, where no bracket closes
-pub argued_promise : (w : Wrap) (p : Piece) (old : Draft) (result : Option Place) (v : Bool) → tests.closes p ≡ false → v ≡ tests.parts p → result ≡ (if v then Some (places.InRight (rights.Arguing w)) else None) → RightLeads (rights.Argued w) old p result old
+pub argued_promise : (w : Wrap) (p : Piece) (old : Draft) (result : Option ParserState) (v : Bool) → tests.closes p ≡ false → v ≡ tests.parts p → result ≡ (if v then Some (places.InRight (rights.Arguing w)) else None) → RightLeads (rights.Argued w) old p result old
 argued_promise w p old result v c e h = always_right (rights.Argued w) p old old result (λ ts next f k. rw (h, e) (argued_parts ts next w p f old k c))
 
 -- so it does behind the arrow, at any piece but `Com_1`
-pub arrowed_promise : (p : Piece) (old new : Draft) (result : Option Place) → tests.says (codes "Com_1") p ≡ false → Targets (tests.word p) wraps.Alone result old new → RightLeads rights.Arrowed old p result new
+pub arrowed_promise : (p : Piece) (old new : Draft) (result : Option ParserState) → tests.says (codes "Com_1") p ≡ false → Targets (tests.word p) wraps.Alone result old new → RightLeads rights.Arrowed old p result new
 arrowed_promise p old new result c t = go (tests.word p) refl t
   where
     go : (o : Option Name) → tests.word p ≡ o → Targets o wraps.Alone result old new → RightLeads rights.Arrowed old p result new
@@ -70,7 +70,7 @@ arrowed_promise p old new result c t = go (tests.word p) refl t
     go (Some name) e t = rw t.0 (always_right rights.Arrowed p old new _ (λ ts next f k. bare_leads ts next p f old new name k c e t.1.0 t.1.1))
 
 -- so it does within `Com_1`
-pub within_promise : (p : Piece) (old new : Draft) (result : Option Place) → Targets (tests.word p) wraps.InCom result old new → RightLeads rights.ComOpened old p result new
+pub within_promise : (p : Piece) (old new : Draft) (result : Option ParserState) → Targets (tests.word p) wraps.InCom result old new → RightLeads rights.ComOpened old p result new
 within_promise p old new result t = go (tests.word p) refl t
   where
     go : (o : Option Name) → tests.word p ≡ o → Targets o wraps.InCom result old new → RightLeads rights.ComOpened old p result new
@@ -78,7 +78,7 @@ within_promise p old new result t = go (tests.word p) refl t
     go (Some name) e t = rw t.0 (always_right rights.ComOpened p old new _ (λ ts next f k. within_leads ts next p f old new name k e t.1.0 t.1.1))
 
 -- a piece within an argument leads somewhere in both, or nowhere in both
-argument_together : (w : Wrap) (a : Aimed) (arguments : List Sum) (e : expression.Front) (p : inner.Piece) (old new : Draft) (result : Option Place) → (ends_expression e (Some (In p)) ≡ true → expression_steps.finish e ≡ None)
+argument_together : (w : Wrap) (a : Aimed) (arguments : List Sum) (e : expression.Front) (p : inner.Piece) (old new : Draft) (result : Option ParserState) → (ends_expression e (Some (In p)) ≡ true → expression_steps.finish e ≡ None)
     → Takes (goes_on_with e p) (places.InRight (rights.Arguing w)) old p result new → GoTogether (argument_step a arguments e (expression_steps.step e p) p) result
 argument_together w a arguments e p old new result stops t = go (expression_steps.step e p) refl t
   where
@@ -89,12 +89,12 @@ argument_together w a arguments e p old new result stops t = go (expression_step
         rw (none, t.0) tt
 
 -- what the code takes is what goes on with the written expression
-pub takes_written : (within : Place) (before : List Name) (e : expression.Front) (p : inner.Piece) (old new : Draft) (result : Option Place) → Stands before e (names_in old.rule.variables) old.rule.expression
+pub takes_written : (within : ParserState) (before : List Name) (e : expression.Front) (p : inner.Piece) (old new : Draft) (result : Option ParserState) → Stands before e (names_in old.rule.variables) old.rule.expression
     → Takes (goes_on_from (front_of old.rule.expression).outer (front_of old.rule.expression).operand p) within old p result new → Takes (goes_on_with e p) within old p result new
 takes_written within before e p old new result s t = subst (λ (v : Bool). Takes v within old p result new) (goes_on_is before e (names_in old.rule.variables) old.rule.expression p s) t
 
 -- so it does in an argument that goes on
-pub arguing_promise : (w : Wrap) (p : Piece) (old new : Draft) (result : Option Place) → TakesPiece (places.InRight (rights.Arguing w)) old p result new → RightLeads (rights.Arguing w) old p result new
+pub arguing_promise : (w : Wrap) (p : Piece) (old new : Draft) (result : Option ParserState) → TakesPiece (places.InRight (rights.Arguing w)) old p result new → RightLeads (rights.Arguing w) old p result new
 arguing_promise w p old new result t = record {
   together = λ ts f k. rw k.1.1.1.0 (together p t (k.0) (k.1.0) (k.1.1.0) (k.1.1.1.1.0.expression) (k.1.1.1.1.1));
   each = λ ts next f k modest. rw k.1.1.1.0 (each ts next p t modest k.0 k.1.0 k.1.1.0 k.1.1.1.1.0 k.1.1.1.1.1);
@@ -118,7 +118,7 @@ pub first_stands : (ts : Tokens) (w : Wrap) (a : Aimed) (d : Draft) → IsAimed 
 first_stands ts w a d k = subst (λ (b : List Name). Stands b expression.beginning (names_in d.rule.variables) d.rule.expression) k.names_are (fresh_stands (names_in d.rule.variables) d.rule.expression k.expression)
 
 -- so it does behind the opening bracket of the target, where none closes it at once
-pub opened_right_promise : (w : Wrap) (p : Piece) (old new : Draft) (result : Option Place) → tests.closes p ≡ false → TakesPiece (places.InRight (rights.Arguing w)) old p result new → RightLeads (rights.RightOpened w) old p result new
+pub opened_right_promise : (w : Wrap) (p : Piece) (old new : Draft) (result : Option ParserState) → tests.closes p ≡ false → TakesPiece (places.InRight (rights.Arguing w)) old p result new → RightLeads (rights.RightOpened w) old p result new
 opened_right_promise w p old new result c t = record {
   together = λ ts f k. rw k.1.0 (together p c t k.0 (first_stands ts w k.0 old k.1.1));
   each = λ ts next f k modest. rw k.1.0 (each ts next p c t modest k.0 k.1.1);
@@ -136,9 +136,9 @@ opened_right_promise w p old new result c t = record {
     each ts next _ c t modest a k = rw t.0 tt
 
 -- so it does behind that bracket, where one closes it at once
-pub opened_right_closes : (w : Wrap) (p : Piece) (old new : Draft) (place : Place) → place ≡ behind_wrap w → tests.closes p ≡ true → AfterRight old new → RightLeads (rights.RightOpened w) old p (Some place) new
-opened_right_closes w p old new place e c h = rw e (always_right (rights.RightOpened w) p old new (Some (behind_wrap w)) (λ ts next f k. opened_right_ends ts next w p f old new k c h))
+pub opened_right_closes : (w : Wrap) (p : Piece) (old new : Draft) (state : ParserState) → state ≡ behind_wrap w → tests.closes p ≡ true → AfterRight old new → RightLeads (rights.RightOpened w) old p (Some state) new
+opened_right_closes w p old new state e c h = rw e (always_right (rights.RightOpened w) p old new (Some (behind_wrap w)) (λ ts next f k. opened_right_ends ts next w p f old new k c h))
 
 -- and so it does behind an argument that has ended, where the bracket closes
-pub argued_closes : (w : Wrap) (p : Piece) (old new : Draft) (place : Place) → place ≡ behind_wrap w → tests.closes p ≡ true → AfterRight old new → RightLeads (rights.Argued w) old p (Some place) new
-argued_closes w p old new place e c h = rw e (always_right (rights.Argued w) p old new (Some (behind_wrap w)) (λ ts next f k. argued_ends ts next w p f old new k c h))
+pub argued_closes : (w : Wrap) (p : Piece) (old new : Draft) (state : ParserState) → state ≡ behind_wrap w → tests.closes p ≡ true → AfterRight old new → RightLeads (rights.Argued w) old p (Some state) new
+argued_closes w p old new state e c h = rw e (always_right (rights.Argued w) p old new (Some (behind_wrap w)) (λ ts next f k. argued_ends ts next w p f old new k c h))

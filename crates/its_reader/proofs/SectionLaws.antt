@@ -18,13 +18,13 @@ use Rattle.its_reader.specs.Tests as tests
 use Rattle.its_reader.specs.Standing.{KnowsBetween, KnowsSections, KnowsLast, KnowsRules, KnowsSymbols, IsFreshRule}
 use Rattle.its_reader.specs.Standing.{Started, started_of}
 use Rattle.its_reader.specs.Places.{InSections, LeadsTo}
-use Rattle.its_reader.specs.PlaceSteps.{SectionLeads, StartLeads}
-use Rattle.its_reader.specs.declared.place.SectionPlace.{SectionPlace}
+use Rattle.its_reader.specs.StateSteps.{SectionLeads, StartLeads}
+use Rattle.its_reader.specs.declared.parser_state.SectionState.{SectionState}
 use Rattle.its_reader.specs.declared.draft.Draft.{Draft}
-use Rattle.its_reader.specs.declared.place.SectionPlace.TheVariants as sections
-use Rattle.its_reader.specs.declared.place.LeftPlace.TheVariants as lefts
-use Rattle.its_reader.specs.declared.place.Place.{Place}
-use Rattle.its_reader.specs.declared.place.Place.TheVariants as places
+use Rattle.its_reader.specs.declared.parser_state.SectionState.TheVariants as sections
+use Rattle.its_reader.specs.declared.parser_state.SourceState.TheVariants as lefts
+use Rattle.its_reader.specs.declared.parser_state.ParserState.{ParserState}
+use Rattle.its_reader.specs.declared.parser_state.ParserState.TheVariants as places
 
 module _ (ts : Tokens) (next : Option Piece) where
   -- between sections only an opening bracket leads on
@@ -37,14 +37,14 @@ module _ (ts : Tokens) (next : Option Piece) where
       go _ = tt
 
   -- behind `GOAL` only `COMPLEXITY` leads on
-  pub goal_named_leads : (p : Piece) (f : Front) (d : Draft) → InSections ts sections.GoalNamed d f → LeadsTo ts next (step f p) (if tests.says (codes "COMPLEXITY") p then Some (places.InSections sections.GoalSaid) else None) d
+  pub goal_named_leads : (p : Piece) (f : Front) (d : Draft) → InSections ts sections.GoalNamed d f → LeadsTo ts next (step f p) (if tests.says (codes "COMPLEXITY") p then Some (places.InSections sections.GoalRead) else None) d
   goal_named_leads p f d k = rw k.1.0 (go p)
     where
-      word : (v : Bool) → LeadsTo ts next (if v then Some (fronts.GoalSaid k.0) else None) (if v then Some (places.InSections sections.GoalSaid) else None) d
+      word : (v : Bool) → LeadsTo ts next (if v then Some (fronts.GoalRead k.0) else None) (if v then Some (places.InSections sections.GoalRead) else None) d
       word true = (k.0, (refl, k.1.1))
       word false = tt
 
-      go : (p : Piece) → LeadsTo ts next (step (fronts.GoalNamed k.0) p) (if tests.says (codes "COMPLEXITY") p then Some (places.InSections sections.GoalSaid) else None) d
+      go : (p : Piece) → LeadsTo ts next (step (fronts.GoalNamed k.0) p) (if tests.says (codes "COMPLEXITY") p then Some (places.InSections sections.GoalRead) else None) d
       go (In (inner.Word name)) = word (is_same name (codes "COMPLEXITY"))
       go (In _) = tt
       go _ = tt
@@ -72,19 +72,19 @@ module _ (ts : Tokens) (next : Option Piece) where
       go _ = tt
 
   -- behind the start symbol only a closing bracket leads on
-  pub start_said_leads : (p : Piece) (f : Front) (d : Draft) → InSections ts sections.StartSaid d f → LeadsTo ts next (step f p) (if tests.closes p then Some (places.InSections sections.StartShut) else None) d
+  pub start_said_leads : (p : Piece) (f : Front) (d : Draft) → InSections ts sections.StartRead d f → LeadsTo ts next (step f p) (if tests.closes p then Some (places.InSections sections.StartClosed) else None) d
   start_said_leads p f d k = rw k.1.1.0 (go p)
     where
-      go : (p : Piece) → LeadsTo ts next (step (fronts.StartSaid k.0 k.1.0) p) (if tests.closes p then Some (places.InSections sections.StartShut) else None) d
+      go : (p : Piece) → LeadsTo ts next (step (fronts.StartRead k.0 k.1.0) p) (if tests.closes p then Some (places.InSections sections.StartClosed) else None) d
       go (In inner.Close) = (k.0, (k.1.0, (refl, k.1.1.1)))
       go (In _) = tt
       go _ = tt
 
   -- behind that one only the bracket that closes the section leads on
-  pub start_shut_leads : (p : Piece) (f : Front) (d : Draft) → InSections ts sections.StartShut d f → LeadsTo ts next (step f p) (if tests.closes p then Some (places.InSections sections.Between) else None) d
-  start_shut_leads p f d k = rw k.1.1.0 (go p)
+  pub start_closed_leads : (p : Piece) (f : Front) (d : Draft) → InSections ts sections.StartClosed d f → LeadsTo ts next (step f p) (if tests.closes p then Some (places.InSections sections.Between) else None) d
+  start_closed_leads p f d k = rw k.1.1.0 (go p)
     where
-      go : (p : Piece) → LeadsTo ts next (step (fronts.StartShut k.0 k.1.0) p) (if tests.closes p then Some (places.InSections sections.Between) else None) d
+      go : (p : Piece) → LeadsTo ts next (step (fronts.StartClosed k.0 k.1.0) p) (if tests.closes p then Some (places.InSections sections.Between) else None) d
       go (In inner.Close) = (Start k.1.0 ∷ k.0, (refl, k.1.1.1))
       go (In _) = tt
       go _ = tt
@@ -103,11 +103,11 @@ module _ (ts : Tokens) (next : Option Piece) where
       go _ = tt
 
   -- the end of a goal, of the variables
-  pub goal_ends : (p : Piece) (f : Front) (old new : Draft) → InSections ts sections.GoalSaid old f → tests.closes p ≡ true
+  pub goal_ends : (p : Piece) (f : Front) (old new : Draft) → InSections ts sections.GoalRead old f → tests.closes p ≡ true
       → new ≡ record old { sections = record old.sections { goal = true } } → LeadsTo ts next (step f p) (Some (places.InSections sections.Between)) new
   goal_ends p f old new k h e = rw (k.1.0, e) (go p h)
     where
-      go : (p : Piece) → tests.closes p ≡ true → LeadsTo ts next (step (fronts.GoalSaid k.0) p) (Some (places.InSections sections.Between)) (record old { sections = record old.sections { goal = true } })
+      go : (p : Piece) → tests.closes p ≡ true → LeadsTo ts next (step (fronts.GoalRead k.0) p) (Some (places.InSections sections.Between)) (record old { sections = record old.sections { goal = true } })
       go (In inner.Close) h = (Goal ∷ k.0, (refl, record { sections = record { goal = refl; variables = k.1.1.sections.variables; rules = k.1.1.sections.rules; start = k.1.1.sections.start }; last = last (rules_of k.0) k.1.1.last }))
         where
           last : (o : Option (List WrittenRule)) → KnowsLast o old → KnowsLast o (record old { sections = record old.sections { goal = true } })
@@ -117,10 +117,10 @@ module _ (ts : Tokens) (next : Option Piece) where
       go _ h = cc
 
   -- behind `COMPLEXITY` nothing but a closing bracket leads on
-  pub goal_goes_on : (p : Piece) (f : Front) (d : Draft) → InSections ts sections.GoalSaid d f → tests.closes p ≡ false → LeadsTo ts next (step f p) None d
+  pub goal_goes_on : (p : Piece) (f : Front) (d : Draft) → InSections ts sections.GoalRead d f → tests.closes p ≡ false → LeadsTo ts next (step f p) None d
   goal_goes_on p f d k h = rw k.1.0 (go p h)
     where
-      go : (p : Piece) → tests.closes p ≡ false → LeadsTo ts next (step (fronts.GoalSaid k.0) p) None d
+      go : (p : Piece) → tests.closes p ≡ false → LeadsTo ts next (step (fronts.GoalRead k.0) p) None d
       go (In inner.Close) h = cc
       go (In _) h = tt
       go _ h = tt
@@ -136,13 +136,13 @@ module _ (ts : Tokens) (next : Option Piece) where
   -- the start symbol is named
   pub start_ends : (p : Piece) (f : Front) (old new : Draft) (s : Started) → InSections ts sections.StartListed old f → tests.word p ≡ Some s.name → s.at ≡ at_index ts (length (front_pieces f))
       → started_of new.sections.start ≡ Some s → new.sections.goal ≡ old.sections.goal → new.sections.variables ≡ old.sections.variables → new.sections.rules ≡ old.sections.rules
-      → new.symbols ≡ old.symbols → new.rules ≡ old.rules → LeadsTo ts next (step f p) (Some (places.InSections sections.StartSaid)) new
+      → new.symbols ≡ old.symbols → new.rules ≡ old.rules → LeadsTo ts next (step f p) (Some (places.InSections sections.StartRead)) new
   start_ends p f old new s k h at e g v r a b = rw k.1.0 (go p h)
     where
       stands : s.at ≡ at_index ts (length (pieces_behind k.0) + 4)
       stands = at ∙ ap (λ (g : Front). at_index ts (length (front_pieces g))) k.1.0 ∙ ap (at_index ts) (omega arith)
 
-      go : (p : Piece) → tests.word p ≡ Some s.name → LeadsTo ts next (step (fronts.StartListed k.0) p) (Some (places.InSections sections.StartSaid)) new
+      go : (p : Piece) → tests.word p ≡ Some s.name → LeadsTo ts next (step (fronts.StartListed k.0) p) (Some (places.InSections sections.StartRead)) new
       go (In (inner.Word name)) h = (
         k.0,
         (
@@ -240,10 +240,10 @@ module _ (ts : Tokens) (next : Option Piece) where
 
   -- `RULES` begins the section of the rules, with no rule and nothing of one
   pub rules_begin : (p : Piece) (f : Front) (old new : Draft) → InSections ts sections.Opened old f → tests.says (codes "GOAL") p ≡ false → tests.says (codes "STARTTERM") p ≡ false → tests.says (codes "VAR") p ≡ false → tests.says (codes "RULES") p ≡ true
-      → new.sections ≡ old.sections → KnowsRules [] new → IsFreshRule new.rule → LeadsTo ts next (step f p) (Some (places.InLeft lefts.Ruled)) new
+      → new.sections ≡ old.sections → KnowsRules [] new → IsFreshRule new.rule → LeadsTo ts next (step f p) (Some (places.InLeft lefts.AfterRule)) new
   rules_begin p f old new k n m o h s r fresh = rw k.1.0 (go p n m o h)
     where
-      go : (p : Piece) → tests.says (codes "GOAL") p ≡ false → tests.says (codes "STARTTERM") p ≡ false → tests.says (codes "VAR") p ≡ false → tests.says (codes "RULES") p ≡ true → LeadsTo ts next (step (fronts.Opened k.0) p) (Some (places.InLeft lefts.Ruled)) new
+      go : (p : Piece) → tests.says (codes "GOAL") p ≡ false → tests.says (codes "STARTTERM") p ≡ false → tests.says (codes "VAR") p ≡ false → tests.says (codes "RULES") p ≡ true → LeadsTo ts next (step (fronts.Opened k.0) p) (Some (places.InLeft lefts.AfterRule)) new
       go (In (inner.Word name)) n m o h = rw (n, m, o, h) (record { sections = k.0; rules = [] }, (refl, (record { sections = subst (KnowsSections ts k.0) (sym s) k.1.1.sections; rules = r }, fresh)))
       go (In _) n m o h = cc
       go _ n m o h = cc
@@ -264,42 +264,42 @@ module _ (ts : Tokens) (next : Option Piece) where
       go _ n m o q = tt
 
 -- what each place promises that changes nothing
-pub between_promise : (p : Piece) (d : Draft) (at : ℕ) (result : Option Place) (v : Bool) → v ≡ tests.opens p → result ≡ (if v then Some (places.InSections sections.Opened) else None) → StartLeads sections.Between d p at result d
+pub between_promise : (p : Piece) (d : Draft) (at : ℕ) (result : Option ParserState) (v : Bool) → v ≡ tests.opens p → result ≡ (if v then Some (places.InSections sections.Opened) else None) → StartLeads sections.Between d p at result d
 between_promise p d at result v e h = record { each = λ ts next f k a. rw (h, e) (between_leads ts next p f d k) }
 
 -- behind `GOAL` the code leads where what is written does
-pub goal_promise : (p : Piece) (d : Draft) (at : ℕ) (result : Option Place) (v : Bool) → v ≡ tests.says (codes "COMPLEXITY") p → result ≡ (if v then Some (places.InSections sections.GoalSaid) else None) → StartLeads sections.GoalNamed d p at result d
+pub goal_promise : (p : Piece) (d : Draft) (at : ℕ) (result : Option ParserState) (v : Bool) → v ≡ tests.says (codes "COMPLEXITY") p → result ≡ (if v then Some (places.InSections sections.GoalRead) else None) → StartLeads sections.GoalNamed d p at result d
 goal_promise p d at result v e h = record { each = λ ts next f k a. rw (h, e) (goal_named_leads ts next p f d k) }
 
 -- so it does behind `STARTTERM`
-pub start_promise : (p : Piece) (d : Draft) (at : ℕ) (result : Option Place) (v : Bool) → v ≡ tests.opens p → result ≡ (if v then Some (places.InSections sections.StartOpened) else None) → StartLeads sections.StartNamed d p at result d
+pub start_promise : (p : Piece) (d : Draft) (at : ℕ) (result : Option ParserState) (v : Bool) → v ≡ tests.opens p → result ≡ (if v then Some (places.InSections sections.StartOpened) else None) → StartLeads sections.StartNamed d p at result d
 start_promise p d at result v e h = record { each = λ ts next f k a. rw (h, e) (start_named_leads ts next p f d k) }
 
 -- so it does behind the bracket that opens there
-pub symbols_promise : (p : Piece) (d : Draft) (at : ℕ) (result : Option Place) (v : Bool) → v ≡ tests.says (codes "FUNCTIONSYMBOLS") p → result ≡ (if v then Some (places.InSections sections.StartListed) else None) → StartLeads sections.StartOpened d p at result d
+pub symbols_promise : (p : Piece) (d : Draft) (at : ℕ) (result : Option ParserState) (v : Bool) → v ≡ tests.says (codes "FUNCTIONSYMBOLS") p → result ≡ (if v then Some (places.InSections sections.StartListed) else None) → StartLeads sections.StartOpened d p at result d
 symbols_promise p d at result v e h = record { each = λ ts next f k a. rw (h, e) (start_opened_leads ts next p f d k) }
 
 -- so it does behind the start symbol
-pub said_promise : (p : Piece) (d : Draft) (at : ℕ) (result : Option Place) (v : Bool) → v ≡ tests.closes p → result ≡ (if v then Some (places.InSections sections.StartShut) else None) → StartLeads sections.StartSaid d p at result d
+pub said_promise : (p : Piece) (d : Draft) (at : ℕ) (result : Option ParserState) (v : Bool) → v ≡ tests.closes p → result ≡ (if v then Some (places.InSections sections.StartClosed) else None) → StartLeads sections.StartRead d p at result d
 said_promise p d at result v e h = record { each = λ ts next f k a. rw (h, e) (start_said_leads ts next p f d k) }
 
 -- so it does behind the bracket that closes there
-pub shut_promise : (p : Piece) (d : Draft) (at : ℕ) (result : Option Place) (v : Bool) → v ≡ tests.closes p → result ≡ (if v then Some (places.InSections sections.Between) else None) → StartLeads sections.StartShut d p at result d
-shut_promise p d at result v e h = record { each = λ ts next f k a. rw (h, e) (start_shut_leads ts next p f d k) }
+pub closed_promise : (p : Piece) (d : Draft) (at : ℕ) (result : Option ParserState) (v : Bool) → v ≡ tests.closes p → result ≡ (if v then Some (places.InSections sections.Between) else None) → StartLeads sections.StartClosed d p at result d
+closed_promise p d at result v e h = record { each = λ ts next f k a. rw (h, e) (start_closed_leads ts next p f d k) }
 
 -- and so it does behind `COMMENT`
-pub comment_promise : (p : Piece) (d : Draft) (at : ℕ) (result : Option Place) (v : Bool) → v ≡ tests.remarks p → result ≡ (if v then Some (places.InSections sections.Between) else None) → StartLeads sections.CommentNamed d p at result d
+pub comment_promise : (p : Piece) (d : Draft) (at : ℕ) (result : Option ParserState) (v : Bool) → v ≡ tests.remarks p → result ≡ (if v then Some (places.InSections sections.Between) else None) → StartLeads sections.CommentNamed d p at result d
 comment_promise p d at result v e h = record { each = λ ts next f k a. rw (h, e) (comment_leads ts next p f d k) }
 
 -- what leads on without the position of the piece does so at any position
-pub wherever : (place : SectionPlace) (old new : Draft) (p : Piece) (at : ℕ) (result : Option Place) → SectionLeads place old p result new → StartLeads place old p at result new
-wherever place old new p at result h = record { each = λ ts next f k a. h.each ts next f k }
+pub wherever : (state : SectionState) (old new : Draft) (p : Piece) (at : ℕ) (result : Option ParserState) → SectionLeads state old p result new → StartLeads state old p at result new
+wherever state old new p at result h = record { each = λ ts next f k a. h.each ts next f k }
 
 -- at a keyword that is none of the others the code leads where what is written does
-pub last_promise : (p : Piece) (d : Draft) (result : Option Place) (v : Bool) → tests.says (codes "GOAL") p ≡ false → tests.says (codes "STARTTERM") p ≡ false → tests.says (codes "VAR") p ≡ false → tests.says (codes "RULES") p ≡ false
+pub last_promise : (p : Piece) (d : Draft) (result : Option ParserState) (v : Bool) → tests.says (codes "GOAL") p ≡ false → tests.says (codes "STARTTERM") p ≡ false → tests.says (codes "VAR") p ≡ false → tests.says (codes "RULES") p ≡ false
     → v ≡ tests.says (codes "COMMENT") p → result ≡ (if v then Some (places.InSections sections.CommentNamed) else None) → SectionLeads sections.Opened d p result d
 last_promise p d result v n m o q e h = record { each = λ ts next f k. rw (h, e) (comment_begins ts next p f d k n m o q) }
 
--- the place outside rules may be told by an equation
-pub in_place : (place known : SectionPlace) (old new : Draft) (p : Piece) (at : ℕ) (result : Option Place) → place ≡ known → StartLeads known old p at result new → StartLeads place old p at result new
-in_place place known old new p at result e h = subst (λ (q : SectionPlace). StartLeads q old p at result new) (sym e) h
+-- the same for a state outside rules that is given by an equation
+pub in_place : (state known : SectionState) (old new : Draft) (p : Piece) (at : ℕ) (result : Option ParserState) → state ≡ known → StartLeads known old p at result new → StartLeads state old p at result new
+in_place state known old new p at result e h = subst (λ (q : SectionState). StartLeads q old p at result new) (sym e) h

@@ -83,20 +83,20 @@ ordered (t ∷ ts) a b n h o = ((let p = o.0 in omega (arith, h, p)), o.1, o.2)
 -- a fault before the last byte that was read is the answer
 pub answer_before : (rest : Tokens) (n : ℕ) (done : Tokens) (f : Front) (x : Fault Kind) → x.at < last_byte done → AreInOrder (last_byte done + 1) rest n → run programs n (Going (Some x) done f) rest ≡ Refused x
 answer_before [] n done f x h o =
-    ap (λ b. ended programs b (finish f) (off_at programs n f [])) (stays_among x (shown.front_faults n done f []) (none_of x _ (λ y a. place y (stands n done f [] y a))))
+    ap (λ b. ended programs b (finish f) (off_at programs n f [])) (stays_among x (shown.front_faults n done f []) (none_of x _ (λ y a. state y (stands n done f [] y a))))
     ∙ ended_stays n x (off_at programs n f []) (finish f) (later x (off_at programs n f []) (omega (arith, h, o)))
   where
-    place : (y : Fault Kind) → (y.at ≡ last_byte done) ⊎ (y.at ≡ n) → is_before programs y x ≡ false
-    place y (inl e) = later x y (omega (arith, h, e))
-    place y (inr e) = later x y (omega (arith, h, o, e))
+    state : (y : Fault Kind) → (y.at ≡ last_byte done) ⊎ (y.at ≡ n) → is_before programs y x ≡ false
+    state y (inl e) = later x y (omega (arith, h, e))
+    state y (inr e) = later x y (omega (arith, h, o, e))
 answer_before (t ∷ rest) n done f x h o =
-    ap (λ b. run programs n (further programs b done t (step f t.piece) (off_at programs n f (t ∷ rest))) rest) (stays_among x (shown.front_faults n done f (t ∷ rest)) (none_of x _ (λ y a. place y (stands n done f (t ∷ rest) y a))))
+    ap (λ b. run programs n (further programs b done t (step f t.piece) (off_at programs n f (t ∷ rest))) rest) (stays_among x (shown.front_faults n done f (t ∷ rest)) (none_of x _ (λ y a. state y (stands n done f (t ∷ rest) y a))))
     ∙ further_stays n x (off_at programs n f (t ∷ rest)) done t rest (step f t.piece) (later x (off_at programs n f (t ∷ rest)) (let p = o.0 in omega (arith, h, p)))
     (λ g e. answer_before rest n (t ∷ done) g x (let p = o.0 in let q = o.1 in omega (arith, h, p, q)) (let q = o.1 in ordered rest t.upto (t.upto - 1 + 1) n (omega (arith, q)) o.2))
   where
-    place : (y : Fault Kind) → (y.at ≡ last_byte done) ⊎ (y.at ≡ t.at) → is_before programs y x ≡ false
-    place y (inl e) = later x y (omega (arith, h, e))
-    place y (inr e) = later x y (let p = o.0 in omega (arith, h, p, e))
+    state : (y : Fault Kind) → (y.at ≡ last_byte done) ⊎ (y.at ≡ t.at) → is_before programs y x ≡ false
+    state y (inl e) = later x y (omega (arith, h, e))
+    state y (inr e) = later x y (let p = o.0 in omega (arith, h, p, e))
 
 -- the numbers of faults are at least so great
 abbrev pub AtLeast : ℕ → FaultList → Type 0
@@ -159,9 +159,9 @@ pub answer_here : (rest : Tokens) (n : ℕ) (done : Tokens) (f : Front) (x : Fau
     → ((y : Fault Kind) → Among y (last_faults (last_byte done) f (next_piece rest)) → kind_number x.kind ≤ kind_number y.kind) → run programs n (Going (Some x) done f) rest ≡ Refused x
 answer_here rest n done f x h o least = go rest o least
   where
-    place : (rest : Tokens) → last_byte done < next_at n rest → ((y : Fault Kind) → Among y (last_faults (last_byte done) f (next_piece rest)) → kind_number x.kind ≤ kind_number y.kind)
+    state : (rest : Tokens) → last_byte done < next_at n rest → ((y : Fault Kind) → Among y (last_faults (last_byte done) f (next_piece rest)) → kind_number x.kind ≤ kind_number y.kind)
         → (y : Fault Kind) → Among y (shown.front_faults n done f rest) → is_before programs y x ≡ false
-    place rest o least y a = either (split y (last_faults (last_byte done) f (next_piece rest)) (next_faults (next_at n rest) f (next_piece rest) (piece_behind rest)) a)
+    state rest o least y a = either (split y (last_faults (last_byte done) f (next_piece rest)) (next_faults (next_at n rest) f (next_piece rest) (piece_behind rest)) a)
       where
         either : (Among y (last_faults (last_byte done) f (next_piece rest))) ⊎ (Among y (next_faults (next_at n rest) f (next_piece rest) (piece_behind rest))) → is_before programs y x ≡ false
         either (inl b) = let e = among_at (last_byte done) y (last_faults (last_byte done) f (next_piece rest)) (last_at (last_byte done) f (next_piece rest)) b in no_less x y (omega (arith, h, e)) (least y b)
@@ -169,10 +169,10 @@ answer_here rest n done f x h o least = go rest o least
 
     go : (rest : Tokens) → AreInOrder (last_byte done + 1) rest n → ((y : Fault Kind) → Among y (last_faults (last_byte done) f (next_piece rest)) → kind_number x.kind ≤ kind_number y.kind) → run programs n (Going (Some x) done f) rest ≡ Refused x
     go [] o least =
-        ap (λ b. ended programs b (finish f) (off_at programs n f [])) (stays_among x (shown.front_faults n done f []) (none_of x _ (place [] (omega (arith, o)) least)))
+        ap (λ b. ended programs b (finish f) (off_at programs n f [])) (stays_among x (shown.front_faults n done f []) (none_of x _ (state [] (omega (arith, o)) least)))
         ∙ ended_stays n x (off_at programs n f []) (finish f) (later x (off_at programs n f []) (omega (arith, h, o)))
     go (t ∷ rest) o least =
         let p = o.0 in let q = o.1 in
-        ap (λ b. run programs n (further programs b done t (step f t.piece) (off_at programs n f (t ∷ rest))) rest) (stays_among x (shown.front_faults n done f (t ∷ rest)) (none_of x _ (place (t ∷ rest) (omega (arith, p)) least)))
+        ap (λ b. run programs n (further programs b done t (step f t.piece) (off_at programs n f (t ∷ rest))) rest) (stays_among x (shown.front_faults n done f (t ∷ rest)) (none_of x _ (state (t ∷ rest) (omega (arith, p)) least)))
         ∙ further_stays n x (off_at programs n f (t ∷ rest)) done t rest (step f t.piece) (later x (off_at programs n f (t ∷ rest)) (omega (arith, h, p)))
         (λ g e. answer_before rest n (t ∷ done) g x (omega (arith, h, p, q)) (ordered rest t.upto (t.upto - 1 + 1) n (omega (arith, q)) o.2))

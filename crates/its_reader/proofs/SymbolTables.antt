@@ -58,7 +58,7 @@ symbols_with symbols name arity old new k n a = record {
     test = ap (λ ns. nat_lt (position_of name ns) (length old.arities.items)) k.names
         ∙ (ap (nat_lt (position_of name (names_of symbols))) (ap length k.arities ∙ same_length symbols) ∙ below_is name (names_of symbols))
 
--- the number of places stands at the symbol's number
+-- the arity of a symbol is at the symbol's number
 pub arity_at : (symbols : List Symbol) (name : Name) → get_or (arities_of symbols) (position_of name (names_of symbols)) 0 ≡ arity_of symbols name
 arity_at [] name = refl
 arity_at (s ∷ symbols) name = go (is_same name s.name) refl (arity_at symbols name)

@@ -26,7 +26,7 @@ use Rattle.expr_reader.specs.Faults.{ends_before}
 use Rattle.expr_reader.specs.GuardParts.{is_read, is_wanting}
 use Rattle.expr_reader.specs.GuardStanding as standing
 use Rattle.expr_reader.specs.GuardStanding.{atoms_in, atoms_of, atoms_before, limited_atom, IsWanting, IsInLeft, IsOpen}
-use Rattle.expr_reader.specs.GuardStanding.{IsEnded, IsSettled, settled_none, settled_left, settled_right, settled_end}
+use Rattle.expr_reader.specs.GuardStanding.{IsEnded, IsPartEnded, part_ended_none, part_ended_left, part_ended_right, part_ended_end}
 use Rattle.expr_reader.specs.GuardStanding.{joined_only}
 use Rattle.expr_reader.specs.Standing.{Stands}
 use Rattle.expr_reader.specs.declared.guard.GuardReader.{GuardReader}
@@ -45,14 +45,14 @@ use Rattle.its_text.specs.FrontFaults.{can_end, ends_expression, is_full, open_e
 use Rattle.its_text.specs.FrontFaults.{token_faults, next_faults}
 use Rattle.its_reader.specs.Tests.{inner_next}
 use Rattle.its_reader.specs.Standing.{KnowsLed, cost_of}
-use Rattle.its_reader.specs.Places.{TailSettled, IsGuard, IsHeaded}
+use Rattle.its_reader.specs.Places.{TailPartEnded, IsGuard, IsHeaded}
 use Rattle.its_reader.specs.FaultTests.{IsDigital, truth_in, step_faults, atom_faults, atoms_fill, atoms_full}
 use Rattle.its_reader.specs.FaultTests.{rule_faults}
 use Rattle.its_reader.specs.FaultTests.{mark_faults, behind_atoms_faults, guard_faults, tail_faults}
-use Rattle.its_reader.specs.declared.place.Fence.{Fence}
-use Rattle.its_reader.specs.declared.place.Fence.TheVariants as fences
-use Rattle.its_reader.specs.declared.place.TailPlace.{TailPlace}
-use Rattle.its_reader.specs.declared.place.TailPlace.TheVariants as tails
+use Rattle.its_reader.specs.declared.parser_state.GuardOpening.{GuardOpening}
+use Rattle.its_reader.specs.declared.parser_state.GuardOpening.TheVariants as fences
+use Rattle.its_reader.specs.declared.parser_state.TailState.{TailState}
+use Rattle.its_reader.specs.declared.parser_state.TailState.TheVariants as tails
 use Rattle.its_reader.specs.declared.draft.Draft.{Draft}
 use Rattle.its_reader.proofs.LeftNotes.{length-push, length-terms, as_many_rules}
 use Rattle.its_reader.proofs.RightNotes.{not_none}
@@ -152,13 +152,13 @@ ended_stops g p h = go g (expression_steps.step (expression_in g) p) h
     go (RightSide c l sign e) (Some more) h = cc
 
 -- what shows a rule too many
-abbrev rules_shown : Fence → Headed → GuardFront → Option Piece → Bool
+abbrev rules_shown : GuardOpening → Headed → GuardFront → Option Piece → Bool
 rules_shown fences.Mark h g next = is_word next && ends_expression (expression_in g) next && can_end (guards.finish g) && are_full (rule_with h NoGuard ∷ h.led.ruling.rules)
 rules_shown fences.Square h g next = false
 
 module _ (ts : Tokens) (at : ℕ) (next behind : Option Piece) (d : Draft) (digital : IsDigital next) where
   -- what a guard shows
-  guarded_shows : (fence : Fence) (h : Headed) (g : GuardFront) → next_faults at (guarded fence h g) next behind
+  guarded_shows : (fence : GuardOpening) (h : Headed) (g : GuardFront) → next_faults at (guarded fence h g) next behind
       ≡ fault_if (rules_shown fence h g next) (Limit TooManyRules) at ++ fault_if (is_full (atoms_of_cost h.led.cost) g && begins next) (Limit TooManyAtoms) at ++ fault_if (long_name next) (Limit LongName) at ++ token_faults at (open_expression_in (headed_names h) g) next behind
   guarded_shows fences.Mark h g = ap (λ xs. xs ++ fault_if (is_full (atoms_of_cost h.led.cost) g && begins next) (Limit TooManyAtoms) at ++ fault_if (long_name next) (Limit LongName) at ++ token_faults at (open_expression_in (headed_names h) g) next behind)
       (append-nil (fault_if (rules_shown fences.Mark h g next) (Limit TooManyRules) at))
@@ -172,16 +172,16 @@ module _ (ts : Tokens) (at : ℕ) (next behind : Option Piece) (d : Draft) (digi
   word_shows h name (Some _) = refl
 
   -- the word of the atom that always holds
-  truth_shows : (g : OpenExpression) → is_wanting d.rule.guard.place ≡ (g.leads_atom && (token_count g.front == 0))
+  truth_shows : (g : OpenExpression) → is_wanting d.rule.guard.state ≡ (g.leads_atom && (token_count g.front == 0))
       → (p : inner.Piece) (name : Name) → next ≡ Some (In p) → p ≡ inner.Word name → truth_in d.rule.guard (inner_next next) (inner_next behind) ≡ is_truth g name behind
   truth_shows g w p name e is =
       ap (λ o. truth_in d.rule.guard (inner_next o) (inner_next behind)) e
       ∙ (ap (λ p. truth_in d.rule.guard (Some p) (inner_next behind)) is
-      ∙ (ap (λ v. is_wanting d.rule.guard.place && truth_worded name && not v) (operating_is behind) ∙ ap (λ v. v && truth_worded name && not (shown.is_operating behind)) w))
+      ∙ (ap (λ v. is_wanting d.rule.guard.state && truth_worded name && not v) (operating_is behind) ∙ ap (λ v. v && truth_worded name && not (shown.is_operating behind)) w))
 
   -- an atom
   atom_shows : (names : List Name) (g : GuardFront) → Stands (before_expression names g) (expression_in g) (names_in d.rule.variables) d.rule.guard.expression
-      → is_wanting d.rule.guard.place ≡ (is_left_side g && (token_count (expression_in g) == 0))
+      → is_wanting d.rule.guard.state ≡ (is_left_side g && (token_count (expression_in g) == 0))
       → token_faults at (open_expression_in names g) next behind ≡ step_faults d.rule d.rule.guard.expression (truth_in d.rule.guard (inner_next next) (inner_next behind)) at (inner_next next)
   atom_shows names g s w = going_is at now d.rule d.rule.guard.expression (truth_in d.rule.guard (inner_next next) (inner_next behind)) behind s next digital (truth_shows now w)
     where
@@ -189,9 +189,9 @@ module _ (ts : Tokens) (at : ℕ) (next behind : Option Piece) (d : Draft) (digi
       now = record { names = before_expression names g; front = expression_in g; leads_atom = is_left_side g }
 
   -- within an atom
-  unread_shows : (fence : Fence) (h : Headed) (g : GuardFront) → rules_shown fence h g next ≡ false → is_full (atoms_of_cost h.led.cost) g && begins next ≡ atoms_full d.rule next → is_read d.rule.guard.place ≡ false
-      → Stands (before_expression (headed_names h) g) (expression_in g) (names_in d.rule.variables) d.rule.guard.expression → is_wanting d.rule.guard.place ≡ (is_left_side g && (token_count (expression_in g) == 0))
-      → next_faults at (guarded fence h g) next behind ≡ guard_faults (is_read d.rule.guard.place) fence d at next behind
+  unread_shows : (fence : GuardOpening) (h : Headed) (g : GuardFront) → rules_shown fence h g next ≡ false → is_full (atoms_of_cost h.led.cost) g && begins next ≡ atoms_full d.rule next → is_read d.rule.guard.state ≡ false
+      → Stands (before_expression (headed_names h) g) (expression_in g) (names_in d.rule.variables) d.rule.guard.expression → is_wanting d.rule.guard.state ≡ (is_left_side g && (token_count (expression_in g) == 0))
+      → next_faults at (guarded fence h g) next behind ≡ guard_faults (is_read d.rule.guard.state) fence d at next behind
   unread_shows fence h g rules full read s w =
       guarded_shows fence h g
       ∙ ((λ i. fault_if (rules i) (Limit TooManyRules) at ++ fault_if (full i) (Limit TooManyAtoms) at ++ fault_if (long_name next) (Limit LongName) at ++ atom_shows (headed_names h) g s w i)
@@ -199,7 +199,7 @@ module _ (ts : Tokens) (at : ℕ) (next behind : Option Piece) (d : Draft) (digi
       ∙ sym (ap (λ v. guard_faults v fence d at next behind) read)))
 
   -- no rule begins within an atom
-  no_rule : (fence : Fence) (h : Headed) (g : GuardFront) → (is_word next ≡ true → ends_expression (expression_in g) next ≡ true → guards.finish g ≡ None) → rules_shown fence h g next ≡ false
+  no_rule : (fence : GuardOpening) (h : Headed) (g : GuardFront) → (is_word next ≡ true → ends_expression (expression_in g) next ≡ true → guards.finish g ≡ None) → rules_shown fence h g next ≡ false
   no_rule fences.Square h g none = refl
   no_rule fences.Mark h g none = go (is_word next) refl (ends_expression (expression_in g) next) refl
     where
@@ -215,7 +215,7 @@ module _ (ts : Tokens) (at : ℕ) (next behind : Option Piece) (d : Draft) (digi
   word_rests (Some (In _)) e = cc
   word_rests (Some _) e = cc
 
-  counted : (n : ℕ) (cost : Option Sum) (names : List Name) → length d.rule.guard.atoms.items ≡ n → option_map term_of d.rule.cost ≡ cost_of names cost → is_wanting d.rule.guard.place ≡ true
+  counted : (n : ℕ) (cost : Option Sum) (names : List Name) → length d.rule.guard.atoms.items ≡ n → option_map term_of d.rule.cost ≡ cost_of names cost → is_wanting d.rule.guard.state ≡ true
       → nat_le atom_limit (n + atoms_of_cost cost) && begins next ≡ atoms_full d.rule next
   counted n cost names e same w =
       sym (ap (λ v. v && atoms_fill d.rule && begins next) w
@@ -223,17 +223,17 @@ module _ (ts : Tokens) (at : ℕ) (next behind : Option Piece) (d : Draft) (digi
       ∙ ap (λ m. nat_le atom_limit (n + m) && begins next) (ap cost_atoms same ∙ cost_counted names cost)))
 
   -- an atom is wanted
-  wanting_full : (l : Led) (names : List Name) (c : Conjoined) → KnowsLed ts l d → atoms_in d.rule.guard ≡ atoms_before names c → is_wanting d.rule.guard.place ≡ true → is_full (atoms_of_cost l.cost) (LeftSide c beginning) && begins next ≡ atoms_full d.rule next
+  wanting_full : (l : Led) (names : List Name) (c : Conjoined) → KnowsLed ts l d → atoms_in d.rule.guard ≡ atoms_before names c → is_wanting d.rule.guard.state ≡ true → is_full (atoms_of_cost l.cost) (LeftSide c beginning) && begins next ≡ atoms_full d.rule next
   wanting_full l names NoAtoms k a w = few_beside (begins next) l.cost ∙ counted 0 l.cost (left_names l.left) (sym (length-terms atom_of d.rule.guard.atoms.items) ∙ ap length a) k.cost_is w
   wanting_full l names (JointAfter atoms joint) k a w = counted (count_of atoms) l.cost (left_names l.left) (as_many_atoms names atoms d.rule.guard a) k.cost_is w
 
-  wanting_shows : (fence : Fence) (h : Headed) (g : GuardFront) → KnowsLed ts h.led d → IsWanting (headed_names h) g (names_in d.rule.variables) d.rule.guard → next_faults at (guarded fence h g) next behind ≡ guard_faults (is_read d.rule.guard.place) fence d at next behind
+  wanting_shows : (fence : GuardOpening) (h : Headed) (g : GuardFront) → KnowsLed ts h.led d → IsWanting (headed_names h) g (names_in d.rule.variables) d.rule.guard → next_faults at (guarded fence h g) next behind ≡ guard_faults (is_read d.rule.guard.state) fence d at next behind
   wanting_shows fence h g led k =
-      subst (λ g. next_faults at (guarded fence h g) next behind ≡ guard_faults (is_read d.rule.guard.place) fence d at next behind) (sym k.front_is)
+      subst (λ g. next_faults at (guarded fence h g) next behind ≡ guard_faults (is_read d.rule.guard.state) fence d at next behind) (sym k.front_is)
       (unread_shows fence h (LeftSide k.conjoined beginning) (no_rule fence h (LeftSide k.conjoined beginning) (λ a b. refl))
-      (wanting_full h.led (names_in d.rule.variables) k.conjoined led k.atoms_are (ap is_wanting k.place_is)) (ap is_read k.place_is)
+      (wanting_full h.led (names_in d.rule.variables) k.conjoined led k.atoms_are (ap is_wanting k.state_is)) (ap is_read k.state_is)
       (subst (λ ns. Stands ns beginning (names_in d.rule.variables) d.rule.guard.expression) k.names_are (fresh_stands (names_in d.rule.variables) d.rule.guard.expression k.expression))
-      (ap is_wanting k.place_is))
+      (ap is_wanting k.state_is))
 
   -- some of a left side
   positive : (n : ℕ) → 0 < n → (n == 0) ≡ false
@@ -243,30 +243,30 @@ module _ (ts : Tokens) (at : ℕ) (next behind : Option Piece) (d : Draft) (digi
   begun_full others NoAtoms e b = refl
   begun_full others (JointAfter atoms joint) e b = rw b refl
 
-  left_shows : (fence : Fence) (h : Headed) (g : GuardFront) → IsInLeft (inner_next next) (headed_names h) g (names_in d.rule.variables) d.rule.guard → next_faults at (guarded fence h g) next behind ≡ guard_faults (is_read d.rule.guard.place) fence d at next behind
+  left_shows : (fence : GuardOpening) (h : Headed) (g : GuardFront) → IsInLeft (inner_next next) (headed_names h) g (names_in d.rule.variables) d.rule.guard → next_faults at (guarded fence h g) next behind ≡ guard_faults (is_read d.rule.guard.state) fence d at next behind
   left_shows fence h g k =
-      subst (λ g. next_faults at (guarded fence h g) next behind ≡ guard_faults (is_read d.rule.guard.place) fence d at next behind) (sym k.front_is)
+      subst (λ g. next_faults at (guarded fence h g) next behind ≡ guard_faults (is_read d.rule.guard.state) fence d at next behind) (sym k.front_is)
       (unread_shows fence h (LeftSide k.conjoined k.read) (no_rule fence h (LeftSide k.conjoined k.read) (λ a b. ap (ended k.conjoined) (k.follows (word_rests next a))))
-      (ap (λ v. v && begins next) (begun_full (atoms_of_cost h.led.cost) k.conjoined k.read begun) ∙ sym (ap (λ v. v && atoms_fill d.rule && begins next) wanting)) (ap is_read k.place_is) k.expression
+      (ap (λ v. v && begins next) (begun_full (atoms_of_cost h.led.cost) k.conjoined k.read begun) ∙ sym (ap (λ v. v && atoms_fill d.rule && begins next) wanting)) (ap is_read k.state_is) k.expression
       (wanting ∙ sym begun))
     where
       begun : (token_count k.read == 0) ≡ false
       begun = positive (token_count k.read) k.begun
 
-      wanting : is_wanting d.rule.guard.place ≡ false
-      wanting = ap is_wanting k.place_is
+      wanting : is_wanting d.rule.guard.state ≡ false
+      wanting = ap is_wanting k.state_is
 
   -- some of a right side
-  right_shows : (fence : Fence) (h : Headed) (g : GuardFront) → IsOpen (inner_next next) (headed_names h) g (names_in d.rule.variables) d.rule.guard → next_faults at (guarded fence h g) next behind ≡ guard_faults (is_read d.rule.guard.place) fence d at next behind
+  right_shows : (fence : GuardOpening) (h : Headed) (g : GuardFront) → IsOpen (inner_next next) (headed_names h) g (names_in d.rule.variables) d.rule.guard → next_faults at (guarded fence h g) next behind ≡ guard_faults (is_read d.rule.guard.state) fence d at next behind
   right_shows fence h g k =
-      subst (λ g. next_faults at (guarded fence h g) next behind ≡ guard_faults (is_read d.rule.guard.place) fence d at next behind) (sym k.right.front_is)
+      subst (λ g. next_faults at (guarded fence h g) next behind ≡ guard_faults (is_read d.rule.guard.state) fence d at next behind) (sym k.right.front_is)
       (unread_shows fence h (RightSide k.right.conjoined k.right.left k.right.sign k.right.read)
       (no_rule fence h (RightSide k.right.conjoined k.right.left k.right.sign k.right.read)
       (λ a b. ap (λ o. ended k.right.conjoined (compared k.right.left k.right.sign o)) (k.goes_on (sym (ends_is k.right.read next) ∙ b))))
-      (sym (ap (λ v. v && atoms_fill d.rule && begins next) wanting)) (ap is_read k.right.place_is) k.right.expression wanting)
+      (sym (ap (λ v. v && atoms_fill d.rule && begins next) wanting)) (ap is_read k.right.state_is) k.right.expression wanting)
     where
-      wanting : is_wanting d.rule.guard.place ≡ false
-      wanting = ap is_wanting k.right.place_is
+      wanting : is_wanting d.rule.guard.state ≡ false
+      wanting = ap is_wanting k.right.state_is
 
   -- an atom that has ended
   ended_silent : (names : List Name) (g : GuardFront) (next : Option Piece) → ((p : inner.Piece) → inner_next next ≡ Some p → goes_on_with (expression_in g) p ≡ false) → token_faults at (open_expression_in names g) next behind ≡ []
@@ -279,9 +279,9 @@ module _ (ts : Tokens) (at : ℕ) (next behind : Option Piece) (d : Draft) (digi
   word_ends e (Some (In p)) stops = ap not (stops p refl)
   word_ends e (Some _) stops = refl
 
-  ended_shows : (fence : Fence) (h : Headed) (g : GuardFront) → length d.rules.items ≡ length h.led.ruling.rules
-      → IsEnded (inner_next next) (headed_names h) g (names_in d.rule.variables) d.rule.guard → next_faults at (guarded fence h g) next behind ≡ guard_faults (is_read d.rule.guard.place) fence d at next behind
-  ended_shows fence h g rules k = guarded_shows fence h g ∙ (by fence ∙ sym (ap (λ v. guard_faults v fence d at next behind) (ap is_read k.place_is)))
+  ended_shows : (fence : GuardOpening) (h : Headed) (g : GuardFront) → length d.rules.items ≡ length h.led.ruling.rules
+      → IsEnded (inner_next next) (headed_names h) g (names_in d.rule.variables) d.rule.guard → next_faults at (guarded fence h g) next behind ≡ guard_faults (is_read d.rule.guard.state) fence d at next behind
+  ended_shows fence h g rules k = guarded_shows fence h g ∙ (by fence ∙ sym (ap (λ v. guard_faults v fence d at next behind) (ap is_read k.state_is)))
     where
       stops : (p : inner.Piece) → inner_next next ≡ Some p → goes_on_with (expression_in g) p ≡ false
       stops p e = ended_stops g p (k.joins p e)
@@ -294,7 +294,7 @@ module _ (ts : Tokens) (at : ℕ) (next behind : Option Piece) (d : Draft) (digi
           (λ i. is_word next && word_ends (expression_in g) next stops i && can_end (k.finish_is i) && nat_le rule_limit (suc (sym rules i)))
           ∙ kept (is_word next) (nat_le rule_limit (suc (length d.rules.items)))
 
-      by : (fence : Fence) → fault_if (rules_shown fence h g next) (Limit TooManyRules) at ++ fault_if (is_full (atoms_of_cost h.led.cost) g && begins next) (Limit TooManyAtoms) at ++ fault_if (long_name next) (Limit LongName) at ++ token_faults at (open_expression_in (headed_names h) g) next behind
+      by : (fence : GuardOpening) → fault_if (rules_shown fence h g next) (Limit TooManyRules) at ++ fault_if (is_full (atoms_of_cost h.led.cost) g && begins next) (Limit TooManyAtoms) at ++ fault_if (long_name next) (Limit LongName) at ++ token_faults at (open_expression_in (headed_names h) g) next behind
           ≡ behind_atoms_faults fence d at next
       by fences.Mark =
           (λ i. fault_if (shows_rules i) (Limit TooManyRules) at ++ fault_if (full_never (atoms_of_cost h.led.cost) g k.atoms k.finish_is i && begins next) (Limit TooManyAtoms) at ++ fault_if (long_name next) (Limit LongName) at ++ silent i)
@@ -302,15 +302,15 @@ module _ (ts : Tokens) (at : ℕ) (next behind : Option Piece) (d : Draft) (digi
       by fences.Square =
           (λ i. fault_if (full_never (atoms_of_cost h.led.cost) g k.atoms k.finish_is i && begins next) (Limit TooManyAtoms) at ++ fault_if (long_name next) (Limit LongName) at ++ silent i) ∙ append-nil (fault_if (long_name next) (Limit LongName) at)
 
-  settled_shows : (fence : Fence) (h : Headed) (g : GuardFront) → KnowsLed ts h.led d → length d.rules.items ≡ length h.led.ruling.rules → IsSettled (inner_next next) (headed_names h) g (names_in d.rule.variables) d.rule.guard
-      → next_faults at (guarded fence h g) next behind ≡ guard_faults (is_read d.rule.guard.place) fence d at next behind
-  settled_shows fence h g led rules (settled_none k) = wanting_shows fence h g led k
-  settled_shows fence h g led rules (settled_left k) = left_shows fence h g k
-  settled_shows fence h g led rules (settled_right k) = right_shows fence h g k
-  settled_shows fence h g led rules (settled_end k) = ended_shows fence h g rules k
+  part_ended_shows : (fence : GuardOpening) (h : Headed) (g : GuardFront) → KnowsLed ts h.led d → length d.rules.items ≡ length h.led.ruling.rules → IsPartEnded (inner_next next) (headed_names h) g (names_in d.rule.variables) d.rule.guard
+      → next_faults at (guarded fence h g) next behind ≡ guard_faults (is_read d.rule.guard.state) fence d at next behind
+  part_ended_shows fence h g led rules (part_ended_none k) = wanting_shows fence h g led k
+  part_ended_shows fence h g led rules (part_ended_left k) = left_shows fence h g k
+  part_ended_shows fence h g led rules (part_ended_right k) = right_shows fence h g k
+  part_ended_shows fence h g led rules (part_ended_end k) = ended_shows fence h g rules k
 
   -- the front is that of the guard
-  front_shows : (fence : Fence) (h : Headed) (g : GuardFront) (f : Front) → IsGuard next fence h g f → next_faults at f next behind ≡ next_faults at (guarded fence h g) next behind
+  front_shows : (fence : GuardOpening) (h : Headed) (g : GuardFront) (f : Front) → IsGuard next fence h g f → next_faults at f next behind ≡ next_faults at (guarded fence h g) next behind
   front_shows fences.Square h g f e = ap (λ f. next_faults at f next behind) e
   front_shows fences.Mark h g f (inl e) = ap (λ f. next_faults at f next behind) e
   front_shows fences.Mark h g f (inr (name, (e, (is, closed)))) = ap (λ f. next_faults at f next behind) e ∙ (word_shows h name next ∙ ap (λ g. next_faults at (fronts.MarkGuarding h g) next behind) (sym is))
@@ -323,7 +323,7 @@ module _ (ts : Tokens) (at : ℕ) (next behind : Option Piece) (d : Draft) (digi
           → token_faults at (open_expression_in (headed_names h) no_atoms) next behind ≡ step_faults d.rule d.rule.guard.expression (truth_in d.rule.guard (inner_next next) (inner_next behind)) at (inner_next next)
       go w = atom_shows (headed_names h) no_atoms
           (subst (λ ns. Stands ns beginning (names_in d.rule.variables) d.rule.guard.expression) k.names_are (fresh_stands (names_in d.rule.variables) d.rule.guard.expression w.expression))
-          (ap is_wanting w.place_is)
+          (ap is_wanting w.state_is)
 
   marked_shows : (h : Headed) → IsHeaded ts h d → length d.rules.items ≡ length h.led.ruling.rules → (v w : Bool) → is_word next ≡ v → is_open behind ≡ w
       → fault_if (v && w && are_full (rule_with h NoGuard ∷ h.led.ruling.rules)) (Limit TooManyRules) at ++ [] ++ [] ++ fault_if (long_name next) (Limit LongName) at ++ token_faults at (if v && w then None else open_expression_in (headed_names h) no_atoms) next behind
@@ -333,8 +333,8 @@ module _ (ts : Tokens) (at : ℕ) (next behind : Option Piece) (d : Draft) (digi
   marked_shows h k rules false w a b = fresh_shows h k
 
   -- what a front behind a target shows at the next token is what the code finds there
-  pub tail_next : (place : TailPlace) (f : Front) → TailSettled ts next place d f → next_faults at f next behind ≡ tail_faults place d at next behind
+  pub tail_next : (state : TailState) (f : Front) → TailPartEnded ts next state d f → next_faults at f next behind ≡ tail_faults state d at next behind
   tail_next tails.Targeted f k = rw (k.1.0, as_many_rules k.0.led.ruling.rules d k.1.1.0.headed.led.rules_are) (simp append-nil)
   tail_next tails.GuardMarked f k = rw k.1.0 (marked_shows k.0 k.1.1 (as_many_rules k.0.led.ruling.rules d k.1.1.headed.led.rules_are) (is_word next) (is_open behind) refl refl)
   tail_next tails.SquareOpened f k = rw k.1.0 (fresh_shows k.0 k.1.1)
-  tail_next (tails.Guarding fence) f k = front_shows fence k.0 k.1.0 f k.1.1.0 ∙ settled_shows fence k.0 k.1.0 k.1.1.1.0.led (as_many_rules k.0.led.ruling.rules d k.1.1.1.0.led.rules_are) k.1.1.1.1.1
+  tail_next (tails.Guarding fence) f k = front_shows fence k.0 k.1.0 f k.1.1.0 ∙ part_ended_shows fence k.0 k.1.0 k.1.1.1.0.led (as_many_rules k.0.led.ruling.rules d k.1.1.1.0.led.rules_are) k.1.1.1.1.1

@@ -10,7 +10,7 @@ use Rattle.expr_reader.specs.Variables.{names_in}
 use Rattle.expr_reader.specs.Standing.{IsFresh}
 use Rattle.expr_reader.specs.GuardParts.{is_read}
 use Rattle.expr_reader.specs.GuardStanding as standing
-use Rattle.expr_reader.specs.GuardStanding.{limited_atom, IsWanting, IsEnded, IsSettled, settled_none, joined_only}
+use Rattle.expr_reader.specs.GuardStanding.{limited_atom, IsWanting, IsEnded, IsPartEnded, part_ended_none, joined_only}
 use Rattle.its_text.specs.Pieces.{Piece, In, GuardMark, SquareOpen, SquareClose, open_bracket}
 use Rattle.its_text.specs.Written.{NoGuard, BehindMark, InSquares}
 use Rattle.its_text.specs.Fronts as fronts
@@ -21,17 +21,17 @@ use Rattle.its_text.specs.FrontFaults as shown
 use Rattle.its_text.specs.FrontFaults.{Tokens}
 use Rattle.its_reader.specs.Tests as tests
 use Rattle.its_reader.specs.Standing.{KnowsHeaded, KnowsSource}
-use Rattle.its_reader.specs.Places.{TailSettled, LeadsTo, IsHeaded, IsSource}
-use Rattle.its_reader.specs.PlaceSteps.{GoTogether, IsModestPiece, TailLeads, RuleLeads}
-use Rattle.its_reader.specs.TailSteps.{KnowsWhole, RuleEnds, WholeLeads, guarding_if, AtomTakes, ShutsIf, SquareEnds}
+use Rattle.its_reader.specs.Places.{TailPartEnded, LeadsTo, IsHeaded, IsSource}
+use Rattle.its_reader.specs.StateSteps.{GoTogether, IsModestPiece, TailLeads, RuleLeads}
+use Rattle.its_reader.specs.TailSteps.{KnowsWhole, RuleEnds, WholeLeads, guarding_if, AtomTakes, ClosesIf, SquareEnds}
 use Rattle.its_reader.specs.TailSteps.{GuardEnds, GuardIsEnded}
-use Rattle.its_reader.specs.declared.place.Fence.{Fence}
-use Rattle.its_reader.specs.declared.place.Fence.TheVariants as fences
-use Rattle.its_reader.specs.declared.place.LeftPlace.TheVariants as lefts
-use Rattle.its_reader.specs.declared.place.TailPlace.{TailPlace}
-use Rattle.its_reader.specs.declared.place.TailPlace.TheVariants as tails
-use Rattle.its_reader.specs.declared.place.Place.{Place}
-use Rattle.its_reader.specs.declared.place.Place.TheVariants as places
+use Rattle.its_reader.specs.declared.parser_state.GuardOpening.{GuardOpening}
+use Rattle.its_reader.specs.declared.parser_state.GuardOpening.TheVariants as fences
+use Rattle.its_reader.specs.declared.parser_state.SourceState.TheVariants as lefts
+use Rattle.its_reader.specs.declared.parser_state.TailState.{TailState}
+use Rattle.its_reader.specs.declared.parser_state.TailState.TheVariants as tails
+use Rattle.its_reader.specs.declared.parser_state.ParserState.{ParserState}
+use Rattle.its_reader.specs.declared.parser_state.ParserState.TheVariants as places
 use Rattle.its_reader.specs.declared.draft.Draft.{Draft}
 use Rattle.its_reader.proofs.LeftLaws.{leads_together, ruled_stops}
 use Rattle.its_reader.proofs.TailLaws.{whole_rule, whole_bare, whole_marked, whole_squared}
@@ -39,16 +39,16 @@ use Rattle.its_reader.proofs.GuardLaws.{guarded, ended_of, front_step, atom_each
 use Rattle.std.proofs.lemmas.Bool.{or_parts as neither}
 
 -- where a piece leads whatever its number is
-always_tail : (place : TailPlace) (p : Piece) (behind : Option Piece) (old new : Draft) (result : Option Place)
-    → ((ts : Tokens) (f : Front) → TailSettled ts (Some p) place old f → LeadsTo ts behind (step f p) result new) → TailLeads place old p behind result new
-always_tail place p behind old new result h = record {
+always_tail : (state : TailState) (p : Piece) (behind : Option Piece) (old new : Draft) (result : Option ParserState)
+    → ((ts : Tokens) (f : Front) → TailPartEnded ts (Some p) state old f → LeadsTo ts behind (step f p) result new) → TailLeads state old p behind result new
+always_tail state p behind old new result h = record {
   together = λ ts f k. leads_together ts behind (step f p) result new (h ts f k);
   each = λ ts f k modest. h ts f k;
 }
 
--- the place behind a target may be told by an equation
-pub in_tail_place : (place known : TailPlace) (old new : Draft) (p : Piece) (behind : Option Piece) (result : Option Place) → place ≡ known → TailLeads known old p behind result new → TailLeads place old p behind result new
-in_tail_place place known old new p behind result e h = subst (λ (q : TailPlace). TailLeads q old p behind result new) (sym e) h
+-- the same for a state behind a target that is given by an equation
+pub in_tail_state : (state known : TailState) (old new : Draft) (p : Piece) (behind : Option Piece) (result : Option ParserState) → state ≡ known → TailLeads known old p behind result new → TailLeads state old p behind result new
+in_tail_state state known old new p behind result e h = subst (λ (q : TailState). TailLeads q old p behind result new) (sym e) h
 
 -- `:|:` and `[` behind a target
 pub targeted_marks : (p : Piece) (behind : Option Piece) (d : Draft) → tests.marks p ≡ true → TailLeads tails.Targeted d p behind (Some (places.InTail tails.GuardMarked)) d
@@ -67,14 +67,14 @@ targeted_squares p behind d m = always_tail tails.Targeted p behind d d _ (λ ts
     go ts h k _ m = cc
 
 -- what follows a rule without a guard
-targeted_step : (h : Headed) (p : Piece) → tests.marks p ≡ false → tests.opens_square p ≡ false → step (fronts.Targeted h) p ≡ step (fronts.Ruled (ruling_with h NoGuard)) p
+targeted_step : (h : Headed) (p : Piece) → tests.marks p ≡ false → tests.opens_square p ≡ false → step (fronts.Targeted h) p ≡ step (fronts.AfterRule (ruling_with h NoGuard)) p
 targeted_step h GuardMark m s = cc
 targeted_step h SquareOpen m s = cc
 targeted_step h (In _) m s = refl
 targeted_step h _ m s = refl
 
 -- what follows a target and begins no guard leads on as behind a whole rule
-pub targeted_ends : (p : Piece) (behind : Option Piece) (old new : Draft) (result : Option Place) → tests.marks p ≡ false → tests.opens_square p ≡ false → WholeLeads old p result new → TailLeads tails.Targeted old p behind result new
+pub targeted_ends : (p : Piece) (behind : Option Piece) (old new : Draft) (result : Option ParserState) → tests.marks p ≡ false → tests.opens_square p ≡ false → WholeLeads old p result new → TailLeads tails.Targeted old p behind result new
 targeted_ends p behind old new result m s w = always_tail tails.Targeted p behind old new result (λ ts f k.
     subst (λ o. LeadsTo ts behind o result new) (sym (ap (λ f. step f p) k.1.0 ∙ targeted_step k.0 p m s)) (w.each ts behind k.0 NoGuard (whole_bare ts k.0 old k.1.1.0)))
 
@@ -106,25 +106,25 @@ module _ (ts : Tokens) (behind : Option Piece) (h : Headed) (name : Name) (new :
       go r n (inr (g, (e, more))) known = cc
 
 -- what ends before a rule, or before the end of the section, directly behind `:|:`
-pub marked_ends : (p : Piece) (behind : Option Piece) (old new : Draft) (result : Option Place) → tests.closes p || (tests.names p && tests.is_open behind) ≡ true → WholeLeads old p result new → TailLeads tails.GuardMarked old p behind result new
+pub marked_ends : (p : Piece) (behind : Option Piece) (old new : Draft) (result : Option ParserState) → tests.closes p || (tests.names p && tests.is_open behind) ≡ true → WholeLeads old p result new → TailLeads tails.GuardMarked old p behind result new
 marked_ends p behind old new result c w = always_tail tails.GuardMarked p behind old new result (λ ts f k. rw k.1.0 (go ts k.0 k.1.1 p c w))
   where
     go : (ts : Tokens) (h : Headed) → IsHeaded ts h old → (p : Piece) → tests.closes p || (tests.names p && tests.is_open behind) ≡ true → WholeLeads old p result new → LeadsTo ts behind (step (fronts.GuardMarked h) p) result new
     go ts h k (In inner.Close) c w = w.each ts behind h (BehindMark None) (whole_marked ts h old k)
     go ts h k (In (inner.Word name)) c w =
         let is : result ≡ Some (places.InLeft lefts.SourceNamed) = w.sourced name refl in
-        subst (λ (o : Option Place). LeadsTo ts behind (Some (fronts.WordRead h name)) o new) (sym is)
+        subst (λ (o : Option ParserState). LeadsTo ts behind (Some (fronts.WordRead h name)) o new) (sym is)
         (source_read ts behind h name new (open_is behind c)
-        (subst (λ (o : Option Place). LeadsTo ts behind (Some (fronts.SourceNamed (ruling_with h (BehindMark None)) name)) o new) is (w.each ts behind h (BehindMark None) (whole_marked ts h old k))))
+        (subst (λ (o : Option ParserState). LeadsTo ts behind (Some (fronts.SourceNamed (ruling_with h (BehindMark None)) name)) o new) is (w.each ts behind h (BehindMark None) (whole_marked ts h old k))))
     go ts h k (In _) c w = cc
     go ts h k _ c w = cc
 
 -- nothing of a guard has been read
-nothing_read : (ts : Tokens) (h : Headed) (d : Draft) (next : Option inner.Piece) → IsHeaded ts h d → IsSettled next (headed_names h) no_atoms (names_in d.rule.variables) d.rule.guard
-nothing_read ts h d next k = settled_none (subst (λ ns. IsWanting (headed_names h) no_atoms ns d.rule.guard) (sym k.names_are) (k.guard (headed_names h)))
+nothing_read : (ts : Tokens) (h : Headed) (d : Draft) (next : Option inner.Piece) → IsHeaded ts h d → IsPartEnded next (headed_names h) no_atoms (names_in d.rule.variables) d.rule.guard
+nothing_read ts h d next k = part_ended_none (subst (λ ns. IsWanting (headed_names h) no_atoms ns d.rule.guard) (sym k.names_are) (k.guard (headed_names h)))
 
-unread_at : (ts : Tokens) (h : Headed) (d : Draft) (p : Piece) → IsHeaded ts h d → not (is_read d.rule.guard.place) || tests.joins p ≡ true
-unread_at ts h d p k = ap (λ place. not (is_read place) || tests.joins p) (k.guard (headed_names h)).place_is
+unread_at : (ts : Tokens) (h : Headed) (d : Draft) (p : Piece) → IsHeaded ts h d → not (is_read d.rule.guard.state) || tests.joins p ≡ true
+unread_at ts h d p k = ap (λ state. not (is_read state) || tests.joins p) (k.guard (headed_names h)).state_is
 
 -- an atom begins behind `:|:`
 mark_step : (h : Headed) (p : Piece) → tests.closes p ≡ false → tests.names p ≡ false → step (fronts.GuardMarked h) p ≡ step (guarded fences.Mark h no_atoms) p
@@ -133,7 +133,7 @@ mark_step h (In (inner.Word name)) c n = cc
 mark_step h (In _) c n = refl
 mark_step h _ c n = refl
 
-module _ (ts : Tokens) (behind : Option Piece) (old new : Draft) (result : Option Place) (h : Headed) (k : IsHeaded ts h old) where
+module _ (ts : Tokens) (behind : Option Piece) (old new : Draft) (result : Option ParserState) (h : Headed) (k : IsHeaded ts h old) where
   -- it begins with a name
   named_leads : (name : Name) → tests.is_open behind ≡ false → AtomTakes fences.Mark old (In (inner.Word name)) behind result new → LeadsTo ts behind (Some (fronts.WordRead h name)) result new
   named_leads name closed a = go a.takes.by.0 a.takes.by.1.0 (a.takes.by.1.1.each (headed_names h) no_atoms (nothing_read ts h old (Some (inner.Word name)) k) tt)
@@ -170,7 +170,7 @@ module _ (ts : Tokens) (behind : Option Piece) (old new : Draft) (result : Optio
   marked_together p c a = other_together p (neither (tests.closes p) (tests.names p && tests.is_open behind) c).0 refl a
 
 -- directly behind `:|:` an atom begins where no rule begins and the section doesn't end
-pub marked_goes_on : (p : Piece) (behind : Option Piece) (old new : Draft) (result : Option Place) → tests.closes p || (tests.names p && tests.is_open behind) ≡ false → AtomTakes fences.Mark old p behind result new
+pub marked_goes_on : (p : Piece) (behind : Option Piece) (old new : Draft) (result : Option ParserState) → tests.closes p || (tests.names p && tests.is_open behind) ≡ false → AtomTakes fences.Mark old p behind result new
     → TailLeads tails.GuardMarked old p behind result new
 marked_goes_on p behind old new result c a = record {
   together = λ ts f k. rw k.1.0 (marked_together ts behind old new result k.0 k.1.1 p c a);
@@ -184,7 +184,7 @@ square_step h (In _) c = refl
 square_step h _ c = refl
 
 -- directly behind `[` an atom begins where no `]` closes
-pub square_goes_on : (p : Piece) (behind : Option Piece) (old new : Draft) (result : Option Place) → tests.closes_square p ≡ false → AtomTakes fences.Square old p behind result new → TailLeads tails.SquareOpened old p behind result new
+pub square_goes_on : (p : Piece) (behind : Option Piece) (old new : Draft) (result : Option ParserState) → tests.closes_square p ≡ false → AtomTakes fences.Square old p behind result new → TailLeads tails.SquareOpened old p behind result new
 square_goes_on p behind old new result c a = record {
   together = λ ts f k. subst (λ o. GoTogether o result) (sym (ap (λ f. step f p) k.1.0 ∙ square_step k.0 p c))
       (atom_together ts k.0 fences.Square behind result old new no_atoms p a k.1.1.headed k.1.1.expression (nothing_read ts k.0 old (tests.inner_in p) k.1.1) (unread_at ts k.0 old p k.1.1));
@@ -192,17 +192,17 @@ square_goes_on p behind old new result c a = record {
       (atom_each ts k.0 fences.Square behind result old new no_atoms p a k.1.1.headed k.1.1.expression (nothing_read ts k.0 old (tests.inner_in p) k.1.1) (unread_at ts k.0 old p k.1.1) modest);
 }
 
--- brackets shut without an atom
-pub square_shuts : (p : Piece) (behind : Option Piece) (old new : Draft) → tests.closes_square p ≡ true → RuleEnds old new → TailLeads tails.SquareOpened old p behind (Some (places.InLeft lefts.Ruled)) new
-square_shuts p behind old new c e = always_tail tails.SquareOpened p behind old new _ (λ ts f k. rw k.1.0 (go ts k.0 k.1.1 p c))
+-- square brackets close without an atom
+pub square_closes : (p : Piece) (behind : Option Piece) (old new : Draft) → tests.closes_square p ≡ true → RuleEnds old new → TailLeads tails.SquareOpened old p behind (Some (places.InLeft lefts.AfterRule)) new
+square_closes p behind old new c e = always_tail tails.SquareOpened p behind old new _ (λ ts f k. rw k.1.0 (go ts k.0 k.1.1 p c))
   where
-    go : (ts : Tokens) (h : Headed) → IsHeaded ts h old → (p : Piece) → tests.closes_square p ≡ true → LeadsTo ts behind (step (fronts.SquareOpened h) p) (Some (places.InLeft lefts.Ruled)) new
+    go : (ts : Tokens) (h : Headed) → IsHeaded ts h old → (p : Piece) → tests.closes_square p ≡ true → LeadsTo ts behind (step (fronts.SquareOpened h) p) (Some (places.InLeft lefts.AfterRule)) new
     go ts h k SquareClose c = (ruling_with h (InSquares None), (refl, (whole_rule ts h (InSquares None) old new (whole_squared ts h old k) e, e.fresh)))
     go ts h k (In _) c = cc
     go ts h k _ c = cc
 
 -- within a guard, where it goes on
-pub atom_goes_on : (fence : Fence) (p : Piece) (behind : Option Piece) (old new : Draft) (result : Option Place) → not (is_read old.rule.guard.place) || tests.joins p ≡ true → AtomTakes fence old p behind result new
+pub atom_goes_on : (fence : GuardOpening) (p : Piece) (behind : Option Piece) (old new : Draft) (result : Option ParserState) → not (is_read old.rule.guard.state) || tests.joins p ≡ true → AtomTakes fence old p behind result new
     → TailLeads (tails.Guarding fence) old p behind result new
 atom_goes_on fence p behind old new result still a = record {
   together = λ ts f k. subst (λ o. GoTogether o result) (sym (front_step fence k.0 k.1.0 f p k.1.1.0))
@@ -229,7 +229,7 @@ module _ (ts : Tokens) (h : Headed) (g : GuardFront) (old : Draft) (headed : Kno
 
   -- behind an atom that ends the guard a rule begins, or the section ends
   mark_ends : (p : Piece) (at : IsEnded (tests.inner_in p) (headed_names h) g (names_in old.rule.variables) old.rule.guard) → tests.joins p ≡ false
-      → step (fronts.MarkGuarding h g) p ≡ step (fronts.Ruled (ruling_with h (BehindMark (Some at.atoms)))) p
+      → step (fronts.MarkGuarding h g) p ≡ step (fronts.AfterRule (ruling_with h (BehindMark (Some at.atoms)))) p
   mark_ends (In q) at j =
       ap (λ o. mark_guard_step h g o q) (at.joins q refl ∙ not_joined (guards.finish g) q j) ∙ ap (λ o. guard_ended h o q) at.finish_is
   mark_ends _ at j = refl
@@ -241,43 +241,43 @@ module _ (ts : Tokens) (h : Headed) (g : GuardFront) (old : Draft) (headed : Kno
   square_stops _ at j c = refl
 
 -- what follows a guard
-guard_ends : (p : Piece) (behind : Option Piece) (old new : Draft) (result : Option Place) → not (is_read old.rule.guard.place) || tests.joins p ≡ false → WholeLeads old p result new → TailLeads (tails.Guarding fences.Mark) old p behind result new
+guard_ends : (p : Piece) (behind : Option Piece) (old new : Draft) (result : Option ParserState) → not (is_read old.rule.guard.state) || tests.joins p ≡ false → WholeLeads old p result new → TailLeads (tails.Guarding fences.Mark) old p behind result new
 guard_ends p behind old new result still w = always_tail (tails.Guarding fences.Mark) p behind old new result (λ ts f k.
-    let shut = read_here (is_read old.rule.guard.place) (tests.joins p) still in
+    let shut = read_here (is_read old.rule.guard.state) (tests.joins p) still in
     let at = ended_of (headed_names k.0) (names_in old.rule.variables) old.rule.guard (tests.inner_in p) k.1.0 k.1.1.1.1.1 shut.0 in
     subst (λ o. LeadsTo ts behind o result new) (sym (front_step fences.Mark k.0 k.1.0 f p k.1.1.0 ∙ mark_ends ts k.0 k.1.0 old k.1.1.1.0 p at shut.1))
     (w.each ts behind k.0 (BehindMark (Some at.atoms)) (atoms_known ts k.0 k.1.0 old k.1.1.1.0 (tests.inner_in p) at)))
 
-guard_shuts : (p : Piece) (behind : Option Piece) (old new : Draft) → not (is_read old.rule.guard.place) || tests.joins p ≡ false → tests.closes_square p ≡ true → RuleEnds old new
-    → TailLeads (tails.Guarding fences.Square) old p behind (Some (places.InLeft lefts.Ruled)) new
-guard_shuts p behind old new still c e = always_tail (tails.Guarding fences.Square) p behind old new (Some (places.InLeft lefts.Ruled)) (λ ts f k.
-    let shut = read_here (is_read old.rule.guard.place) (tests.joins p) still in
+guard_closes : (p : Piece) (behind : Option Piece) (old new : Draft) → not (is_read old.rule.guard.state) || tests.joins p ≡ false → tests.closes_square p ≡ true → RuleEnds old new
+    → TailLeads (tails.Guarding fences.Square) old p behind (Some (places.InLeft lefts.AfterRule)) new
+guard_closes p behind old new still c e = always_tail (tails.Guarding fences.Square) p behind old new (Some (places.InLeft lefts.AfterRule)) (λ ts f k.
+    let shut = read_here (is_read old.rule.guard.state) (tests.joins p) still in
     let at = ended_of (headed_names k.0) (names_in old.rule.variables) old.rule.guard (tests.inner_in p) k.1.0 k.1.1.1.1.1 shut.0 in
-    subst (λ o. LeadsTo ts behind o (Some (places.InLeft lefts.Ruled)) new) (sym (front_step fences.Square k.0 k.1.0 f p k.1.1.0))
+    subst (λ o. LeadsTo ts behind o (Some (places.InLeft lefts.AfterRule)) new) (sym (front_step fences.Square k.0 k.1.0 f p k.1.1.0))
     (go ts k.0 k.1.0 (tests.inner_in p) at (squares_known ts k.0 k.1.0 old k.1.1.1.0 (tests.inner_in p) at) p c))
   where
     go : (ts : Tokens) (h : Headed) (g : GuardFront) (next : Option inner.Piece) (at : IsEnded next (headed_names h) g (names_in old.rule.variables) old.rule.guard) → KnowsWhole ts h (InSquares (Some at.atoms)) old
-        → (p : Piece) → tests.closes_square p ≡ true → LeadsTo ts behind (step (fronts.SquareGuarding h g) p) (Some (places.InLeft lefts.Ruled)) new
+        → (p : Piece) → tests.closes_square p ≡ true → LeadsTo ts behind (step (fronts.SquareGuarding h g) p) (Some (places.InLeft lefts.AfterRule)) new
     go ts h g next at whole SquareClose c =
-        subst (λ o. LeadsTo ts behind o (Some (places.InLeft lefts.Ruled)) new) (sym (ap (square_ended h) at.finish_is))
+        subst (λ o. LeadsTo ts behind o (Some (places.InLeft lefts.AfterRule)) new) (sym (ap (square_ended h) at.finish_is))
         (ruling_with h (InSquares (Some at.atoms)), (refl, (whole_rule ts h (InSquares (Some at.atoms)) old new whole e, e.fresh)))
     go ts h g next at whole (In _) c = cc
     go ts h g next at whole _ c = cc
 
-guard_stops : (p : Piece) (behind : Option Piece) (old : Draft) → not (is_read old.rule.guard.place) || tests.joins p ≡ false → tests.closes_square p ≡ false → TailLeads (tails.Guarding fences.Square) old p behind None old
+guard_stops : (p : Piece) (behind : Option Piece) (old : Draft) → not (is_read old.rule.guard.state) || tests.joins p ≡ false → tests.closes_square p ≡ false → TailLeads (tails.Guarding fences.Square) old p behind None old
 guard_stops p behind old still c = always_tail (tails.Guarding fences.Square) p behind old old None (λ ts f k.
-    let shut = read_here (is_read old.rule.guard.place) (tests.joins p) still in
+    let shut = read_here (is_read old.rule.guard.state) (tests.joins p) still in
     let at = ended_of (headed_names k.0) (names_in old.rule.variables) old.rule.guard (tests.inner_in p) k.1.0 k.1.1.1.1.1 shut.0 in
     subst (λ o. LeadsTo ts behind o None old) (sym (front_step fences.Square k.0 k.1.0 f p k.1.1.0 ∙ square_stops ts k.0 k.1.0 old k.1.1.1.0 p at shut.1 c)) tt)
 
 -- behind an atom a piece that joins no other leads on as what follows a guard does
-pub behind_atoms : (fence : Fence) (p : Piece) (behind : Option Piece) (old new : Draft) (result : Option Place) → not (is_read old.rule.guard.place) || tests.joins p ≡ false → GuardIsEnded fence old p result new
+pub behind_atoms : (fence : GuardOpening) (p : Piece) (behind : Option Piece) (old new : Draft) (result : Option ParserState) → not (is_read old.rule.guard.state) || tests.joins p ≡ false → GuardIsEnded fence old p result new
     → TailLeads (tails.Guarding fence) old p behind result new
 behind_atoms fences.Mark p behind old new result still w = guard_ends p behind old new result still w.by
-behind_atoms fences.Square p behind old new result still w = go (tests.closes_square p) refl w.by.shuts
+behind_atoms fences.Square p behind old new result still w = go (tests.closes_square p) refl w.by.has_closed
   where
-    go : (v : Bool) → tests.closes_square p ≡ v → ShutsIf v old result new → TailLeads (tails.Guarding fences.Square) old p behind result new
-    go true e s = subst (λ r. TailLeads (tails.Guarding fences.Square) old p behind r new) (sym s.0) (guard_shuts p behind old new still e s.1)
+    go : (v : Bool) → tests.closes_square p ≡ v → ClosesIf v old result new → TailLeads (tails.Guarding fences.Square) old p behind result new
+    go true e s = subst (λ r. TailLeads (tails.Guarding fences.Square) old p behind r new) (sym s.0) (guard_closes p behind old new still e s.1)
     go false e s = rw (s.0, s.1) (guard_stops p behind old still e)
 
 -- a rule ends before what leaves it
@@ -300,21 +300,21 @@ rule_stops p d e = record { each = λ ts next h guard k. ruled_stops ts next p (
     sourceless name w = let n = word_none p shut.1 in cc
 
 -- once a whole rule has become one of the rules, what follows leads on from these
-pub rule_leads : (p : Piece) (old middle new : Draft) (result : Option Place) → RuleEnds old middle → RuleLeads middle p result new → ((name : Name) → tests.word p ≡ Some name → result ≡ Some (places.InLeft lefts.SourceNamed)) → WholeLeads old p result new
+pub rule_leads : (p : Piece) (old middle new : Draft) (result : Option ParserState) → RuleEnds old middle → RuleLeads middle p result new → ((name : Name) → tests.word p ≡ Some name → result ≡ Some (places.InLeft lefts.SourceNamed)) → WholeLeads old p result new
 rule_leads p old middle new result e l s = record { each = λ ts next h guard k. l.each ts next (ruling_with h guard) (whole_rule ts h guard old middle k e) e.fresh; sourced = s }
 
 -- what follows a guard behind `:|:`, and in square brackets
-pub mark_over : {old new : Draft} {p : Piece} {result : Option Place} (fence : Fence) → fence ≡ fences.Mark → WholeLeads old p result new → GuardIsEnded fence old p result new
+pub mark_over : {old new : Draft} {p : Piece} {result : Option ParserState} (fence : GuardOpening) → fence ≡ fences.Mark → WholeLeads old p result new → GuardIsEnded fence old p result new
 mark_over {old} {new} {p} {result} fence e w = record { by = subst (λ f. GuardEnds f old p result new) (sym e) w }
 
--- what follows a guard in square brackets is told by whether these shut
-pub square_over : {old new : Draft} {p : Piece} {result : Option Place} (fence : Fence) → fence ≡ fences.Square → SquareEnds old p result new → GuardIsEnded fence old p result new
+-- what follows a guard in square brackets is decided by whether these close
+pub square_over : {old new : Draft} {p : Piece} {result : Option ParserState} (fence : GuardOpening) → fence ≡ fences.Square → SquareEnds old p result new → GuardIsEnded fence old p result new
 square_over {old} {new} {p} {result} fence e w = record { by = subst (λ f. GuardEnds f old p result new) (sym e) w }
 
 -- a `]` shuts them, and the rule ends with them
-pub square_shut : {old new : Draft} {p : Piece} → tests.closes_square p ≡ true → RuleEnds old new → SquareEnds old p (Some (places.InLeft lefts.Ruled)) new
-square_shut {old} {new} {p} e r = record { shuts = subst (λ v. ShutsIf v old (Some (places.InLeft lefts.Ruled)) new) (sym e) (refl, r) }
+pub square_closed : {old new : Draft} {p : Piece} → tests.closes_square p ≡ true → RuleEnds old new → SquareEnds old p (Some (places.InLeft lefts.AfterRule)) new
+square_closed {old} {new} {p} e r = record { has_closed = subst (λ v. ClosesIf v old (Some (places.InLeft lefts.AfterRule)) new) (sym e) (refl, r) }
 
 -- no other piece shuts them, and none leads on
 pub square_open : {old : Draft} {p : Piece} → tests.closes_square p ≡ false → SquareEnds old p None old
-square_open {old} {p} e = record { shuts = subst (λ v. ShutsIf v old None old) (sym e) (refl, refl) }
+square_open {old} {p} e = record { has_closed = subst (λ v. ClosesIf v old None old) (sym e) (refl, refl) }

@@ -35,7 +35,7 @@ whole : (xs : List ℕ) → take (length xs) xs ≡ xs
 whole [] = refl
 whole (x ∷ xs) = ap (λ ys. x ∷ ys) (whole xs)
 
--- all that is left behind so many elements
+-- all that is left behind this many elements
 pub all_left : (n : ℕ) (xs : List ℕ) → take (length xs - n) (drop n xs) ≡ drop n xs
 all_left n xs = ap (λ k. take k (drop n xs)) (sym (length-drop n xs)) ∙ whole (drop n xs)
 

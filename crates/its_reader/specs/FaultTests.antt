@@ -1,4 +1,4 @@
--- What the code tests before it notes a fault.
+-- The tests that the code makes before it reports a fault.
 use Rattle.std.specs.Prelude.{ℕ, suc, ◌+◌, Bool, true, false, ◌&&◌, ◌||◌, ◌==◌, if◌then◌else◌, not, IsTrue, ⊤, nat_lt}
 use Rattle.std.specs.Prelude.{nat_le, is_some, [], ◌++◌, length, codes, Option, Some, None, option_map}
 use Rattle.model.specs.Programs.{Name}
@@ -29,20 +29,20 @@ use Rattle.its_reader.specs.Tests as tests
 use Rattle.its_reader.specs.declared.draft.Sections.{Sections}
 use Rattle.its_reader.specs.declared.draft.RuleDraft.{RuleDraft}
 use Rattle.its_reader.specs.declared.draft.Draft.{Draft}
-use Rattle.its_reader.specs.declared.place.LeftPlace.{LeftPlace}
-use Rattle.its_reader.specs.declared.place.LeftPlace.TheVariants as lefts
-use Rattle.its_reader.specs.declared.place.CostPlace.{CostPlace}
-use Rattle.its_reader.specs.declared.place.CostPlace.TheVariants as costs
-use Rattle.its_reader.specs.declared.place.RightPlace.{RightPlace}
-use Rattle.its_reader.specs.declared.place.RightPlace.TheVariants as rights
-use Rattle.its_reader.specs.declared.place.Fence.{Fence}
-use Rattle.its_reader.specs.declared.place.Fence.TheVariants as fences
-use Rattle.its_reader.specs.declared.place.TailPlace.{TailPlace}
-use Rattle.its_reader.specs.declared.place.TailPlace.TheVariants as tails
-use Rattle.its_reader.specs.declared.place.Place.{Place}
-use Rattle.its_reader.specs.declared.place.Place.TheVariants as places
-use Rattle.its_reader.specs.declared.place.SectionPlace.{SectionPlace}
-use Rattle.its_reader.specs.declared.place.SectionPlace.TheVariants as sections
+use Rattle.its_reader.specs.declared.parser_state.SourceState.{SourceState}
+use Rattle.its_reader.specs.declared.parser_state.SourceState.TheVariants as lefts
+use Rattle.its_reader.specs.declared.parser_state.CostState.{CostState}
+use Rattle.its_reader.specs.declared.parser_state.CostState.TheVariants as costs
+use Rattle.its_reader.specs.declared.parser_state.TargetState.{TargetState}
+use Rattle.its_reader.specs.declared.parser_state.TargetState.TheVariants as rights
+use Rattle.its_reader.specs.declared.parser_state.GuardOpening.{GuardOpening}
+use Rattle.its_reader.specs.declared.parser_state.GuardOpening.TheVariants as fences
+use Rattle.its_reader.specs.declared.parser_state.TailState.{TailState}
+use Rattle.its_reader.specs.declared.parser_state.TailState.TheVariants as tails
+use Rattle.its_reader.specs.declared.parser_state.ParserState.{ParserState}
+use Rattle.its_reader.specs.declared.parser_state.ParserState.TheVariants as places
+use Rattle.its_reader.specs.declared.parser_state.SectionState.{SectionState}
+use Rattle.its_reader.specs.declared.parser_state.SectionState.TheVariants as sections
 
 -- a name has more bytes than the limit
 abbrev pub is_long : Option Name → Bool
@@ -59,19 +59,19 @@ abbrev pub has_worded : Sections → Option Name → Bool
 has_worded s None = false
 has_worded s (Some name) = has_word s name
 
--- a section begins that is there already
-abbrev pub repeats_in : SectionPlace → Sections → Option Piece → Option Piece → Bool
+-- a section begins that occurred before
+abbrev pub repeats_in : SectionState → Sections → Option Piece → Option Piece → Bool
 repeats_in sections.Between s next behind = tests.is_open next && has_worded s (tests.word_of behind)
 repeats_in _ s next behind = false
 
 -- a left argument is wanted
-abbrev pub wants_argument : LeftPlace → Bool
+abbrev pub wants_argument : SourceState → Bool
 wants_argument lefts.LeftOpened = true
 wants_argument lefts.LeftParted = true
 wants_argument _ = false
 
-abbrev pub wants_left : Place → Bool
-wants_left (places.InLeft place) = wants_argument place
+abbrev pub wants_left : ParserState → Bool
+wants_left (places.InLeft state) = wants_argument state
 wants_left _ = false
 
 -- why a text breaks off, where a left argument is wanted or not
@@ -82,9 +82,9 @@ break_kind_in wanted Strange = NotAscii
 break_kind_in wanted _ = Syntax
 
 -- a rule is wanted
-abbrev pub is_ruled : LeftPlace → Bool
-is_ruled lefts.Ruled = true
-is_ruled _ = false
+abbrev pub is_after_rule : SourceState → Bool
+is_after_rule lefts.AfterRule = true
+is_after_rule _ = false
 
 -- what a name that is a left argument shows
 abbrev pub argument_name_faults : RuleDraft → ℕ → Name → Option Piece → FaultList
@@ -102,10 +102,10 @@ wanted_faults true r at next behind = left_argument_name_faults r at (tests.word
 wanted_faults false r at next behind = []
 
 -- what the next token of a left term shows
-abbrev pub left_faults : LeftPlace → Draft → ℕ → Option Piece → Option Piece → FaultList
-left_faults place d at next behind =
-    fault_if (is_ruled place && (is_word next && nat_le rule_limit (length d.rules.items))) (Limit TooManyRules) at
-    ++ wanted_faults (wants_argument place) d.rule at next behind
+abbrev pub left_faults : SourceState → Draft → ℕ → Option Piece → Option Piece → FaultList
+left_faults state d at next behind =
+    fault_if (is_after_rule state && (is_word next && nat_le rule_limit (length d.rules.items))) (Limit TooManyRules) at
+    ++ wanted_faults (wants_argument state) d.rule at next behind
     ++ fault_if (long_name next) (Limit LongName) at
 
 -- a literal holds digits, and is over the limit on coefficients
@@ -137,21 +137,21 @@ IsDigital (Some (In (inner.Digits ds))) = IsTrue (list_all is_ascii_digit ds)
 IsDigital _ = ⊤
 
 -- the target's name is wanted: behind the arrow, or within `Com_1(`
-abbrev pub wants_target_name : RightPlace → Bool
+abbrev pub wants_target_name : TargetState → Bool
 wants_target_name rights.Arrowed = true
 wants_target_name rights.ComOpened = true
 wants_target_name _ = false
 
-abbrev pub is_within : RightPlace → Bool
+abbrev pub is_within : TargetState → Bool
 is_within rights.ComOpened = true
 is_within _ = false
 
 -- an argument is being read, and an argument can begin or go on
-abbrev pub is_in_argument : RightPlace → Bool
+abbrev pub is_in_argument : TargetState → Bool
 is_in_argument (rights.Arguing w) = true
 is_in_argument _ = false
 
-abbrev pub can_read_argument : RightPlace → Bool
+abbrev pub can_read_argument : TargetState → Bool
 can_read_argument (rights.RightOpened w) = true
 can_read_argument (rights.Arguing w) = true
 can_read_argument _ = false
@@ -181,22 +181,22 @@ going_if true r at next = step_faults r r.expression false at (tests.inner_next 
 going_if false r at next = []
 
 -- a cost is being read
-abbrev pub is_costing : CostPlace → Bool
+abbrev pub is_costing : CostState → Bool
 is_costing costs.Costing = true
 is_costing _ = false
 
 -- what the next token within the braces of a cost shows
-abbrev pub cost_faults : CostPlace → RuleDraft → ℕ → Option Piece → FaultList
-cost_faults place r at next = fault_if (long_name next) (Limit LongName) at ++ going_if (is_costing place) r at next
+abbrev pub cost_faults : CostState → RuleDraft → ℕ → Option Piece → FaultList
+cost_faults state r at next = fault_if (long_name next) (Limit LongName) at ++ going_if (is_costing state) r at next
 
 -- what the next token of a right term shows
-abbrev pub right_faults : RightPlace → RuleDraft → ℕ → Option Piece → Option Piece → FaultList
-right_faults place r at next behind =
-    fault_if (is_within place && (names_one next && is_open behind)) Syntax at
-    ++ fault_if (wants_target_name place && (names_many next && is_open behind)) ManyTargets at
-    ++ fault_if (is_in_argument place && begins_full r next) (Limit TooManyArguments) at
+abbrev pub right_faults : TargetState → RuleDraft → ℕ → Option Piece → Option Piece → FaultList
+right_faults state r at next behind =
+    fault_if (is_within state && (names_one next && is_open behind)) Syntax at
+    ++ fault_if (wants_target_name state && (names_many next && is_open behind)) ManyTargets at
+    ++ fault_if (is_in_argument state && begins_full r next) (Limit TooManyArguments) at
     ++ fault_if (long_name next) (Limit LongName) at
-    ++ going_if (can_read_argument place) r at next
+    ++ going_if (can_read_argument state) r at next
 
 -- a rule begins behind the one that is being read and as many as the limit
 abbrev pub rule_faults : Draft → ℕ → Option Piece → FaultList
@@ -210,7 +210,7 @@ next_rule_faults d at next = rule_faults d at next ++ fault_if (long_name next) 
 -- the next piece is the word of the atom that always holds
 abbrev pub truth_in : GuardReader → Option inner.Piece → Option inner.Piece → Bool
 truth_in r None behind = false
-truth_in r (Some p) behind = is_wanting r.place && names_truth p && not (is_operating behind)
+truth_in r (Some p) behind = is_wanting r.state && names_truth p && not (is_operating behind)
 
 -- what the next token of an atom shows
 abbrev pub atom_faults : RuleDraft → ℕ → Option Piece → Option Piece → FaultList
@@ -229,39 +229,39 @@ atoms_fill r = nat_le atom_limit (length r.guard.atoms.items + cost_atoms (optio
 
 -- an atom begins behind them
 abbrev pub atoms_full : RuleDraft → Option Piece → Bool
-atoms_full r next = is_wanting r.guard.place && atoms_fill r && begins next
+atoms_full r next = is_wanting r.guard.state && atoms_fill r && begins next
 
 abbrev pub another_atom_faults : RuleDraft → ℕ → Option Piece → Option Piece → FaultList
 another_atom_faults r at next behind = fault_if (atoms_full r next) (Limit TooManyAtoms) at
     ++ atom_faults r at next behind
 
--- what stands behind atoms that have ended
-abbrev pub behind_atoms_faults : Fence → Draft → ℕ → Option Piece → FaultList
+-- the faults behind atoms that have ended
+abbrev pub behind_atoms_faults : GuardOpening → Draft → ℕ → Option Piece → FaultList
 behind_atoms_faults fences.Mark d at next = next_rule_faults d at next
 behind_atoms_faults fences.Square d at next = fault_if (long_name next) (Limit LongName) at
 
-abbrev pub guard_faults : Bool → Fence → Draft → ℕ → Option Piece → Option Piece → FaultList
+abbrev pub guard_faults : Bool → GuardOpening → Draft → ℕ → Option Piece → Option Piece → FaultList
 guard_faults true fence d at next behind = behind_atoms_faults fence d at next
 guard_faults false fence d at next behind = another_atom_faults d.rule at next behind
 
 -- what the next token behind a target shows
-abbrev pub tail_faults : TailPlace → Draft → ℕ → Option Piece → Option Piece → FaultList
+abbrev pub tail_faults : TailState → Draft → ℕ → Option Piece → Option Piece → FaultList
 tail_faults tails.Targeted d at next behind = next_rule_faults d at next
 tail_faults tails.GuardMarked d at next behind = mark_faults (is_word next && is_open behind) d at next behind
 tail_faults tails.SquareOpened d at next behind = atom_faults d.rule at next behind
-tail_faults (tails.Guarding fence) d at next behind = guard_faults (is_read d.rule.guard.place) fence d at next behind
+tail_faults (tails.Guarding fence) d at next behind = guard_faults (is_read d.rule.guard.state) fence d at next behind
 
 -- what the next token shows
-abbrev pub place_faults : Place → Draft → ℕ → Option Piece → Option Piece → FaultList
-place_faults (places.InSections place) d at next behind =
-    fault_if (repeats_in place d.sections next behind) RepeatedSection at
+abbrev pub state_faults : ParserState → Draft → ℕ → Option Piece → Option Piece → FaultList
+state_faults (places.InSections state) d at next behind =
+    fault_if (repeats_in state d.sections next behind) RepeatedSection at
     ++ fault_if (long_name next) (Limit LongName) at
-place_faults (places.InLeft place) d at next behind = left_faults place d at next behind
-place_faults (places.InCost place) d at next behind = cost_faults place d.rule at next
-place_faults (places.InRight place) d at next behind = right_faults place d.rule at next behind
-place_faults (places.InTail place) d at next behind = tail_faults place d at next behind
+state_faults (places.InLeft state) d at next behind = left_faults state d at next behind
+state_faults (places.InCost state) d at next behind = cost_faults state d.rule at next
+state_faults (places.InRight state) d at next behind = right_faults state d.rule at next behind
+state_faults (places.InTail state) d at next behind = tail_faults state d at next behind
 
 -- a place between sections
-abbrev pub is_between : Place → Bool
+abbrev pub is_between : ParserState → Bool
 is_between (places.InSections sections.Between) = true
 is_between _ = false

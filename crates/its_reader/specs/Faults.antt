@@ -51,7 +51,7 @@ abbrev pub maybe_kind : Option Kind → ℕ → List (Fault kinds.Kind)
 maybe_kind None at = []
 maybe_kind (Some k) at = record { kind = kind_of k; at = at } ∷ []
 
--- the refusal that an error is; want of memory is none
+-- the refusal that an error is; running out of memory is none
 abbrev pub fault_in : ReadError → Option (Fault kinds.Kind)
 fault_in (errors.NotAscii at) = Some (record { kind = kinds.NotAscii; at = at })
 fault_in (errors.Syntax at) = Some (record { kind = kinds.Syntax; at = at })
@@ -67,7 +67,7 @@ fault_in (errors.StartUnknown at) = Some (record { kind = kinds.StartUnknown; at
 fault_in (errors.Disjunction at) = Some (record { kind = kinds.Disjunction; at = at })
 fault_in errors.Memory = None
 
--- the result of the code says what a text comes to; want of memory says nothing
+-- the result of the code agrees with the answer to a text; running out of memory is always permitted
 abbrev pub Says : Answer Program kinds.Kind → Result code.Program ReadError → Type 0
 Says (Stands p) (Ok q) = program_of q ≡ p
 Says (Stands p) (Err e) = fault_in e ≡ None

@@ -1,4 +1,4 @@
--- What becomes of the symbols, the rules and the start symbol at the end of a text.
+-- The end of a text: from the symbols, the rules and the start symbol to the program.
 use Rattle.std.specs.Prelude.{ℕ, Bool, false, slice_get, List, [], ◌∷◌, map, Option, Some, None, Result}
 use Rattle.model.specs.Programs as plain
 use Rattle.model.specs.Programs.{Name, Symbol, Program}
@@ -11,7 +11,7 @@ use Rattle.its_reader.specs.Faults.{Says}
 use Rattle.its_reader.specs.Standing.{limited_rule, KnowsRules}
 use Rattle.its_reader.specs.declared.draft.Draft.{Draft}
 use Rattle.its_reader.specs.declared.error.ReadError.{ReadError}
-use Rattle.its_reader.specs.declared.symbols.Listed.{Listed}
+use Rattle.its_reader.specs.declared.symbols.SymbolEntry.{SymbolEntry}
 
 -- the symbols of a table of names and one of numbers of places
 abbrev pub tabled : List Name → List ℕ → List Symbol
@@ -20,11 +20,11 @@ tabled (n ∷ names) [] = []
 tabled (n ∷ names) (a ∷ arities) = record { name = n; arity = a } ∷ tabled names arities
 
 -- a symbol of the code
-abbrev pub symbol_in : Option Listed → Option Symbol
+abbrev pub symbol_in : Option SymbolEntry → Option Symbol
 symbol_in None = None
 symbol_in (Some l) = Some (record { name = l.name.now; arity = l.arity })
 
--- a symbol with so many places, where there is a number
+-- a symbol with this many places, where there is a number
 abbrev pub with_arity : Name → Option ℕ → Option Symbol
 with_arity name None = None
 with_arity name (Some arity) = Some (record { name = name; arity = arity })

@@ -3,7 +3,7 @@ pub mod Views
 pub mod Tests
 pub mod Faults
 pub mod Standing
-pub mod PlaceSteps
+pub mod StateSteps
 pub mod FaultTests
 pub mod TokenSteps
 pub mod TailSteps

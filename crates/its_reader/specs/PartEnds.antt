@@ -1,4 +1,4 @@
--- What the parts of the code promise where something ends before the next piece.
+-- The contracts of the code's parts where something ends before the next piece.
 use Rattle.std.specs.Prelude.{◌≡◌, ℕ, Bool, true, false, not, ◌&&◌, [], ◌∷◌, ◌++◌, map, Option, Some, None, option_map}
 use Rattle.model.specs.Terms.{Term}
 use Rattle.poly_terms.specs.Views.{term_of}
@@ -17,38 +17,38 @@ use Rattle.its_reader.specs.Faults.{maybe_kind}
 use Rattle.its_reader.specs.FaultTests.{is_costing}
 use Rattle.its_reader.specs.TailSteps.{StaysInGuard}
 use Rattle.its_reader.specs.declared.fault.Kind.{Kind}
-use Rattle.its_reader.specs.declared.place.Wrap.{Wrap}
-use Rattle.its_reader.specs.declared.place.LeftPlace.{LeftPlace}
-use Rattle.its_reader.specs.declared.place.LeftPlace.TheVariants as lefts
-use Rattle.its_reader.specs.declared.place.CostPlace.{CostPlace}
-use Rattle.its_reader.specs.declared.place.CostPlace.TheVariants as costs
-use Rattle.its_reader.specs.declared.place.RightPlace.{RightPlace}
-use Rattle.its_reader.specs.declared.place.RightPlace.TheVariants as rights
-use Rattle.its_reader.specs.declared.place.TailPlace.{TailPlace}
-use Rattle.its_reader.specs.declared.place.TailPlace.TheVariants as tails
-use Rattle.its_reader.specs.declared.place.Place.{Place}
-use Rattle.its_reader.specs.declared.place.Place.TheVariants as places
+use Rattle.its_reader.specs.declared.parser_state.Wrap.{Wrap}
+use Rattle.its_reader.specs.declared.parser_state.SourceState.{SourceState}
+use Rattle.its_reader.specs.declared.parser_state.SourceState.TheVariants as lefts
+use Rattle.its_reader.specs.declared.parser_state.CostState.{CostState}
+use Rattle.its_reader.specs.declared.parser_state.CostState.TheVariants as costs
+use Rattle.its_reader.specs.declared.parser_state.TargetState.{TargetState}
+use Rattle.its_reader.specs.declared.parser_state.TargetState.TheVariants as rights
+use Rattle.its_reader.specs.declared.parser_state.TailState.{TailState}
+use Rattle.its_reader.specs.declared.parser_state.TailState.TheVariants as tails
+use Rattle.its_reader.specs.declared.parser_state.ParserState.{ParserState}
+use Rattle.its_reader.specs.declared.parser_state.ParserState.TheVariants as places
 use Rattle.its_reader.specs.declared.draft.RuleDraft.{RuleDraft}
 
 -- where a term has just ended, whose arguments are counted
-abbrev pub shuts_left : LeftPlace → Bool
-shuts_left lefts.LeftShut = true
-shuts_left _ = false
+abbrev pub closes_left : SourceState → Bool
+closes_left lefts.SourceClosed = true
+closes_left _ = false
 
-abbrev pub shuts_right : RightPlace → Bool
-shuts_right rights.RightShut = true
-shuts_right _ = false
+abbrev pub closes_right : TargetState → Bool
+closes_right rights.TargetClosed = true
+closes_right _ = false
 
-abbrev pub shuts_target : TailPlace → Bool
-shuts_target tails.Targeted = true
-shuts_target _ = false
+abbrev pub closes_target : TailState → Bool
+closes_target tails.Targeted = true
+closes_target _ = false
 
 -- where an argument, and where a guard is being read
-abbrev pub wrap_of_argument : RightPlace → Option Wrap
+abbrev pub wrap_of_argument : TargetState → Option Wrap
 wrap_of_argument (rights.Arguing w) = Some w
 wrap_of_argument _ = None
 
-abbrev pub is_guarding : TailPlace → Bool
+abbrev pub is_guarding : TailState → Bool
 is_guarding (tails.Guarding fence) = true
 is_guarding _ = false
 
@@ -57,9 +57,9 @@ abbrev pub ends_in : Expression → Option inner.Piece → Bool
 ends_in e next = can_end e && not (goes_on e next)
 
 -- nothing ends, and this is found
-pub record IsStill (place : Place) (found : ℕ
-    → FaultList) (old : RuleDraft) (now : Place) (refusal : Option Kind) (new : RuleDraft) : Type 0 where
-  pub now_is : now ≡ place
+pub record IsStill (state : ParserState) (found : ℕ
+    → FaultList) (old : RuleDraft) (now : ParserState) (refusal : Option Kind) (new : RuleDraft) : Type 0 where
+  pub now_is : now ≡ state
   pub found_is : (at : ℕ) → maybe_kind refusal at ≡ found at
   pub new_is : new ≡ old
 
@@ -77,14 +77,14 @@ pub record AfterArgument (old : RuleDraft) (refusal : Option Kind) (new : RuleDr
   pub guard : new.guard ≡ old.guard
   pub cost : new.cost ≡ old.cost
 
-abbrev pub ArgumentSettles : Bool → Wrap → RuleDraft → Place → Option Kind → RuleDraft → Type 0
-ArgumentSettles true w old now refusal new = (now ≡ places.InRight (rights.Argued w)) × AfterArgument old refusal new
-ArgumentSettles false w old now refusal new = (now ≡ places.InRight (rights.Arguing w)) × ((refusal ≡ None)
+abbrev pub ArgumentEndsPart : Bool → Wrap → RuleDraft → ParserState → Option Kind → RuleDraft → Type 0
+ArgumentEndsPart true w old now refusal new = (now ≡ places.InRight (rights.Argued w)) × AfterArgument old refusal new
+ArgumentEndsPart false w old now refusal new = (now ≡ places.InRight (rights.Arguing w)) × ((refusal ≡ None)
     × (new ≡ old))
 
-pub record ArgumentIsSettled (w : Wrap) (old : RuleDraft) (next : Option inner.Piece) (now : Place)
+pub record ArgumentIsPartEnded (w : Wrap) (old : RuleDraft) (next : Option inner.Piece) (now : ParserState)
     (refusal : Option Kind) (new : RuleDraft) : Type 0 where
-  pub by : ArgumentSettles (ends_in old.expression next) w old now refusal new
+  pub by : ArgumentEndsPart (ends_in old.expression next) w old now refusal new
 
 -- a cost has ended
 pub record AfterCost (old : RuleDraft) (refusal : Option Kind) (new : RuleDraft) : Type 0 where
@@ -100,42 +100,42 @@ pub record AfterCost (old : RuleDraft) (refusal : Option Kind) (new : RuleDraft)
   pub guard : new.guard ≡ old.guard
 
 -- within the braces of a cost
-abbrev pub CostSettlesBy : Bool → CostPlace → RuleDraft → Place → Option Kind → RuleDraft → Type 0
-CostSettlesBy true place old now refusal new = (now ≡ places.InCost costs.Costed) × AfterCost old refusal new
-CostSettlesBy false place old now refusal new = (now ≡ places.InCost place) × ((refusal ≡ None) × (new ≡ old))
+abbrev pub CostEndsPartBy : Bool → CostState → RuleDraft → ParserState → Option Kind → RuleDraft → Type 0
+CostEndsPartBy true state old now refusal new = (now ≡ places.InCost costs.Costed) × AfterCost old refusal new
+CostEndsPartBy false state old now refusal new = (now ≡ places.InCost state) × ((refusal ≡ None) × (new ≡ old))
 
-pub record CostSettles (place : CostPlace) (old : RuleDraft) (next : Option Piece) (now : Place)
+pub record CostEndsPart (state : CostState) (old : RuleDraft) (next : Option Piece) (now : ParserState)
     (refusal : Option Kind) (new : RuleDraft) : Type 0 where
-  pub by : CostSettlesBy (is_costing place && ends_in old.expression (inner_next next)) place old now refusal new
+  pub by : CostEndsPartBy (is_costing state && ends_in old.expression (inner_next next)) state old now refusal new
 
 -- in a right term
-abbrev pub RightSettlesBy : Option Wrap → RightPlace → RuleDraft → Option Piece → Place → Option Kind → RuleDraft
+abbrev pub RightEndsPartBy : Option Wrap → TargetState → RuleDraft → Option Piece → ParserState → Option Kind → RuleDraft
     → Type 0
-RightSettlesBy (Some w) place old next now refusal new = ArgumentSettles (ends_in old.expression
+RightEndsPartBy (Some w) state old next now refusal new = ArgumentEndsPart (ends_in old.expression
     (inner_next next)) w old now refusal new
-RightSettlesBy None place old next now refusal new = IsStill (places.InRight place) (λ at. fault_if
-    (shuts_right place && old.differs) ArityDiffers at) old now refusal new
+RightEndsPartBy None state old next now refusal new = IsStill (places.InRight state) (λ at. fault_if
+    (closes_right state && old.differs) ArityDiffers at) old now refusal new
 
-pub record RightSettles (place : RightPlace) (old : RuleDraft) (next : Option Piece) (now : Place)
+pub record RightEndsPart (state : TargetState) (old : RuleDraft) (next : Option Piece) (now : ParserState)
     (refusal : Option Kind) (new : RuleDraft) : Type 0 where
-  pub by : RightSettlesBy (wrap_of_argument place) place old next now refusal new
+  pub by : RightEndsPartBy (wrap_of_argument state) state old next now refusal new
 
 -- in a guard
-pub record GuardStands (place : TailPlace) (old : RuleDraft) (next : Option Piece) (now : Place)
+pub record GuardStands (state : TailState) (old : RuleDraft) (next : Option Piece) (now : ParserState)
     (refusal : Option Kind) (new : RuleDraft) : Type 0 where
   pub fault : Option polynomials.Fault
-  pub now_is : now ≡ places.InTail place
-  pub settles : standing.Settles (inner_next next) old.guard fault new.guard
+  pub now_is : now ≡ places.InTail state
+  pub settles : standing.EndsPart (inner_next next) old.guard fault new.guard
   pub found_is : (at : ℕ) → maybe_kind refusal at ≡ expansion_faults at fault
   pub stays : StaysInGuard old new
   pub variables : new.variables ≡ old.variables
 
 -- behind a target
-abbrev pub TailSettlesBy : Bool → TailPlace → RuleDraft → Option Piece → Place → Option Kind → RuleDraft → Type 0
-TailSettlesBy true place old next now refusal new = GuardStands place old next now refusal new
-TailSettlesBy false place old next now refusal new = IsStill (places.InTail place) (λ at. fault_if
-    (shuts_target place && old.differs) ArityDiffers at) old now refusal new
+abbrev pub TailEndsPartBy : Bool → TailState → RuleDraft → Option Piece → ParserState → Option Kind → RuleDraft → Type 0
+TailEndsPartBy true state old next now refusal new = GuardStands state old next now refusal new
+TailEndsPartBy false state old next now refusal new = IsStill (places.InTail state) (λ at. fault_if
+    (closes_target state && old.differs) ArityDiffers at) old now refusal new
 
-pub record TailSettles (place : TailPlace) (old : RuleDraft) (next : Option Piece) (now : Place)
+pub record TailEndsPart (state : TailState) (old : RuleDraft) (next : Option Piece) (now : ParserState)
     (refusal : Option Kind) (new : RuleDraft) : Type 0 where
-  pub by : TailSettlesBy (is_guarding place) place old next now refusal new
+  pub by : TailEndsPartBy (is_guarding state) state old next now refusal new

@@ -1,4 +1,4 @@
--- Where the code stands: for each place the written fronts that it stands for, with the next piece ahead.
+-- For each state of the parser's code, the written fronts that it represents, with the next piece in sight.
 use Rattle.std.specs.Prelude.{◌≡◌, ◌⊎◌, true, false, List, [], ◌∷◌, length, Option, Some, None, ⊤}
 use Rattle.model.specs.Programs.{Name}
 use Rattle.its_text.specs.expr_text.Trees.{Sum}
@@ -8,7 +8,7 @@ use Rattle.its_text.specs.expr_text.GuardFronts as guards
 use Rattle.its_text.specs.expr_text.GuardFronts.{GuardFront}
 use Rattle.expr_reader.specs.Variables.{names_in}
 use Rattle.expr_reader.specs.Standing as expressions
-use Rattle.expr_reader.specs.GuardStanding.{IsWanting, Reads, IsSettled}
+use Rattle.expr_reader.specs.GuardStanding.{IsWanting, Reads, IsPartEnded}
 use Rattle.its_text.specs.Pieces.{Piece, open_bracket}
 use Rattle.its_text.specs.Written.{Section, Start, LeftTerm, RightTerm, Marked, BehindMark}
 use Rattle.its_text.specs.Fronts as fronts
@@ -21,35 +21,35 @@ use Rattle.its_reader.specs.Tests.{inner_next}
 use Rattle.its_reader.specs.Standing.{KnowsBetween, KnowsRuling, KnowsSource, KnowsSymbols, KnowsLed, KnowsLeft}
 use Rattle.its_reader.specs.Standing.{KnowsAimed, KnowsHeaded, IsFreshRule, without_cost}
 use Rattle.its_reader.specs.declared.draft.Draft.{Draft}
-use Rattle.its_reader.specs.declared.place.Wrap.{Wrap}
-use Rattle.its_reader.specs.declared.place.Wrap.TheVariants as wraps
-use Rattle.its_reader.specs.declared.place.Fence.{Fence}
-use Rattle.its_reader.specs.declared.place.Fence.TheVariants as fences
-use Rattle.its_reader.specs.declared.place.SectionPlace.{SectionPlace}
-use Rattle.its_reader.specs.declared.place.SectionPlace.TheVariants as sections
-use Rattle.its_reader.specs.declared.place.LeftPlace.{LeftPlace}
-use Rattle.its_reader.specs.declared.place.LeftPlace.TheVariants as lefts
-use Rattle.its_reader.specs.declared.place.CostPlace.{CostPlace}
-use Rattle.its_reader.specs.declared.place.CostPlace.TheVariants as costs
-use Rattle.its_reader.specs.declared.place.RightPlace.{RightPlace}
-use Rattle.its_reader.specs.declared.place.RightPlace.TheVariants as rights
-use Rattle.its_reader.specs.declared.place.TailPlace.{TailPlace}
-use Rattle.its_reader.specs.declared.place.TailPlace.TheVariants as tails
-use Rattle.its_reader.specs.declared.place.Place.{Place}
-use Rattle.its_reader.specs.declared.place.Place.TheVariants as places
+use Rattle.its_reader.specs.declared.parser_state.Wrap.{Wrap}
+use Rattle.its_reader.specs.declared.parser_state.Wrap.TheVariants as wraps
+use Rattle.its_reader.specs.declared.parser_state.GuardOpening.{GuardOpening}
+use Rattle.its_reader.specs.declared.parser_state.GuardOpening.TheVariants as fences
+use Rattle.its_reader.specs.declared.parser_state.SectionState.{SectionState}
+use Rattle.its_reader.specs.declared.parser_state.SectionState.TheVariants as sections
+use Rattle.its_reader.specs.declared.parser_state.SourceState.{SourceState}
+use Rattle.its_reader.specs.declared.parser_state.SourceState.TheVariants as lefts
+use Rattle.its_reader.specs.declared.parser_state.CostState.{CostState}
+use Rattle.its_reader.specs.declared.parser_state.CostState.TheVariants as costs
+use Rattle.its_reader.specs.declared.parser_state.TargetState.{TargetState}
+use Rattle.its_reader.specs.declared.parser_state.TargetState.TheVariants as rights
+use Rattle.its_reader.specs.declared.parser_state.TailState.{TailState}
+use Rattle.its_reader.specs.declared.parser_state.TailState.TheVariants as tails
+use Rattle.its_reader.specs.declared.parser_state.ParserState.{ParserState}
+use Rattle.its_reader.specs.declared.parser_state.ParserState.TheVariants as places
 
 -- outside rules
-abbrev pub InSections : Tokens → SectionPlace → Draft → Front → Type 0
+abbrev pub InSections : Tokens → SectionState → Draft → Front → Type 0
 InSections ts sections.Between d f = (ss : List Section) × ((f ≡ fronts.Between ss) × KnowsBetween ts ss d)
 InSections ts sections.Opened d f = (ss : List Section) × ((f ≡ fronts.Opened ss) × KnowsBetween ts ss d)
 InSections ts sections.GoalNamed d f = (ss : List Section) × ((f ≡ fronts.GoalNamed ss) × KnowsBetween ts ss d)
-InSections ts sections.GoalSaid d f = (ss : List Section) × ((f ≡ fronts.GoalSaid ss) × KnowsBetween ts ss d)
+InSections ts sections.GoalRead d f = (ss : List Section) × ((f ≡ fronts.GoalRead ss) × KnowsBetween ts ss d)
 InSections ts sections.StartNamed d f = (ss : List Section) × ((f ≡ fronts.StartNamed ss) × KnowsBetween ts ss d)
 InSections ts sections.StartOpened d f = (ss : List Section) × ((f ≡ fronts.StartOpened ss) × KnowsBetween ts ss d)
 InSections ts sections.StartListed d f = (ss : List Section) × ((f ≡ fronts.StartListed ss) × KnowsBetween ts ss d)
-InSections ts sections.StartSaid d f = (ss : List Section) × ((name : Name) × ((f ≡ fronts.StartSaid ss name)
+InSections ts sections.StartRead d f = (ss : List Section) × ((name : Name) × ((f ≡ fronts.StartRead ss name)
     × KnowsBetween ts (Start name ∷ ss) d))
-InSections ts sections.StartShut d f = (ss : List Section) × ((name : Name) × ((f ≡ fronts.StartShut ss name)
+InSections ts sections.StartClosed d f = (ss : List Section) × ((name : Name) × ((f ≡ fronts.StartClosed ss name)
     × KnowsBetween ts (Start name ∷ ss) d))
 InSections ts sections.Listing d f = (ss : List Section) × ((names : List Name) × ((f ≡ fronts.Listing ss names)
     × KnowsBetween ts ss d))
@@ -61,8 +61,8 @@ IsSource next r name f = (f ≡ fronts.SourceNamed r name) ⊎ ((h : Headed) × 
     × ((r ≡ ruling_with h (BehindMark None)) × (next ≡ Some open_bracket))))
 
 -- from the beginning of a rule to the end of its left term
-abbrev pub InLeft : Tokens → Option Piece → LeftPlace → Draft → Front → Type 0
-InLeft ts next lefts.Ruled d f = (r : Ruling) × ((f ≡ fronts.Ruled r) × (KnowsRuling ts r d × IsFreshRule d.rule))
+abbrev pub InLeft : Tokens → Option Piece → SourceState → Draft → Front → Type 0
+InLeft ts next lefts.AfterRule d f = (r : Ruling) × ((f ≡ fronts.AfterRule r) × (KnowsRuling ts r d × IsFreshRule d.rule))
 InLeft ts next lefts.SourceNamed d f = (r : Ruling) × ((name : Name) × (IsSource next r name f
     × KnowsSource ts r name [] d))
 InLeft ts next lefts.LeftOpened d f = (r : Ruling) × ((name : Name) × ((f ≡ fronts.LeftOpened r name)
@@ -71,7 +71,7 @@ InLeft ts next lefts.LeftRead d f = (r : Ruling) × ((name : Name) × ((a : Name
     × ((f ≡ fronts.LeftRead r name a earlier) × KnowsSource ts r name (a ∷ earlier) d))))
 InLeft ts next lefts.LeftParted d f = (r : Ruling) × ((name : Name) × ((a : Name) × ((earlier : List Name)
     × ((f ≡ fronts.LeftParted r name a earlier) × KnowsSource ts r name (a ∷ earlier) d))))
-InLeft ts next lefts.LeftShut d f = (r : Ruling) × ((t : LeftTerm) × ((f ≡ fronts.LeftShut r t)
+InLeft ts next lefts.SourceClosed d f = (r : Ruling) × ((t : LeftTerm) × ((f ≡ fronts.SourceClosed r t)
     × (KnowsLeft ts (without_cost r t) d
     × (d.rule.differs ≡ other_arity (symbols_led r t) t.name (length t.arguments)))))
 
@@ -91,19 +91,19 @@ pub record IsCosted (ts : Tokens) (next : Option Piece) (r : Ruling) (t : LeftTe
   pub left : KnowsLeft ts (record { ruling = r; left = t; cost = Some c }) d
 
 -- within the braces of a cost
-abbrev pub InCost : Tokens → CostPlace → Draft → Front → Type 0
+abbrev pub InCost : Tokens → CostState → Draft → Front → Type 0
 InCost ts costs.Costing d f = (r : Ruling) × ((t : LeftTerm) × ((e : expression.Front) × ((f ≡ fronts.Costing r t e)
     × IsCosting ts r t e d)))
 InCost ts costs.Costed d f = ⊥
 
--- where a right term stands
+-- the form of a target
 abbrev pub wrap_of : Wrap → fronts.Wrap
 wrap_of wraps.InCom = fronts.InCom
 wrap_of wraps.Alone = fronts.Alone
 
 -- behind the right term
-abbrev pub behind_wrap : Wrap → Place
-behind_wrap wraps.InCom = places.InRight rights.RightShut
+abbrev pub behind_wrap : Wrap → ParserState
+behind_wrap wraps.InCom = places.InRight rights.TargetClosed
 behind_wrap wraps.Alone = places.InTail tails.Targeted
 
 -- the target's name has been read, and no argument
@@ -138,7 +138,7 @@ pub record IsHeaded (ts : Tokens) (h : Headed) (d : Draft) : Type 0 where
   pub guard : (before : List Name) → IsWanting before guards.no_atoms before d.rule.guard
 
 -- from the arrow to the end of the target
-abbrev pub InRight : Tokens → Option Piece → RightPlace → Draft → Front → Type 0
+abbrev pub InRight : Tokens → Option Piece → TargetState → Draft → Front → Type 0
 InRight ts next rights.Arrowed d f = (l : Led) × ((f ≡ fronts.Arrowed l) × KnowsLeft ts l d)
 InRight ts next rights.ComNamed d f = (l : Led) × ((f ≡ fronts.ComNamed l) × KnowsLeft ts l d)
 InRight ts next rights.ComOpened d f = (l : Led) × ((f ≡ fronts.ComOpened l) × KnowsLeft ts l d)
@@ -147,18 +147,18 @@ InRight ts next (rights.RightOpened w) d f = (a : Aimed) × ((f ≡ fronts.Right
 InRight ts next (rights.Arguing w) d f = (a : Aimed) × ((arguments : List Sum) × ((e : expression.Front)
     × ((f ≡ fronts.Arguing a arguments e) × IsArguing ts w a arguments e d)))
 InRight ts next (rights.Argued w) d f = ⊥
-InRight ts next rights.RightShut d f =
-    (l : Led) × ((t : RightTerm) × ((f ≡ fronts.RightShut l t) × (IsHeaded ts (record { led = l; target = Marked t }) d
+InRight ts next rights.TargetClosed d f =
+    (l : Led) × ((t : RightTerm) × ((f ≡ fronts.TargetClosed l t) × (IsHeaded ts (record { led = l; target = Marked t }) d
     × (d.rule.differs ≡ other_arity (with_right (symbols_behind l) t) t.name (length t.arguments)))))
 
 -- some of a guard has been read; behind `:|:` a name begins one where no bracket comes next
-abbrev pub IsGuard : Option Piece → Fence → Headed → GuardFront → Front → Type 0
+abbrev pub IsGuard : Option Piece → GuardOpening → Headed → GuardFront → Front → Type 0
 IsGuard next fences.Mark h g f = (f ≡ fronts.MarkGuarding h g) ⊎ ((name : Name) × ((f ≡ fronts.WordRead h name)
     × ((g ≡ guard_named name) × (is_open next ≡ false))))
 IsGuard next fences.Square h g f = f ≡ fronts.SquareGuarding h g
 
 -- behind the target, before what ends has ended
-abbrev pub InTail : Tokens → Option Piece → TailPlace → Draft → Front → Type 0
+abbrev pub InTail : Tokens → Option Piece → TailState → Draft → Front → Type 0
 InTail ts next tails.Targeted d f = (h : Headed) × ((f ≡ fronts.Targeted h) × (IsHeaded ts h d
     × (d.rule.differs ≡ bare_differs h.led h.target)))
 InTail ts next tails.GuardMarked d f = (h : Headed) × ((f ≡ fronts.GuardMarked h) × IsHeaded ts h d)
@@ -169,52 +169,52 @@ InTail ts next (tails.Guarding fence) d f =
     × Reads (inner_next next) (headed_names h) g (names_in d.rule.variables) d.rule.guard))))
 
 -- the same once what ends has ended
-abbrev pub TailSettled : Tokens → Option Piece → TailPlace → Draft → Front → Type 0
-TailSettled ts next tails.Targeted d f = InTail ts next tails.Targeted d f
-TailSettled ts next tails.GuardMarked d f = InTail ts next tails.GuardMarked d f
-TailSettled ts next tails.SquareOpened d f = InTail ts next tails.SquareOpened d f
-TailSettled ts next (tails.Guarding fence) d f =
+abbrev pub TailPartEnded : Tokens → Option Piece → TailState → Draft → Front → Type 0
+TailPartEnded ts next tails.Targeted d f = InTail ts next tails.Targeted d f
+TailPartEnded ts next tails.GuardMarked d f = InTail ts next tails.GuardMarked d f
+TailPartEnded ts next tails.SquareOpened d f = InTail ts next tails.SquareOpened d f
+TailPartEnded ts next (tails.Guarding fence) d f =
     (h : Headed) × ((g : GuardFront) × (IsGuard next fence h g f × (KnowsHeaded ts h d
     × (expressions.IsFresh d.rule.expression
-    × IsSettled (inner_next next) (headed_names h) g (names_in d.rule.variables) d.rule.guard))))
+    × IsPartEnded (inner_next next) (headed_names h) g (names_in d.rule.variables) d.rule.guard))))
 
 -- a cost that doesn't end before the next piece, and one that has ended
-abbrev pub CostSettled : Tokens → Option Piece → CostPlace → Draft → Front → Type 0
-CostSettled ts next costs.Costing d f =
+abbrev pub CostPartEnded : Tokens → Option Piece → CostState → Draft → Front → Type 0
+CostPartEnded ts next costs.Costing d f =
     (r : Ruling) × ((t : LeftTerm) × ((e : expression.Front) × ((f ≡ fronts.Costing r t e)
     × (IsCosting ts r t e d × (ends_expression e next ≡ true → expression_steps.finish e ≡ None)))))
-CostSettled ts next costs.Costed d f =
+CostPartEnded ts next costs.Costed d f =
     (r : Ruling) × ((t : LeftTerm) × ((e : expression.Front) × ((c : Sum) × ((f ≡ fronts.Costing r t e)
     × IsCosted ts next r t e c d))))
 
 -- an argument that doesn't end before the next piece, and one that has ended
-abbrev pub RightSettled : Tokens → Option Piece → RightPlace → Draft → Front → Type 0
-RightSettled ts next (rights.Arguing w) d f =
+abbrev pub RightPartEnded : Tokens → Option Piece → TargetState → Draft → Front → Type 0
+RightPartEnded ts next (rights.Arguing w) d f =
     (a : Aimed) × ((arguments : List Sum) × ((e : expression.Front) × ((f ≡ fronts.Arguing a arguments e)
     × (IsArguing ts w a arguments e d × (ends_expression e next ≡ true → expression_steps.finish e ≡ None)))))
-RightSettled ts next (rights.Argued w) d f =
+RightPartEnded ts next (rights.Argued w) d f =
     (a : Aimed) × ((arguments : List Sum) × ((e : expression.Front) × ((s : Sum)
     × ((f ≡ fronts.Arguing a arguments e) × IsArgued ts next w a arguments e s d))))
-RightSettled ts next place d f = InRight ts next place d f
+RightPartEnded ts next state d f = InRight ts next state d f
 
 -- the code stands for a written front, and once what ends has ended
-abbrev pub StandsAt : Tokens → Option Piece → Place → Draft → Front → Type 0
-StandsAt ts next (places.InSections place) d f = InSections ts place d f
-StandsAt ts next (places.InLeft place) d f = InLeft ts next place d f
-StandsAt ts next (places.InCost place) d f = InCost ts place d f
-StandsAt ts next (places.InRight place) d f = InRight ts next place d f
-StandsAt ts next (places.InTail place) d f = InTail ts next place d f
+abbrev pub StandsAt : Tokens → Option Piece → ParserState → Draft → Front → Type 0
+StandsAt ts next (places.InSections state) d f = InSections ts state d f
+StandsAt ts next (places.InLeft state) d f = InLeft ts next state d f
+StandsAt ts next (places.InCost state) d f = InCost ts state d f
+StandsAt ts next (places.InRight state) d f = InRight ts next state d f
+StandsAt ts next (places.InTail state) d f = InTail ts next state d f
 
-abbrev pub SettledAt : Tokens → Option Piece → Place → Draft → Front → Type 0
-SettledAt ts next (places.InSections place) d f = InSections ts place d f
-SettledAt ts next (places.InLeft place) d f = InLeft ts next place d f
-SettledAt ts next (places.InCost place) d f = CostSettled ts next place d f
-SettledAt ts next (places.InRight place) d f = RightSettled ts next place d f
-SettledAt ts next (places.InTail place) d f = TailSettled ts next place d f
+abbrev pub PartEndedAt : Tokens → Option Piece → ParserState → Draft → Front → Type 0
+PartEndedAt ts next (places.InSections state) d f = InSections ts state d f
+PartEndedAt ts next (places.InLeft state) d f = InLeft ts next state d f
+PartEndedAt ts next (places.InCost state) d f = CostPartEnded ts next state d f
+PartEndedAt ts next (places.InRight state) d f = RightPartEnded ts next state d f
+PartEndedAt ts next (places.InTail state) d f = TailPartEnded ts next state d f
 
 -- a piece leads the code where it leads in what is written
-abbrev pub LeadsTo : Tokens → Option Piece → Option Front → Option Place → Draft → Type 0
+abbrev pub LeadsTo : Tokens → Option Piece → Option Front → Option ParserState → Draft → Type 0
 LeadsTo ts next None None d = ⊤
-LeadsTo ts next None (Some place) d = ⊥
+LeadsTo ts next None (Some state) d = ⊥
 LeadsTo ts next (Some g) None d = ⊥
-LeadsTo ts next (Some g) (Some place) d = StandsAt ts next place d g
+LeadsTo ts next (Some g) (Some state) d = StandsAt ts next state d g

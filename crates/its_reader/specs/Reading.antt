@@ -1,4 +1,4 @@
--- Where the code stands in a text: what is left of it decides.
+-- The progress of the reader's code in a text: the rest of the text decides the answer.
 use Rattle.std.specs.Prelude.{◌≡◌, ℕ, List, [], ◌∷◌, length, Option, Some, ⊤}
 use Rattle.text_core.specs.Tokens.{pieces, AreInOrder}
 use Rattle.text_core.specs.Readers.{Fault, onto, reached}
@@ -11,7 +11,7 @@ use Rattle.its_text.specs.FrontFaults.{Tokens, last_byte, next_piece}
 use Rattle.its_reader.specs.FaultTests.{IsDigital}
 use Rattle.its_reader.specs.Places.{StandsAt}
 use Rattle.its_reader.specs.declared.draft.Draft.{Draft}
-use Rattle.its_reader.specs.declared.place.Place.{Place}
+use Rattle.its_reader.specs.declared.parser_state.ParserState.{ParserState}
 
 -- the position behind the tokens that have been read
 abbrev pub after : Tokens → ℕ
@@ -24,7 +24,7 @@ AreDigital [] = ⊤
 AreDigital (t ∷ rest) = IsDigital (Some t.piece) × AreDigital rest
 
 -- the code stands for a front that the text leads to, and the answer is that of what is left
-pub record IsReading (bytes : List ℕ) (place : Place) (last : ℕ) (best : Option (Fault Kind)) (d : Draft)
+pub record IsReading (bytes : List ℕ) (state : ParserState) (last : ℕ) (best : Option (Fault Kind)) (d : Draft)
     (rest : Tokens) : Type 0 where
   pub done : Tokens
   pub front : Front
@@ -35,4 +35,4 @@ pub record IsReading (bytes : List ℕ) (place : Place) (last : ℕ) (best : Opt
   pub digital : AreDigital rest
   pub pending : answer programs (length bytes) (tokens_of bytes) ≡ run programs (length bytes)
       (Going best done front) rest
-  pub stands : StandsAt (tokens_of bytes) (next_piece rest) place d front
+  pub stands : StandsAt (tokens_of bytes) (next_piece rest) state d front

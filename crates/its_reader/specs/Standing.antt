@@ -1,4 +1,5 @@
--- What the code knows of a text stands for a written front: the sections, the rules so far, and the rule that is read.
+-- Which written front the code's knowledge of a text represents: the sections, the rules so far, and the rule that is
+-- being read.
 use Rattle.std.specs.Prelude.{◌≡◌, ℕ, ◌+◌, List, [], ◌∷◌, ◌++◌, map, length, Option, Some, None, option_map, ⊤}
 use Rattle.model.specs.Programs as plain
 use Rattle.model.specs.Programs.{Name, Symbol}
@@ -27,7 +28,7 @@ use Rattle.its_reader.specs.declared.draft.RuleDraft.{RuleDraft}
 use Rattle.its_reader.specs.declared.draft.Draft.{Draft}
 use Rattle.its_reader.specs.declared.symbols.Symbols.{Symbols}
 
--- a start symbol, and the position at which it stands
+-- a start symbol, and its position in the text
 pub record Started : Type 0 where
   pub name : Name
   pub at : ℕ

@@ -1,4 +1,4 @@
--- What the parts of the code behind a target promise: a whole rule ends, and a piece leads where it leads in a guard.
+-- The contracts of the code's parts behind a target: a whole rule ends, and a piece leads where it leads in a guard.
 use Rattle.std.specs.Prelude.{◌≡◌, ◌-◌, Bool, true, false, not, ◌&&◌, nat_lt, if◌then◌else◌, [], ◌∷◌, ◌++◌, map}
 use Rattle.std.specs.Prelude.{length, Option, Some, None, option_map}
 use Rattle.std.specs.List.{list_all}
@@ -26,12 +26,12 @@ use Rattle.its_text.specs.FrontFaults.{Tokens}
 use Rattle.its_reader.specs.Tests as tests
 use Rattle.its_reader.specs.Standing.{KnowsHeaded, IsFreshRule}
 use Rattle.its_reader.specs.Places.{LeadsTo}
-use Rattle.its_reader.specs.declared.place.Fence.{Fence}
-use Rattle.its_reader.specs.declared.place.Fence.TheVariants as fences
-use Rattle.its_reader.specs.declared.place.TailPlace.TheVariants as tails
-use Rattle.its_reader.specs.declared.place.LeftPlace.TheVariants as lefts
-use Rattle.its_reader.specs.declared.place.Place.{Place}
-use Rattle.its_reader.specs.declared.place.Place.TheVariants as places
+use Rattle.its_reader.specs.declared.parser_state.GuardOpening.{GuardOpening}
+use Rattle.its_reader.specs.declared.parser_state.GuardOpening.TheVariants as fences
+use Rattle.its_reader.specs.declared.parser_state.TailState.TheVariants as tails
+use Rattle.its_reader.specs.declared.parser_state.SourceState.TheVariants as lefts
+use Rattle.its_reader.specs.declared.parser_state.ParserState.{ParserState}
+use Rattle.its_reader.specs.declared.parser_state.ParserState.TheVariants as places
 use Rattle.its_reader.specs.declared.draft.RuleDraft.{RuleDraft}
 use Rattle.its_reader.specs.declared.draft.Draft.{Draft}
 
@@ -62,9 +62,9 @@ pub record RuleEnds (old new : Draft) : Type 0 where
   pub fresh : IsFreshRule new.rule
 
 -- a whole rule ends before a piece, which leads on from the rules; a name begins another rule
-pub record WholeLeads (old : Draft) (p : Piece) (result : Option Place) (new : Draft) : Type 0 where
+pub record WholeLeads (old : Draft) (p : Piece) (result : Option ParserState) (new : Draft) : Type 0 where
   pub each : (ts : Tokens) (next : Option Piece) (h : Headed) (guard : Guard) → KnowsWhole ts h guard old
-      → LeadsTo ts next (step (fronts.Ruled (ruling_with h guard)) p) result new
+      → LeadsTo ts next (step (fronts.AfterRule (ruling_with h guard)) p) result new
   pub sourced : (name : Name) → tests.word p ≡ Some name → result ≡ Some (places.InLeft lefts.SourceNamed)
 
 -- a literal is within the limit on coefficients
@@ -82,26 +82,26 @@ is_modest (inner.Joining joint) = true
 
 -- a piece goes on with the expression of an atom
 abbrev pub goes_on_in : GuardReader → inner.Piece → Bool
-goes_on_in r p = not (is_read r.place) && goes_on_from (front_of r.expression).outer (front_of r.expression).operand p
+goes_on_in r p = not (is_read r.state) && goes_on_from (front_of r.expression).outer (front_of r.expression).operand p
 
 -- the place within a guard, where a test passes
-abbrev pub guarding_if : Bool → Fence → Option Place
+abbrev pub guarding_if : Bool → GuardOpening → Option ParserState
 guarding_if test fence = if test then Some (places.InTail (tails.Guarding fence)) else None
 
 -- a modest piece leads where it leads in the guard; one that isn't leads on where it goes on with an expression
-abbrev pub TakesInner : Bool → Fence → RuleDraft → inner.Piece → Option inner.Piece → Option Place → RuleDraft → Type 0
+abbrev pub TakesInner : Bool → GuardOpening → RuleDraft → inner.Piece → Option inner.Piece → Option ParserState → RuleDraft → Type 0
 TakesInner true fence old p behind result new =
     (taken : Bool) × ((result ≡ guarding_if taken fence)
     × Takes (names_in old.variables) old.guard p behind taken (names_in new.variables) new.guard)
 TakesInner false fence old p behind result new = result ≡ guarding_if (goes_on_in old.guard p) fence
 
-abbrev pub TakesAtom : Fence → RuleDraft → Option inner.Piece → Option inner.Piece → Option Place → RuleDraft → Type 0
+abbrev pub TakesAtom : GuardOpening → RuleDraft → Option inner.Piece → Option inner.Piece → Option ParserState → RuleDraft → Type 0
 TakesAtom fence old (Some p) behind result new = TakesInner (is_modest p) fence old p behind result new
 TakesAtom fence old None behind result new = result ≡ None
 
 -- the same as records, so that their arguments are found
-pub record TakesPiece (fence : Fence) (old : RuleDraft) (p : inner.Piece) (behind : Option inner.Piece)
-    (result : Option Place) (new : RuleDraft) : Type 0 where
+pub record TakesPiece (fence : GuardOpening) (old : RuleDraft) (p : inner.Piece) (behind : Option inner.Piece)
+    (result : Option ParserState) (new : RuleDraft) : Type 0 where
   pub by : TakesInner (is_modest p) fence old p behind result new
 
 -- all but the variables and the guard of a rule stays as it was
@@ -114,12 +114,12 @@ pub record StaysInGuard (old new : RuleDraft) : Type 0 where
   pub expression : new.expression ≡ old.expression
   pub cost : new.cost ≡ old.cost
 
-pub record TakesMaybe (fence : Fence) (old : RuleDraft) (p behind : Option inner.Piece) (result : Option Place)
+pub record TakesMaybe (fence : GuardOpening) (old : RuleDraft) (p behind : Option inner.Piece) (result : Option ParserState)
     (new : RuleDraft) : Type 0 where
   pub by : TakesAtom fence old p behind result new
 
 -- a piece of a guard
-pub record AtomTakes (fence : Fence) (old : Draft) (p : Piece) (behind : Option Piece) (result : Option Place)
+pub record AtomTakes (fence : GuardOpening) (old : Draft) (p : Piece) (behind : Option Piece) (result : Option ParserState)
     (new : Draft) : Type 0 where
   pub takes : TakesMaybe fence old.rule (tests.inner_in p) (tests.inner_next behind) result new.rule
   pub stays : StaysInGuard old.rule new.rule
@@ -127,18 +127,18 @@ pub record AtomTakes (fence : Fence) (old : Draft) (p : Piece) (behind : Option 
   pub rules : new.rules ≡ old.rules
   pub symbols : new.symbols ≡ old.symbols
 
--- the brackets of a guard shut behind an atom
-abbrev pub ShutsIf : Bool → Draft → Option Place → Draft → Type 0
-ShutsIf true old result new = (result ≡ Some (places.InLeft lefts.Ruled)) × RuleEnds old new
-ShutsIf false old result new = (result ≡ None) × (new ≡ old)
+-- the brackets of a guard close behind an atom
+abbrev pub ClosesIf : Bool → Draft → Option ParserState → Draft → Type 0
+ClosesIf true old result new = (result ≡ Some (places.InLeft lefts.AfterRule)) × RuleEnds old new
+ClosesIf false old result new = (result ≡ None) × (new ≡ old)
 
-pub record SquareEnds (old : Draft) (p : Piece) (result : Option Place) (new : Draft) : Type 0 where
-  pub shuts : ShutsIf (tests.closes_square p) old result new
+pub record SquareEnds (old : Draft) (p : Piece) (result : Option ParserState) (new : Draft) : Type 0 where
+  pub has_closed : ClosesIf (tests.closes_square p) old result new
 
 -- what follows a guard: behind `:|:` what follows a rule, and in square brackets the closing one
-abbrev pub GuardEnds : Fence → Draft → Piece → Option Place → Draft → Type 0
+abbrev pub GuardEnds : GuardOpening → Draft → Piece → Option ParserState → Draft → Type 0
 GuardEnds fences.Mark old p result new = WholeLeads old p result new
 GuardEnds fences.Square old p result new = SquareEnds old p result new
 
-pub record GuardIsEnded (fence : Fence) (old : Draft) (p : Piece) (result : Option Place) (new : Draft) : Type 0 where
+pub record GuardIsEnded (fence : GuardOpening) (old : Draft) (p : Piece) (result : Option ParserState) (new : Draft) : Type 0 where
   pub by : GuardEnds fence old p result new

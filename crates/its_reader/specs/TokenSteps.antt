@@ -1,6 +1,5 @@
--- What one turn of reading promises: what ends before the next token has ended, what stands here is noted, and the
--- token
--- leads where it leads in what is written.
+-- The contract of one turn of reading: parts that end before the next token have ended, the faults here have been taken
+-- into account, and the token leads to the state that it leads to in the written text.
 use Rattle.std.specs.Prelude.{◌≡◌, ℕ, ◌-◌, Bool, true, false, ◌&&◌, ◌||◌, ◌==◌, nat_lt, nat_le, List, [], ◌∷◌, length}
 use Rattle.std.specs.Prelude.{Option, Some, None, Result, ⊤}
 use Rattle.model.specs.Programs.{Name}
@@ -24,28 +23,28 @@ use Rattle.its_text.specs.FrontFaults.{Tokens, next_piece, piece_behind, last_by
 use Rattle.its_text.specs.FrontFaults.{left_wanted}
 use Rattle.its_reader.specs.FaultTests.{IsDigital, wants_left, break_kind_in}
 use Rattle.its_reader.specs.Tests as tests
-use Rattle.its_reader.specs.Places.{StandsAt, SettledAt, LeadsTo}
+use Rattle.its_reader.specs.Places.{StandsAt, PartEndedAt, LeadsTo}
 use Rattle.its_reader.specs.Standing.{KnowsBetween}
 use Rattle.its_reader.specs.Faults.{fault_of, maybe_fault, Says}
-use Rattle.its_reader.specs.PlaceSteps.{GoTogether, IsModestPiece}
+use Rattle.its_reader.specs.StateSteps.{GoTogether, IsModestPiece}
 use Rattle.its_reader.specs.Reading.{IsReading}
 use Rattle.its_reader.specs.declared.draft.Draft.{Draft}
 use Rattle.its_reader.specs.declared.error.ReadError.{ReadError}
-use Rattle.its_reader.specs.declared.place.Place.{Place}
+use Rattle.its_reader.specs.declared.parser_state.ParserState.{ParserState}
 use Rattle.its_reader.specs.declared.reading.TokenStep.{TokenStep}
 use Rattle.its_reader.specs.declared.reading.TokenStep.TheVariants as turns
 
 -- what ends before the next piece has ended, and what the last byte that was read shows is found
-pub record Settles (place : Place) (old : Draft) (next : Option Piece) (now : Place) (found : ℕ
+pub record EndsPart (state : ParserState) (old : Draft) (next : Option Piece) (now : ParserState) (found : ℕ
     → List (Fault Kind)) (new : Draft) : Type 0 where
-  pub settled : (ts : Tokens) (f : Front) → StandsAt ts next place old f → SettledAt ts next now new f
-  pub found_is : (ts : Tokens) (at : ℕ) (f : Front) → StandsAt ts next place old f → found at ≡ last_faults at f next
+  pub part_ended : (ts : Tokens) (f : Front) → StandsAt ts next state old f → PartEndedAt ts next now new f
+  pub found_is : (ts : Tokens) (at : ℕ) (f : Front) → StandsAt ts next state old f → found at ≡ last_faults at f next
 
 -- the fault so far is the first of the one before and all that is shown here
-pub record Judges (place : Place) (last : ℕ) (best : Option (Fault Kind)) (old : Draft) (next behind : Option Piece)
-    (at : ℕ) (now : Place) (first : Option (Fault Kind)) (new : Draft) : Type 0 where
-  pub settled : (ts : Tokens) (f : Front) → StandsAt ts next place old f → SettledAt ts next now new f
-  pub noted : (ts : Tokens) (n : ℕ) (done rest : Tokens) (f : Front) → StandsAt ts next place old f
+pub record Judges (state : ParserState) (last : ℕ) (best : Option (Fault Kind)) (old : Draft) (next behind : Option Piece)
+    (at : ℕ) (now : ParserState) (first : Option (Fault Kind)) (new : Draft) : Type 0 where
+  pub part_ended : (ts : Tokens) (f : Front) → StandsAt ts next state old f → PartEndedAt ts next now new f
+  pub first_fault_ahead : (ts : Tokens) (n : ℕ) (done rest : Tokens) (f : Front) → StandsAt ts next state old f
       → next_piece rest ≡ next → piece_behind rest ≡ behind
       → next_at n rest ≡ at → last_byte done ≡ last → IsDigital next
       → first ≡ first_among programs best (front_faults n done f rest)
@@ -56,11 +55,11 @@ AllowsName (Some arguments) (Some name) = is_among name arguments ≡ false
 AllowsName _ _ = ⊤
 
 -- the next token leads where it leads in what is written
-pub record Advances (place : Place) (old : Draft) (t : Token Piece) (behind : Option Piece) (result : Option Place)
+pub record Advances (state : ParserState) (old : Draft) (t : Token Piece) (behind : Option Piece) (result : Option ParserState)
     (new : Draft) : Type 0 where
-  pub together : (ts : Tokens) (f : Front) → SettledAt ts (Some t.piece) place old f
+  pub together : (ts : Tokens) (f : Front) → PartEndedAt ts (Some t.piece) state old f
       → t.at ≡ at_index ts (length (front_pieces f)) → GoTogether (step f t.piece) result
-  pub each : (ts : Tokens) (f : Front) → SettledAt ts (Some t.piece) place old f
+  pub each : (ts : Tokens) (f : Front) → PartEndedAt ts (Some t.piece) state old f
       → t.at ≡ at_index ts (length (front_pieces f)) → AllowsName (left_wanted f) (tests.word t.piece)
       → IsModestPiece t.piece
       → LeadsTo ts behind (step f t.piece) result new
@@ -76,50 +75,50 @@ is_final x t = nat_lt x.at (t.upto - 1) || ((x.at == t.upto - 1) && nat_le (kind
 
 -- what a token leads to: a place, the last byte and the refusal so far, or the answer
 pub data TokenResult : Type 0 where
-  On : Place → ℕ → Option (Fault Kind) → TokenResult
+  On : ParserState → ℕ → Option (Fault Kind) → TokenResult
   Over : Fault Kind → TokenResult
 
-abbrev pub on_or_over : Bool → Place → Token Piece → Fault Kind → TokenResult
+abbrev pub on_or_over : Bool → ParserState → Token Piece → Fault Kind → TokenResult
 on_or_over true reached t x = Over x
 on_or_over false reached t x = On reached (t.upto - 1) (Some x)
 
 -- behind a token that can follow
-abbrev pub behind_token : Option (Fault Kind) → Place → Token Piece → TokenResult
+abbrev pub behind_token : Option (Fault Kind) → ParserState → Token Piece → TokenResult
 behind_token None reached t = On reached (t.upto - 1) None
 behind_token (Some x) reached t = on_or_over (is_final x t) reached t x
 
 -- by whether the token can follow
-abbrev pub token_result : Place → Option (Fault Kind) → Token Piece → Option Place → TokenResult
-token_result place best t None = Over (first_of programs best (record {
+abbrev pub token_result : ParserState → Option (Fault Kind) → Token Piece → Option ParserState → TokenResult
+token_result state best t None = Over (first_of programs best (record {
   kind = break_kind_in
-      (wants_left place) t.piece;
+      (wants_left state) t.piece;
   at = t.at;
 }))
-token_result place best t (Some reached) = behind_token best reached t
+token_result state best t (Some reached) = behind_token best reached t
 
 -- reading goes on, or its answer is that of the text
 abbrev pub TurnsTo : List ℕ → Tokens → TokenResult → Draft → Type 0
-TurnsTo bytes rest (On place last best) d = IsReading bytes place last best d rest
+TurnsTo bytes rest (On state last best) d = IsReading bytes state last best d rest
 TurnsTo bytes rest (Over x) d = verdict bytes ≡ Refused x
 
 -- one token is read
-pub record Turns (place : Place) (last : ℕ) (best : Option (Fault Kind)) (old : Draft) (t : Token Piece)
+pub record Turns (state : ParserState) (last : ℕ) (best : Option (Fault Kind)) (old : Draft) (t : Token Piece)
     (behind : Option Piece) (to : TokenResult) (new : Draft) : Type 0 where
   pub each : (bytes : List ℕ) (rest : Tokens) → next_piece rest ≡ behind
-      → IsReading bytes place last best old (t ∷ rest) → TurnsTo bytes rest to new
+      → IsReading bytes state last best old (t ∷ rest) → TurnsTo bytes rest to new
 
--- what the code makes of a token
+-- the code's result on a token
 abbrev pub token_result_of : TokenStep → TokenResult
-token_result_of (turns.On s) = On s.place s.last (maybe_fault s.best)
+token_result_of (turns.On s) = On s.state s.last (maybe_fault s.best)
 token_result_of (turns.Over x) = Over (fault_of x)
 
--- sections have been read, and nothing stands against them
+-- sections have been read, and have no fault
 pub record Finishes (d : Draft) (n : ℕ) (result : Result code.Program ReadError) : Type 0 where
   pub each : (bytes : List ℕ) (ss : List Section) → n ≡ length bytes → KnowsBetween (tokens_of bytes) ss d
       → verdict bytes ≡ whole (length bytes) (tokens_of bytes) ss (start_of ss) (rules_of ss)
       → Says (verdict bytes) result
 
 -- the text ends
-pub record Closes (place : Place) (last : ℕ) (best : Option (Fault Kind)) (d : Draft) (n : ℕ)
+pub record Closes (state : ParserState) (last : ℕ) (best : Option (Fault Kind)) (d : Draft) (n : ℕ)
     (result : Result code.Program ReadError) : Type 0 where
-  pub each : (bytes : List ℕ) → n ≡ length bytes → IsReading bytes place last best d [] → Says (verdict bytes) result
+  pub each : (bytes : List ℕ) → n ≡ length bytes → IsReading bytes state last best d [] → Says (verdict bytes) result

@@ -1,4 +1,4 @@
-//! The bytes of a comment, up to the bracket that closes it.
+//! Skips the bytes of a comment, up to the matching bracket.
 
 ghost use Rattle.std.specs.Prelude.{◌≡◌, length, IfSome, ◌≤◌};
 ghost use Rattle.its_text.specs.Lexing.{closing_at};

@@ -1,4 +1,4 @@
-//! Where each piece leads within the braces of a cost, and how the cost ends.
+//! The steps of parsing within the braces of a cost, and how the cost ends.
 
 ghost use Rattle.std.specs.Prelude.{◌≡◌, ◌&&◌, IfOk, Some, None, if◌then◌else◌};
 ghost use Rattle.text_core.specs.Reading.{first_among};
@@ -8,52 +8,56 @@ ghost use Rattle.its_reader.specs.Views.{piece_of as plain_of, maybe_of};
 ghost use Rattle.its_reader.specs.Tests as tests;
 ghost use Rattle.its_reader.specs.Faults.{maybe_fault};
 ghost use Rattle.its_reader.specs.FaultTests.{cost_faults, is_costing, atoms_fill};
-ghost use Rattle.its_reader.specs.PlaceSteps.{CostLeads};
-ghost use Rattle.its_reader.specs.PartEnds.{ends_in, AfterCost, CostSettles};
+ghost use Rattle.its_reader.specs.StateSteps.{CostLeads};
+ghost use Rattle.its_reader.specs.PartEnds.{ends_in, AfterCost, CostEndsPart};
 
-use crate::ahead::{Ahead, first_with_long_name};
 use crate::draft::{Draft, RuleDraft};
 use crate::expression::refusal_of;
 use crate::fault::{Fault, Kind};
+use crate::lookahead::{Lookahead, first_with_long_name};
+use crate::parser_state::{CostState, ParserState, TargetState};
+use crate::part_end::PartEnd;
 use crate::piece::{Piece, inner_of};
-use crate::place::{CostPlace, Place, RightPlace};
-use crate::settling::PartEnd;
 use expr_reader::Piece as Inner;
 use model::{ATOM_LIMIT, Memory};
 use std::alloc::Global;
 
 impl<'a> Draft<'a> {
-    /// The place that a piece leads to within the braces of a cost. None where it can't follow.
+    /// The state behind a piece within the braces of a cost. None where the piece can't follow.
     pub(crate) fn advance_in_cost(
         &mut self,
         alloc: Global,
-        place: CostPlace,
+        state: CostState,
         piece: Piece<'a>,
-    ) -> Result<Option<Place>, Memory>
-        ensures { IfOk result (λ reached. CostLeads place self.old (plain_of piece.entry) reached self.new) }
+    ) -> Result<Option<ParserState>, Memory>
+        ensures { IfOk result (λ reached. CostLeads state self.old (plain_of piece.entry) reached self.new) }
     {
-        match place {
-            CostPlace::Costing => self.within_cost(alloc, piece),
-            CostPlace::Costed => Ok(behind_cost(piece)),
+        match state {
+            CostState::Costing => self.within_cost(alloc, piece),
+            CostState::Costed => Ok(behind_cost(piece)),
         }
     }
 
-    fn within_cost(&mut self, alloc: Global, piece: Piece<'a>) -> Result<Option<Place>, Memory>
-        ensures { IfOk result (λ reached. CostLeads CostPlace.Costing self.old
+    fn within_cost(
+        &mut self,
+        alloc: Global,
+        piece: Piece<'a>,
+    ) -> Result<Option<ParserState>, Memory>
+        ensures { IfOk result (λ reached. CostLeads CostState.Costing self.old
             (plain_of piece.entry) reached self.new) }
     {
-        let within = Place::InCost(CostPlace::Costing);
+        let within = ParserState::InCost(CostState::Costing);
         let reached = self.take_expression(alloc, within, piece)?;
         Ok(reached)
     }
 }
 
-fn behind_cost(piece: Piece<'_>) -> Option<Place>
-    ensures { result ≡ (if tests.closes_cost (plain_of piece.entry) then Some (Place.InRight RightPlace.Arrowed)
+fn behind_cost(piece: Piece<'_>) -> Option<ParserState>
+    ensures { result ≡ (if tests.closes_cost (plain_of piece.entry) then Some (ParserState.InRight TargetState.Arrowed)
         else None) }
 {
     if piece.closes_cost() {
-        Some(Place::InRight(RightPlace::Arrowed))
+        Some(ParserState::InRight(TargetState::Arrowed))
     } else {
         None
     }
@@ -61,47 +65,47 @@ fn behind_cost(piece: Piece<'_>) -> Option<Place>
 
 impl<'a> RuleDraft<'a> {
     /// The first of a fault so far and those at the next token within the braces of a cost.
-    pub(crate) fn noted_in_cost(
+    pub(crate) fn first_fault_in_cost(
         &self,
         best: Option<Fault>,
-        place: CostPlace,
-        ahead: Ahead<'a>,
+        state: CostState,
+        lookahead: Lookahead<'a>,
     ) -> Option<Fault>
         ensures { maybe_fault result ≡ first_among programs (maybe_fault best)
-            (cost_faults place self.now ahead.entry.at (maybe_of ahead.entry.next)) }
+            (cost_faults state self.now lookahead.entry.at (maybe_of lookahead.entry.next)) }
     {
-        let named = first_with_long_name(best, ahead);
-        self.noted_if_going(named, place.is_costing(), ahead)
+        let named = first_with_long_name(best, lookahead);
+        self.first_fault_if_going(named, state.is_costing(), lookahead)
     }
 
-    /// The cost ends where it can and the next piece doesn't go on with it.
-    pub(crate) fn settle_in_cost(
+    /// Ends the cost, if it can end here and the next piece doesn't continue it.
+    pub(crate) fn end_part_in_cost(
         &mut self,
         alloc: Global,
-        place: CostPlace,
+        state: CostState,
         next: Option<Piece<'a>>,
     ) -> Result<PartEnd, Memory>
-        ensures { IfOk result (λ settled. CostSettles place self.old
-            (maybe_of next.entry) settled.place settled.refusal self.new) }
+        ensures { IfOk result (λ part_ended. CostEndsPart state self.old
+            (maybe_of next.entry) part_ended.state part_ended.refusal self.new) }
     {
-        if self.cost_ends(place, inner_of(next)) {
+        if self.cost_ends(state, inner_of(next)) {
             let refusal = self.end_cost(alloc)?;
             Ok(PartEnd {
-                place: Place::InCost(CostPlace::Costed),
+                state: ParserState::InCost(CostState::Costed),
                 refusal,
             })
         } else {
             Ok(PartEnd {
-                place: Place::InCost(place),
+                state: ParserState::InCost(state),
                 refusal: None,
             })
         }
     }
 
-    fn cost_ends(&self, place: CostPlace, next: Option<Inner<'a>>) -> bool
-        ensures { result ≡ (is_costing place && ends_in self.now.expression (piece_in next.entry)) }
+    fn cost_ends(&self, state: CostState, next: Option<Inner<'a>>) -> bool
+        ensures { result ≡ (is_costing state && ends_in self.now.expression (piece_in next.entry)) }
     {
-        place.is_costing() && self.expression_ends(next)
+        state.is_costing() && self.expression_ends(next)
     }
 
     fn end_cost(&mut self, alloc: Global) -> Result<Option<Kind>, Memory>
@@ -113,7 +117,7 @@ impl<'a> RuleDraft<'a> {
         Ok(refusal)
     }
 
-    /// Whether there are as many atoms as the limit; a cost counts as one.
+    /// Whether there are as many atoms as the limit allows; a cost counts as one.
     pub(crate) fn has_atoms(&self) -> bool
         ensures { result ≡ atoms_fill self.now }
     {

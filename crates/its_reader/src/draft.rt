@@ -1,4 +1,4 @@
-//! What is known of a program while its text is read.
+//! What has been read of a program so far.
 
 ghost use Rattle.std.specs.Prelude.{◌≡◌, []};
 ghost use Rattle.its_text.specs.FrontFaults.{Tokens};
@@ -10,7 +10,7 @@ use its_model::Rule;
 use poly_terms::Expr;
 use std::alloc::Global;
 
-/// The start symbol, and the position at which it stands.
+/// The start symbol, and its position in the text.
 #[derive(Clone, Copy)]
 pub(crate) struct Start<'a> {
     pub name: &'a [u8],
@@ -26,10 +26,10 @@ pub(crate) struct Sections<'a> {
     pub start: Option<Start<'a>>,
 }
 
-/// The rule that is being read.
+/// What has been read of the current rule.
 #[derive(Drop)]
 pub(crate) struct RuleDraft<'a> {
-    /// The symbol of the term that is being read.
+    /// The symbol of the current term.
     pub name: &'a [u8],
     /// The variables, the left ones first.
     pub variables: Variables<'a>,
@@ -39,19 +39,19 @@ pub(crate) struct RuleDraft<'a> {
     pub source: u32,
     /// The number of its target.
     pub target: u32,
-    /// Whether the term that was read last has another number of arguments than its symbol has places.
+    /// Whether the last term has another number of arguments than its symbol has places.
     pub differs: bool,
     /// Its right arguments.
     pub updates: Vec<Expr>,
-    /// The argument or the cost that is being read.
+    /// The current argument or cost.
     pub expression: Expression,
-    /// The guard that is being read.
+    /// The current guard.
     pub guard: GuardReader,
-    /// Its cost, where one is written.
+    /// Its cost, if one is written.
     pub cost: Option<Expr>,
 }
 
-/// The program so far.
+/// What has been read of the program so far.
 #[derive(Drop)]
 pub(crate) struct Draft<'a> {
     pub sections: Sections<'a>,

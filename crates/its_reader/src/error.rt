@@ -6,7 +6,7 @@ ghost use Rattle.its_reader.specs.declared.error.ReadError.TheVariants.{Memory};
 use std::alloc::{AllocError, AllocFailed};
 use thiserror::Error;
 
-/// What there are too many of, or what is too long or too high.
+/// The limit that is exceeded.
 #[derive(Clone, Copy, Debug, PartialEq, Eq)]
 pub enum LimitKind {
     /// More than 1,000 rules.
@@ -37,7 +37,7 @@ pub enum ReadError {
     /// length.
     #[error("syntax at {at}")]
     Syntax { at: u64 },
-    /// There is no STARTTERM or no RULES, and nothing else stands against the text: its length.
+    /// There is no STARTTERM or no RULES, and the text has no other fault. Its position is the text's length.
     #[error("missing section at {at}")]
     MissingSection { at: u64 },
     /// A second section of its kind: its opening bracket.
@@ -49,7 +49,7 @@ pub enum ReadError {
     /// A left argument that isn't a single name: its first byte.
     #[error("left not variable at {at}")]
     LeftNotVariable { at: u64 },
-    /// A left argument that stands there already: the first byte of the second one.
+    /// A left argument occurs a second time. Its position is the first byte of the second occurrence.
     #[error("left repeated at {at}")]
     LeftRepeated { at: u64 },
     /// Another number of arguments than at the symbol's first occurrence: the bracket that closes the term.
@@ -59,11 +59,11 @@ pub enum ReadError {
     /// cost or the atom.
     #[error("number too large at {at}")]
     NumberTooLarge { at: u64 },
-    /// A limit is passed: the first byte of what is one too many, or of the name; of an expression that expands to too
-    /// much, the last byte of the argument, the cost or the atom.
+    /// A limit is exceeded. The position is the first byte of the first thing over the limit, or of the name; for an
+    /// expression that expands to too much, the last byte of the argument, the cost or the atom.
     #[error("limit at {at}")]
     Limit { kind: LimitKind, at: u64 },
-    /// No rule leaves the start symbol, and nothing else stands against the text: the first byte of that symbol.
+    /// No rule leaves the start symbol, and the text has no other fault. Its position is the first byte of that symbol.
     #[error("start unknown at {at}")]
     StartUnknown { at: u64 },
     /// `||`: its first byte.

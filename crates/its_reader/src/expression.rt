@@ -1,4 +1,4 @@
-//! The expression that is being read, an argument or a cost: where each piece leads in it, and how it ends.
+//! The steps of parsing an expression, an argument or a cost, and how it ends.
 
 ghost use Rattle.std.specs.Prelude.{◌≡◌, not, ℕ, IfOk, OnOk};
 ghost use Rattle.poly_terms.specs.Faults.{first_fault};
@@ -11,20 +11,20 @@ ghost use Rattle.expr_reader.specs.GuardParts.{piece_in, goes_on};
 ghost use Rattle.expr_reader.specs.Views.{piece_of as inner_of};
 ghost use Rattle.its_reader.specs.Views.{piece_of as plain_of};
 ghost use Rattle.its_reader.specs.Faults.{maybe_kind};
-ghost use Rattle.its_reader.specs.PlaceSteps.{ExpressionTakes, StaysInRule};
+ghost use Rattle.its_reader.specs.StateSteps.{ExpressionTakes, StaysInRule};
 ghost use Rattle.its_reader.specs.PartEnds.{ends_in};
 
 use crate::draft::{Draft, RuleDraft};
 use crate::fault::Kind;
+use crate::parser_state::ParserState;
 use crate::piece::Piece;
-use crate::place::Place;
 use crate::room::has_room;
 use expr_reader::{Expression, Piece as Inner, Unexpanded};
 use model::Memory;
 use poly_terms::Expr;
 use std::alloc::{AllocError, Global};
 
-/// The refusal for what stands in the way of expanding an expression.
+/// The refusal for the fault that prevents the expansion of an expression.
 pub(crate) fn kind_of(fault: Option<Unexpanded>) -> Option<Kind>
     ensures { (at : ℕ) → maybe_kind result at ≡ expansion_faults at (unexpanded_of fault) }
 {
@@ -54,13 +54,13 @@ fn ends(expression: &Expression, next: Option<Inner<'_>>) -> bool
 }
 
 impl<'a> Draft<'a> {
-    /// A piece of the expression leads on to a place within it. None where it doesn't go on with it.
+    /// The state behind a piece of the expression, within the expression. None where the piece doesn't continue it.
     pub(crate) fn take_expression(
         &mut self,
         alloc: Global,
-        within: Place,
+        within: ParserState,
         piece: Piece<'a>,
-    ) -> Result<Option<Place>, Memory>
+    ) -> Result<Option<ParserState>, Memory>
         ensures { IfOk result (λ reached. ExpressionTakes within self.old (plain_of piece.entry) reached self.new) }
     {
         match piece {

@@ -11,7 +11,7 @@ ghost use Rattle.its_reader.specs.Faults.{limit_of, kind_of, fault_of, maybe_fau
 use crate::error::{LimitKind, ReadError};
 use expr_reader::Unexpanded;
 
-/// Why a text is refused, want of memory aside.
+/// Why a text is refused, if memory suffices.
 #[derive(Clone, Copy)]
 pub(crate) enum Kind {
     NotAscii,
@@ -78,7 +78,7 @@ impl Kind {
         Fault { kind: self, at }
     }
 
-    /// The refusal for what stands in the way of expanding an expression.
+    /// The refusal for the fault that prevents the expansion of an expression.
     pub(crate) fn of(fault: Unexpanded) -> Kind
         ensures { kind_of result ≡ expansion_kind (unexpanded_of fault) }
     {
@@ -91,7 +91,7 @@ impl Kind {
 }
 
 impl Fault {
-    /// Whether this one comes before another.
+    /// Whether this fault comes before another.
     fn is_before(self, other: Fault) -> bool
         ensures { result ≡ plain_before programs (fault_of self) (fault_of other) }
     {
@@ -108,7 +108,7 @@ impl Fault {
         }
     }
 
-    /// The first of a fault so far and one at a position, where a test passes.
+    /// The first of a fault so far and one at a position, if a test succeeds.
     pub(crate) fn first_where(
         best: Option<Fault>,
         test: bool,
@@ -124,7 +124,7 @@ impl Fault {
         }
     }
 
-    /// The first of a fault so far and one of a kind that may be there.
+    /// The first of a fault so far and one of a kind that may be absent.
     pub(crate) fn first_with(best: Option<Fault>, kind: Option<Kind>, at: usize) -> Option<Fault>
         ensures { maybe_fault result ≡ first_among programs (maybe_fault best) (maybe_kind kind at) }
     {

@@ -1,4 +1,4 @@
-//! From what is known at the end of a text to the program.
+//! Builds the program at the end of a text.
 
 ghost use Rattle.std.specs.Prelude.{◌≡◌, map, MatchOption, IfOk, Some, None};
 ghost use Rattle.std.specs.List.{find};
@@ -18,7 +18,7 @@ use its_model::{Program, Rule, Symbol, left_names};
 use model::Memory;
 use std::alloc::Global;
 
-// The refusal where a section is missing from a text of so many bytes.
+// The refusal where a section is missing from a text of this many bytes.
 fn missing(len: usize) -> ReadError
     ensures { fault_in result ≡ Some (record { kind = kinds.MissingSection; at = len }) }
 {
@@ -56,7 +56,7 @@ fn symbols_from(alloc: Global, symbols: &Symbols<'_>) -> Result<Vec<Symbol>, Mem
 }
 
 impl<'a> Draft<'a> {
-    /// The program of a text of so many bytes, where nothing stands against it but what the whole text shows.
+    /// The program of a text of this many bytes, if it has no fault but what only the whole text shows.
     pub(crate) fn finish(self, alloc: Global, len: usize) -> Result<Program, ReadError>
         ensures { Finishes self.entry len result }
     {

@@ -1,4 +1,4 @@
-//! Where each piece leads from the beginning of a rule to the end of its left term.
+//! The steps of parsing a rule up to the end of its left term.
 
 ghost use Rattle.std.specs.Prelude.{◌≡◌, Some, None, if◌then◌else◌, IfOk, OnOk, length, nat_lt, not, ◌==◌, ◌++◌, ◌∷◌};
 ghost use Rattle.std.specs.Prelude.{[], slice_index};
@@ -8,98 +8,98 @@ ghost use Rattle.its_text.specs.expr_text.Terms.{with_name};
 ghost use Rattle.expr_reader.specs.Variables.{names_in};
 ghost use Rattle.its_reader.specs.Views.{piece_of as plain_of};
 ghost use Rattle.its_reader.specs.Tests as tests;
-ghost use Rattle.its_reader.specs.PlaceSteps.{LeftLeads, RuleLeads, ArgumentLeads, AfterLeft};
+ghost use Rattle.its_reader.specs.StateSteps.{LeftLeads, RuleLeads, ArgumentLeads, AfterLeft};
 
 use crate::draft::{Draft, RuleDraft};
+use crate::parser_state::{CostState, ParserState, SectionState, SourceState, TargetState};
 use crate::piece::Piece;
-use crate::place::{CostPlace, LeftPlace, Place, RightPlace, SectionPlace};
 use crate::symbols::{Symbols, narrow};
 use model::Memory;
 
 // A place of a left term, where a test passes.
-fn leads_if(test: bool, behind: LeftPlace) -> Option<Place>
-    ensures { result ≡ (if test then Some (Place.InLeft behind) else None) }
+fn leads_if(test: bool, behind: SourceState) -> Option<ParserState>
+    ensures { result ≡ (if test then Some (ParserState.InLeft behind) else None) }
 {
     if test {
-        Some(Place::InLeft(behind))
+        Some(ParserState::InLeft(behind))
     } else {
         None
     }
 }
 
 impl<'a> Draft<'a> {
-    /// The place that a piece leads to up to the end of a left term. None where it can't follow.
+    /// The state behind a piece up to the end of a left term. None where the piece can't follow.
     pub(crate) fn advance_in_left(
         &mut self,
-        place: LeftPlace,
+        state: SourceState,
         piece: Piece<'a>,
-    ) -> Result<Option<Place>, Memory>
-        ensures { IfOk result (λ reached. LeftLeads place self.old (plain_of piece.entry) reached self.new) }
+    ) -> Result<Option<ParserState>, Memory>
+        ensures { IfOk result (λ reached. LeftLeads state self.old (plain_of piece.entry) reached self.new) }
     {
-        match place {
-            LeftPlace::Ruled => Ok(self.begin_rule(piece)),
-            LeftPlace::SourceNamed => Ok(leads_if(piece.opens(), LeftPlace::LeftOpened)),
-            LeftPlace::LeftOpened => self.behind_left_bracket(piece),
-            LeftPlace::LeftRead => self.behind_left_argument(piece),
-            LeftPlace::LeftParted => self.behind_left_comma(piece),
-            LeftPlace::LeftShut => Ok(behind_left(piece)),
+        match state {
+            SourceState::AfterRule => Ok(self.begin_rule(piece)),
+            SourceState::SourceNamed => Ok(leads_if(piece.opens(), SourceState::LeftOpened)),
+            SourceState::LeftOpened => self.behind_left_bracket(piece),
+            SourceState::LeftRead => self.behind_left_argument(piece),
+            SourceState::LeftParted => self.behind_left_comma(piece),
+            SourceState::SourceClosed => Ok(behind_left(piece)),
         }
     }
 
     /// A rule's source, or the end of the section.
-    pub(crate) fn begin_rule(&mut self, piece: Piece<'a>) -> Option<Place>
+    pub(crate) fn begin_rule(&mut self, piece: Piece<'a>) -> Option<ParserState>
         ensures leads { RuleLeads self.old (plain_of piece.entry) result self.new }
         ensures sourced { (name : Name) → tests.word (plain_of piece.entry) ≡ Some name
-            → result ≡ Some (Place.InLeft LeftPlace.SourceNamed) }
+            → result ≡ Some (ParserState.InLeft SourceState.SourceNamed) }
     {
         match piece.word() {
             Some(name) => {
                 self.rule.name = name;
-                Some(Place::InLeft(LeftPlace::SourceNamed))
+                Some(ParserState::InLeft(SourceState::SourceNamed))
             }
             None => self.end_rules(piece),
         }
     }
 
-    fn end_rules(&mut self, piece: Piece<'a>) -> Option<Place>
+    fn end_rules(&mut self, piece: Piece<'a>) -> Option<ParserState>
         ensures { tests.word (plain_of piece.entry) ≡ None → RuleLeads self.old (plain_of piece.entry) result self.new }
     {
         if piece.closes() {
             self.sections.rules = true;
-            Some(Place::InSections(SectionPlace::Between))
+            Some(ParserState::InSections(SectionState::Between))
         } else {
             None
         }
     }
 
     // A left argument, or the end of a term without any.
-    fn behind_left_bracket(&mut self, piece: Piece<'a>) -> Result<Option<Place>, Memory>
-        ensures { IfOk result (λ reached. LeftLeads LeftPlace.LeftOpened self.old
+    fn behind_left_bracket(&mut self, piece: Piece<'a>) -> Result<Option<ParserState>, Memory>
+        ensures { IfOk result (λ reached. LeftLeads SourceState.LeftOpened self.old
             (plain_of piece.entry) reached self.new) }
     {
         if piece.closes() {
-            self.shut_left()?;
-            Ok(Some(Place::InLeft(LeftPlace::LeftShut)))
+            self.close_source()?;
+            Ok(Some(ParserState::InLeft(SourceState::SourceClosed)))
         } else {
             let reached = self.name_left(piece)?;
             Ok(reached)
         }
     }
 
-    fn behind_left_argument(&mut self, piece: Piece<'a>) -> Result<Option<Place>, Memory>
-        ensures { IfOk result (λ reached. LeftLeads LeftPlace.LeftRead self.old
+    fn behind_left_argument(&mut self, piece: Piece<'a>) -> Result<Option<ParserState>, Memory>
+        ensures { IfOk result (λ reached. LeftLeads SourceState.LeftRead self.old
             (plain_of piece.entry) reached self.new) }
     {
         if piece.closes() {
-            self.shut_left()?;
-            Ok(Some(Place::InLeft(LeftPlace::LeftShut)))
+            self.close_source()?;
+            Ok(Some(ParserState::InLeft(SourceState::SourceClosed)))
         } else {
-            Ok(leads_if(piece.parts(), LeftPlace::LeftParted))
+            Ok(leads_if(piece.parts(), SourceState::LeftParted))
         }
     }
 
-    fn behind_left_comma(&mut self, piece: Piece<'a>) -> Result<Option<Place>, Memory>
-        ensures { IfOk result (λ reached. LeftLeads LeftPlace.LeftParted self.old
+    fn behind_left_comma(&mut self, piece: Piece<'a>) -> Result<Option<ParserState>, Memory>
+        ensures { IfOk result (λ reached. LeftLeads SourceState.LeftParted self.old
             (plain_of piece.entry) reached self.new) }
     {
         let reached = self.name_left(piece)?;
@@ -107,20 +107,20 @@ impl<'a> Draft<'a> {
     }
 
     // A left argument.
-    fn name_left(&mut self, piece: Piece<'a>) -> Result<Option<Place>, Memory>
+    fn name_left(&mut self, piece: Piece<'a>) -> Result<Option<ParserState>, Memory>
         ensures { IfOk result (λ reached. ArgumentLeads self.old (plain_of piece.entry) reached self.new) }
     {
         match piece.word() {
             Some(name) => {
                 self.rule.variables.number(name)?;
-                Ok(Some(Place::InLeft(LeftPlace::LeftRead)))
+                Ok(Some(ParserState::InLeft(SourceState::LeftRead)))
             }
             None => Ok(None),
         }
     }
 
     // The left term ends.
-    fn shut_left(&mut self) -> Result<(), Memory>
+    fn close_source(&mut self) -> Result<(), Memory>
         ensures { OnOk result (AfterLeft self.old self.new) }
     {
         self.rule.end_left(&mut self.symbols)?;
@@ -129,14 +129,14 @@ impl<'a> Draft<'a> {
 }
 
 // The arrow, or the braces of a cost.
-fn behind_left(piece: Piece<'_>) -> Option<Place>
-    ensures { result ≡ (if tests.leads (plain_of piece.entry) then Some (Place.InRight RightPlace.Arrowed)
-        else if tests.opens_cost (plain_of piece.entry) then Some (Place.InCost CostPlace.Costing) else None) }
+fn behind_left(piece: Piece<'_>) -> Option<ParserState>
+    ensures { result ≡ (if tests.leads (plain_of piece.entry) then Some (ParserState.InRight TargetState.Arrowed)
+        else if tests.opens_cost (plain_of piece.entry) then Some (ParserState.InCost CostState.Costing) else None) }
 {
     if piece.leads() {
-        Some(Place::InRight(RightPlace::Arrowed))
+        Some(ParserState::InRight(TargetState::Arrowed))
     } else if piece.opens_cost() {
-        Some(Place::InCost(CostPlace::Costing))
+        Some(ParserState::InCost(CostState::Costing))
     } else {
         None
     }

@@ -80,7 +80,7 @@ fn guard_mark<'a>(bytes: &[u8]) -> Lexeme<'a>
     }
 }
 
-// What a byte begins that begins no name and no number.
+// The piece of a byte that begins no name and no number.
 fn mark<'a>(first: u8, bytes: &[u8]) -> Lexeme<'a>
     ensures { lexeme_of result ≡ lexing.mark_at first bytes.now }
 {
@@ -107,7 +107,7 @@ fn mark<'a>(first: u8, bytes: &[u8]) -> Lexeme<'a>
     }
 }
 
-// What a text begins with, which has this first byte and others behind it.
+// The lexeme that a text begins with, given its first byte and the others.
 fn lexeme_at<'a>(text: &'a [u8], first: u8, others: &'a [u8]) -> Lexeme<'a>
     requires { text.now ≡ first ∷ others.now }
     ensures { lexeme_of result ≡ lexing.lexeme_at first others.now }
@@ -128,7 +128,7 @@ fn lexeme_at<'a>(text: &'a [u8], first: u8, others: &'a [u8]) -> Lexeme<'a>
     }
 }
 
-// What a comment says that this text begins with.
+// The text of the comment that this text begins with.
 fn remark<'a>(text: &'a [u8], first: u8, others: &'a [u8]) -> Lexeme<'a>
     requires { text.now ≡ first ∷ others.now }
     ensures { lexeme_of result ≡ lexing.remark_of first others.now (lexing.closing_at (first ∷ others.now) 0) }
@@ -142,7 +142,7 @@ fn remark<'a>(text: &'a [u8], first: u8, others: &'a [u8]) -> Lexeme<'a>
     }
 }
 
-// What a text begins with, by the mode.
+// The lexeme that a text begins with, by the mode.
 fn lexeme_in<'a>(mode: Mode, text: &'a [u8], first: u8, others: &'a [u8]) -> Lexeme<'a>
     requires { text.now ≡ first ∷ others.now }
     ensures { lexeme_of result ≡ lexing.lexeme_in (mode_of mode) first others.now }
@@ -166,7 +166,7 @@ fn mode_after(mode: Mode, piece: Option<Piece<'_>>) -> Mode
     }
 }
 
-/// The lexer: the text that is left, its position, and the mode.
+/// The lexer: the remaining text, its position, and the mode.
 #[derive(Clone, Copy)]
 pub(crate) struct Lexer<'a> {
     pub text: &'a [u8],
@@ -188,7 +188,7 @@ impl<'a> Lexer<'a> {
         }
     }
 
-    // What the text begins with is passed over.
+    // Skips the lexeme that the text begins with.
     fn take(&mut self, first: u8, others: &'a [u8]) -> Lexeme<'a>
         requires text { self.old.text.now ≡ first ∷ others.now }
         requires bounded { self.old.at + length self.old.text.now < 2 ^ 63 }

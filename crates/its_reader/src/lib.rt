@@ -1,13 +1,13 @@
-//! The reader of program texts: from bytes to a program by numbers.
-//! Contract to the layer above: `read` says the verdict on a text, that is its one program where it spells one within
-//! the limits, or what stands first against it; and what it reads is valid. Tokens are read one after the other, each
-//! with the one behind it in sight; a place says what was read last, a draft what is known, and both stand for a written
-//! front.
+//! The parser of program texts in KoAT's ITS format: from bytes to a program whose symbols and variables are numbered.
+//!
+//! Builds on `its_text` (what a text spells, and its faults) and `expr_reader` (expressions and guards). Tokens are
+//! read one after the other with one token of lookahead: a `Place` is the parser's state, a `Draft` is what has been
+//! read, and together they represent the written front of `its_text`. Main guarantee: `read` gives the verdict on a
+//! text, which is its one program where it spells one within the limits, and else its first fault; and the program is
+//! valid.
 #![tactic(auto)]
 
-mod ahead;
-mod ahead_right;
-mod ahead_tail;
+mod break_kind_of;
 mod comment;
 mod cost;
 mod draft;
@@ -17,16 +17,18 @@ mod fault;
 mod finish;
 mod left;
 mod lexer;
+mod lookahead;
+mod lookahead_right;
+mod lookahead_tail;
 mod mode;
-mod off;
+mod parser_state;
+mod part_end;
 mod piece;
-mod place;
 mod reading;
 mod right;
 mod room;
 mod rules;
 mod sections;
-mod settling;
 mod symbols;
 mod tail;
 

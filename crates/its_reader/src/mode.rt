@@ -1,4 +1,4 @@
-//! What the lexer knows of the place.
+//! The lexer's mode.
 
 ghost use Rattle.std.specs.Prelude.{◌≡◌, ◌<◌, Some};
 ghost use Rattle.its_text.specs.Pieces.{close_bracket};
@@ -8,14 +8,14 @@ ghost use Rattle.its_reader.specs.Views.{mode_of, depth_of, piece_of as plain_of
 
 use crate::piece::Piece;
 
-/// Where the lexer stands.
+/// The mode of the lexer.
 #[derive(Clone, Copy)]
 pub(crate) enum Mode {
     /// Between sections.
     Outside,
     /// Behind the bracket that opens a section.
     AtKeyword,
-    /// Within a section, with so many brackets open in it.
+    /// Within a section, with this many brackets open in it.
     Within(usize),
     /// Behind the keyword of a comment.
     InComment,

@@ -30,7 +30,7 @@ pub(crate) enum Piece<'a> {
     SquareClose,
     /// `||`
     Disjoining,
-    /// What a comment says, with the bracket that closes it.
+    /// The text of a comment, with the bracket that closes it.
     Remark(&'a [u8]),
     /// Bytes that begin no piece.
     Wrong,
@@ -197,7 +197,7 @@ impl<'a> Piece<'a> {
         matches!(self, Piece::CostClose)
     }
 
-    /// Whether it is what a comment says.
+    /// Whether it is the text of a comment.
     pub(crate) fn remarks(self) -> bool
         ensures { result ≡ tests.remarks (plain_of self.entry) }
     {

@@ -1,4 +1,4 @@
-//! From the bytes of a text to its program.
+//! Reads a program from the bytes of its text.
 
 ghost use Rattle.std.specs.Prelude.{◌≡◌, ◌-◌, Some, None, IfOk};
 ghost use Rattle.its_model.specs.Valid.{IsValid};
@@ -11,28 +11,28 @@ ghost use Rattle.its_reader.specs.TokenSteps.{Judges, Advances, Turns, Closes, t
 ghost use Rattle.its_reader.specs.TokenSteps.{behind_token};
 ghost use Rattle.its_reader.specs.TokenSteps.{is_final as plain_final, least_of};
 
-use crate::ahead::Ahead;
+use crate::break_kind_of::break_kind;
 use crate::draft::Draft;
 use crate::error::ReadError;
 use crate::fault::{Fault, Kind};
 use crate::lexer::Lexer;
-use crate::off::break_kind;
+use crate::lookahead::Lookahead;
+use crate::parser_state::{ParserState, SectionState};
 use crate::piece::{Piece, Token, piece_of};
-use crate::place::{Place, SectionPlace};
 use expr_reader::Piece as Inner;
 use its_model::Program;
 use model::Memory;
 use std::alloc::Global;
 
-/// Where the reader stands, the last byte that was read, and the refusal so far.
+/// The state of the parser, the last byte that was read, and the refusal so far.
 #[derive(Clone, Copy)]
 pub(crate) struct ReaderState {
-    pub place: Place,
+    pub state: ParserState,
     pub last: usize,
     pub best: Option<Fault>,
 }
 
-/// What a token leads to: where the reader stands behind it, or the first refusal of the text.
+/// What reading a token leads to: the parser's next state, or the first refusal of the text.
 #[derive(Clone, Copy)]
 pub(crate) enum TokenStep {
     On(ReaderState),
@@ -56,7 +56,7 @@ fn least_behind(piece: Piece<'_>) -> u8
     }
 }
 
-// Whether a refusal so far is the answer behind a token that could follow: none that is still to come is before it.
+// Whether a refusal so far is the answer behind a token that could follow: no later one can come before it.
 fn is_final(fault: Fault, token: Token<'_>) -> bool
     ensures { result ≡ plain_final (fault_of fault) (token_of token.entry) }
 {
@@ -65,28 +65,28 @@ fn is_final(fault: Fault, token: Token<'_>) -> bool
     fault.at < last || (fault.at == last && fault.kind.number() <= least)
 }
 
-// What a token leads to that can follow.
-fn goes_on(best: Option<Fault>, place: Place, token: Token<'_>) -> TokenStep
-    ensures { token_result_of result ≡ behind_token (maybe_fault best) place (token_of token.entry) }
+// The result of a token that can follow.
+fn goes_on(best: Option<Fault>, state: ParserState, token: Token<'_>) -> TokenStep
+    ensures { token_result_of result ≡ behind_token (maybe_fault best) state (token_of token.entry) }
 {
     match best {
-        Some(fault) => goes_on_or_ends(fault, place, token),
+        Some(fault) => goes_on_or_ends(fault, state, token),
         None => TokenStep::On(ReaderState {
-            place,
+            state,
             last: last_of(token),
             best: None,
         }),
     }
 }
 
-fn goes_on_or_ends(fault: Fault, place: Place, token: Token<'_>) -> TokenStep
-    ensures { token_result_of result ≡ behind_token (Some (fault_of fault)) place (token_of token.entry) }
+fn goes_on_or_ends(fault: Fault, state: ParserState, token: Token<'_>) -> TokenStep
+    ensures { token_result_of result ≡ behind_token (Some (fault_of fault)) state (token_of token.entry) }
 {
     if is_final(fault, token) {
         TokenStep::Over(fault)
     } else {
         TokenStep::On(ReaderState {
-            place,
+            state,
             last: last_of(token),
             best: Some(fault),
         })
@@ -94,45 +94,45 @@ fn goes_on_or_ends(fault: Fault, place: Place, token: Token<'_>) -> TokenStep
 }
 
 // The text breaks off at a token.
-fn breaks_off(place: Place, best: Option<Fault>, token: Token<'_>) -> TokenStep
-    ensures { token_result_of result ≡ token_result place (maybe_fault best) (token_of token.entry) None }
+fn breaks_off(state: ParserState, best: Option<Fault>, token: Token<'_>) -> TokenStep
+    ensures { token_result_of result ≡ token_result state (maybe_fault best) (token_of token.entry) None }
 {
-    let fault = break_kind(place, token.piece).at(token.at);
+    let fault = break_kind(state, token.piece).at(token.at);
     TokenStep::Over(Fault::first_of(best, fault))
 }
 
-// What a token leads to, by the place that it leads to.
+// The result of a token, by the state that it leads to.
 fn turned_by(
-    place: Place,
+    state: ParserState,
     best: Option<Fault>,
     token: Token<'_>,
-    reached: Option<Place>,
+    reached: Option<ParserState>,
 ) -> TokenStep
-    ensures { token_result_of result ≡ token_result place (maybe_fault best) (token_of token.entry) reached }
+    ensures { token_result_of result ≡ token_result state (maybe_fault best) (token_of token.entry) reached }
 {
     match reached {
         Some(reached) => goes_on(best, reached, token),
-        None => breaks_off(place, best, token),
+        None => breaks_off(state, best, token),
     }
 }
 
 impl<'a> Draft<'a> {
-    // What ends before the next token has ended, and the first of a refusal so far and those that stand here.
+    // Ends the parts that end before the next token, and returns the first of the refusal so far and the faults here.
     fn judge(
         &mut self,
         alloc: Global,
         stand: ReaderState,
-        ahead: Ahead<'a>,
+        lookahead: Lookahead<'a>,
     ) -> Result<ReaderState, Memory>
-        ensures { IfOk result (λ now. Judges stand.place stand.last (maybe_fault stand.best) self.old
-            (maybe_of ahead.entry.next) (maybe_of ahead.entry.behind) ahead.entry.at now.place
+        ensures { IfOk result (λ now. Judges stand.state stand.last (maybe_fault stand.best) self.old
+            (maybe_of lookahead.entry.next) (maybe_of lookahead.entry.behind) lookahead.entry.at now.state
             (maybe_fault now.best) self.new) }
     {
-        let settled = self.settle(alloc, stand.place, ahead.next)?;
-        let ended = Fault::first_with(stand.best, settled.refusal, stand.last);
-        let best = self.noted(ended, settled.place, ahead);
+        let part_ended = self.end_part(alloc, stand.state, lookahead.next)?;
+        let ended = Fault::first_with(stand.best, part_ended.refusal, stand.last);
+        let best = self.first_fault_ahead(ended, part_ended.state, lookahead);
         Ok(ReaderState {
-            place: settled.place,
+            state: part_ended.state,
             last: stand.last,
             best,
         })
@@ -142,30 +142,30 @@ impl<'a> Draft<'a> {
     fn advance(
         &mut self,
         alloc: Global,
-        place: Place,
+        state: ParserState,
         token: Token<'a>,
         behind: Option<Piece<'a>>,
-    ) -> Result<Option<Place>, Memory>
-        ensures { IfOk result (λ reached. Advances place self.old (token_of token.entry)
+    ) -> Result<Option<ParserState>, Memory>
+        ensures { IfOk result (λ reached. Advances state self.old (token_of token.entry)
             (maybe_of behind.entry) reached self.new) }
     {
-        match place {
-            Place::InSections(section) => {
+        match state {
+            ParserState::InSections(section) => {
                 Ok(self.advance_in_sections(alloc, section, token.piece, token.at))
             }
-            Place::InLeft(left) => {
+            ParserState::InLeft(left) => {
                 let led = self.advance_in_left(left, token.piece)?;
                 Ok(led)
             }
-            Place::InCost(cost) => {
+            ParserState::InCost(cost) => {
                 let costed = self.advance_in_cost(alloc, cost, token.piece)?;
                 Ok(costed)
             }
-            Place::InRight(right) => {
+            ParserState::InRight(right) => {
                 let aimed = self.advance_in_right(alloc, right, token.piece)?;
                 Ok(aimed)
             }
-            Place::InTail(tail) => {
+            ParserState::InTail(tail) => {
                 let guarded = self.advance_in_tail(alloc, tail, token.piece, behind)?;
                 Ok(guarded)
             }
@@ -180,30 +180,30 @@ impl<'a> Draft<'a> {
         token: Token<'a>,
         behind: Option<Piece<'a>>,
     ) -> Result<TokenStep, Memory>
-        ensures { IfOk result (λ turn. Turns stand.place stand.last (maybe_fault stand.best) self.old
+        ensures { IfOk result (λ turn. Turns stand.state stand.last (maybe_fault stand.best) self.old
             (token_of token.entry) (maybe_of behind.entry) (token_result_of turn) self.new) }
     {
-        let ahead = Ahead {
+        let lookahead = Lookahead {
             next: Some(token.piece),
             behind,
             at: token.at,
         };
-        let judged = self.judge(alloc, stand, ahead)?;
-        let reached = self.advance(alloc, judged.place, token, behind)?;
-        Ok(turned_by(judged.place, judged.best, token, reached))
+        let judged = self.judge(alloc, stand, lookahead)?;
+        let reached = self.advance(alloc, judged.state, token, behind)?;
+        Ok(turned_by(judged.state, judged.best, token, reached))
     }
 
-    // The end of a text of so many bytes.
+    // The end of a text of this many bytes.
     fn end(mut self, alloc: Global, stand: ReaderState, len: usize) -> Result<Program, ReadError>
-        ensures { Closes stand.place stand.last (maybe_fault stand.best) self.entry len result }
+        ensures { Closes stand.state stand.last (maybe_fault stand.best) self.entry len result }
     {
-        let ahead = Ahead {
+        let lookahead = Lookahead {
             next: None,
             behind: None,
             at: len,
         };
-        let judged = self.judge(alloc, stand, ahead)?;
-        if !judged.place.is_between() {
+        let judged = self.judge(alloc, stand, lookahead)?;
+        if !judged.state.is_between() {
             return Err(Fault::first_of(judged.best, Kind::Syntax.at(len)).error());
         }
         match judged.best {
@@ -214,13 +214,13 @@ impl<'a> Draft<'a> {
 }
 
 /// Reads the program that a text spells: `Ok` exactly where the bytes spell a program within the limits, and then with
-/// that program by numbers, which is valid.
+/// that program, by numbers, which is valid.
 ///
 /// # Errors
 ///
-/// What stands first against the text, with the position of a byte, counted from 0; of two at one byte the one that
-/// `ReadError` lists first. Each variant tells when it comes and at which byte. `Memory` where memory ran out; nothing
-/// is said of the text then.
+/// The first fault of the text, with its position (a byte, counted from 0); of two faults at one byte, the one that
+/// `ReadError` lists first. Each variant says when it comes and at which byte. `Memory` where memory ran out; that says
+/// nothing about the text.
 pub fn read(alloc: Global, bytes: &[u8]) -> Result<Program, ReadError>
     ensures says { Says (verdict bytes.now) result }
     ensures only { IsOnlyVerdict bytes.now (verdict bytes.now) }
@@ -236,7 +236,7 @@ fn read_tokens(alloc: Global, bytes: &[u8]) -> Result<Program, ReadError>
     let mut draft = Draft::new(alloc);
     let mut lexer = Lexer::new(bytes);
     let mut stand = ReaderState {
-        place: Place::InSections(SectionPlace::Between),
+        state: ParserState::InSections(SectionState::Between),
         last: 0,
         best: None,
     };

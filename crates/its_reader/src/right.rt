@@ -1,4 +1,4 @@
-//! Where each piece leads from the arrow to the end of the target.
+//! The steps of parsing from the arrow to the end of the target.
 
 ghost use Rattle.std.specs.Prelude.{◌≡◌, Some, None, if◌then◌else◌, IfOk, OnOk, length, nat_lt, not, ◌==◌, ◌++◌, ◌∷◌};
 ghost use Rattle.std.specs.Prelude.{[], slice_index};
@@ -7,83 +7,83 @@ ghost use Rattle.its_text.specs.expr_text.Terms.{with_name};
 ghost use Rattle.expr_reader.specs.Variables.{names_in};
 ghost use Rattle.its_reader.specs.Views.{piece_of as plain_of};
 ghost use Rattle.its_reader.specs.Places.{behind_wrap};
-ghost use Rattle.its_reader.specs.PlaceSteps.{RightLeads, TargetNames, AfterRight};
+ghost use Rattle.its_reader.specs.StateSteps.{RightLeads, TargetNames, AfterRight};
 
 use crate::draft::{Draft, RuleDraft};
+use crate::parser_state::{ParserState, TailState, TargetState, Wrap};
 use crate::piece::Piece;
-use crate::place::{Place, RightPlace, TailPlace, Wrap};
 use crate::symbols::{Symbols, narrow};
 use model::Memory;
 use std::alloc::Global;
 
 // A place of a right term, where a test passes.
-fn leads_if(test: bool, behind: RightPlace) -> Option<Place>
-    ensures { result ≡ (if test then Some (Place.InRight behind) else None) }
+fn leads_if(test: bool, behind: TargetState) -> Option<ParserState>
+    ensures { result ≡ (if test then Some (ParserState.InRight behind) else None) }
 {
     if test {
-        Some(Place::InRight(behind))
+        Some(ParserState::InRight(behind))
     } else {
         None
     }
 }
 
-fn behind_right(wrap: Wrap) -> Place
+fn behind_right(wrap: Wrap) -> ParserState
     ensures { result ≡ behind_wrap wrap }
 {
     match wrap {
-        Wrap::InCom => Place::InRight(RightPlace::RightShut),
-        Wrap::Alone => Place::InTail(TailPlace::Targeted),
+        Wrap::InCom => ParserState::InRight(TargetState::TargetClosed),
+        Wrap::Alone => ParserState::InTail(TailState::Targeted),
     }
 }
 
 impl<'a> Draft<'a> {
-    /// The place that a piece leads to from the arrow to the end of the target. None where it can't follow.
+    /// The state behind a piece from the arrow to the end of the target. None where the piece can't follow.
     pub(crate) fn advance_in_right(
         &mut self,
         alloc: Global,
-        place: RightPlace,
+        state: TargetState,
         piece: Piece<'a>,
-    ) -> Result<Option<Place>, Memory>
-        ensures { IfOk result (λ reached. RightLeads place self.old (plain_of piece.entry) reached self.new) }
+    ) -> Result<Option<ParserState>, Memory>
+        ensures { IfOk result (λ reached. RightLeads state self.old (plain_of piece.entry) reached self.new) }
     {
-        match place {
-            RightPlace::Arrowed => Ok(self.behind_arrow(piece)),
-            RightPlace::ComNamed => Ok(leads_if(piece.opens(), RightPlace::ComOpened)),
-            RightPlace::ComOpened => Ok(self.behind_com(piece)),
-            RightPlace::TargetNamed(wrap) => {
-                Ok(leads_if(piece.opens(), RightPlace::RightOpened(wrap)))
+        match state {
+            TargetState::Arrowed => Ok(self.behind_arrow(piece)),
+            TargetState::ComNamed => Ok(leads_if(piece.opens(), TargetState::ComOpened)),
+            TargetState::ComOpened => Ok(self.behind_com(piece)),
+            TargetState::TargetNamed(wrap) => {
+                Ok(leads_if(piece.opens(), TargetState::RightOpened(wrap)))
             }
-            RightPlace::RightOpened(wrap) => self.behind_right_bracket(alloc, wrap, piece),
-            RightPlace::Arguing(wrap) => self.within_argument(alloc, wrap, piece),
-            RightPlace::Argued(wrap) => self.behind_argument(wrap, piece),
-            RightPlace::RightShut => Ok(self.shut_com(piece)),
+            TargetState::RightOpened(wrap) => self.behind_right_bracket(alloc, wrap, piece),
+            TargetState::Arguing(wrap) => self.within_argument(alloc, wrap, piece),
+            TargetState::Argued(wrap) => self.behind_argument(wrap, piece),
+            TargetState::TargetClosed => Ok(self.close_com(piece)),
         }
     }
 
     // `Com_1`, or the target's name.
-    fn behind_arrow(&mut self, piece: Piece<'a>) -> Option<Place>
-        ensures { RightLeads RightPlace.Arrowed self.old (plain_of piece.entry) result self.new }
+    fn behind_arrow(&mut self, piece: Piece<'a>) -> Option<ParserState>
+        ensures { RightLeads TargetState.Arrowed self.old (plain_of piece.entry) result self.new }
     {
         if piece.says(b"Com_1") {
-            Some(Place::InRight(RightPlace::ComNamed))
+            Some(ParserState::InRight(TargetState::ComNamed))
         } else {
             self.name_target(Wrap::Alone, piece)
         }
     }
 
-    fn behind_com(&mut self, piece: Piece<'a>) -> Option<Place>
-        ensures { RightLeads RightPlace.ComOpened self.old (plain_of piece.entry) result self.new }
+    fn behind_com(&mut self, piece: Piece<'a>) -> Option<ParserState>
+        ensures { RightLeads TargetState.ComOpened self.old (plain_of piece.entry) result self.new }
     {
         self.name_target(Wrap::InCom, piece)
     }
 
-    fn name_target(&mut self, wrap: Wrap, piece: Piece<'a>) -> Option<Place>
+    fn name_target(&mut self, wrap: Wrap, piece: Piece<'a>) -> Option<ParserState>
         ensures { TargetNames wrap self.old (plain_of piece.entry) result self.new }
     {
         match piece.word() {
             Some(name) => {
                 self.rule.name = name;
-                Some(Place::InRight(RightPlace::TargetNamed(wrap)))
+                Some(ParserState::InRight(TargetState::TargetNamed(wrap)))
             }
             None => None,
         }
@@ -95,15 +95,15 @@ impl<'a> Draft<'a> {
         alloc: Global,
         wrap: Wrap,
         piece: Piece<'a>,
-    ) -> Result<Option<Place>, Memory>
-        ensures { IfOk result (λ reached. RightLeads (RightPlace.RightOpened wrap) self.old
+    ) -> Result<Option<ParserState>, Memory>
+        ensures { IfOk result (λ reached. RightLeads (TargetState.RightOpened wrap) self.old
             (plain_of piece.entry) reached self.new) }
     {
         if piece.closes() {
-            self.shut_right()?;
+            self.close_target()?;
             Ok(Some(behind_right(wrap)))
         } else {
-            let within = Place::InRight(RightPlace::Arguing(wrap));
+            let within = ParserState::InRight(TargetState::Arguing(wrap));
             let reached = self.take_expression(alloc, within, piece)?;
             Ok(reached)
         }
@@ -114,41 +114,45 @@ impl<'a> Draft<'a> {
         alloc: Global,
         wrap: Wrap,
         piece: Piece<'a>,
-    ) -> Result<Option<Place>, Memory>
-        ensures { IfOk result (λ reached. RightLeads (RightPlace.Arguing wrap) self.old
+    ) -> Result<Option<ParserState>, Memory>
+        ensures { IfOk result (λ reached. RightLeads (TargetState.Arguing wrap) self.old
             (plain_of piece.entry) reached self.new) }
     {
-        let within = Place::InRight(RightPlace::Arguing(wrap));
+        let within = ParserState::InRight(TargetState::Arguing(wrap));
         let reached = self.take_expression(alloc, within, piece)?;
         Ok(reached)
     }
 
-    fn behind_argument(&mut self, wrap: Wrap, piece: Piece<'a>) -> Result<Option<Place>, Memory>
-        ensures { IfOk result (λ reached. RightLeads (RightPlace.Argued wrap) self.old
+    fn behind_argument(
+        &mut self,
+        wrap: Wrap,
+        piece: Piece<'a>,
+    ) -> Result<Option<ParserState>, Memory>
+        ensures { IfOk result (λ reached. RightLeads (TargetState.Argued wrap) self.old
             (plain_of piece.entry) reached self.new) }
     {
         if piece.closes() {
-            self.shut_right()?;
+            self.close_target()?;
             Ok(Some(behind_right(wrap)))
         } else {
-            Ok(leads_if(piece.parts(), RightPlace::Arguing(wrap)))
+            Ok(leads_if(piece.parts(), TargetState::Arguing(wrap)))
         }
     }
 
     // The bracket that closes `Com_1(`: the term within has been judged.
-    fn shut_com(&mut self, piece: Piece<'a>) -> Option<Place>
-        ensures { RightLeads RightPlace.RightShut self.old (plain_of piece.entry) result self.new }
+    fn close_com(&mut self, piece: Piece<'a>) -> Option<ParserState>
+        ensures { RightLeads TargetState.TargetClosed self.old (plain_of piece.entry) result self.new }
     {
         if piece.closes() {
             self.rule.differs = false;
-            Some(Place::InTail(TailPlace::Targeted))
+            Some(ParserState::InTail(TailState::Targeted))
         } else {
             None
         }
     }
 
     // The right term ends.
-    fn shut_right(&mut self) -> Result<(), Memory>
+    fn close_target(&mut self) -> Result<(), Memory>
         ensures { OnOk result (AfterRight self.old self.new) }
     {
         self.rule.end_right(&mut self.symbols)?;

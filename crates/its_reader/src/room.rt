@@ -1,4 +1,4 @@
-//! Room for one token more.
+//! Reserves room for one more token.
 
 ghost use Rattle.std.specs.Prelude.{IsTrue};
 ghost use Rattle.expr_reader.specs.Variables.{names_in};
@@ -6,7 +6,7 @@ ghost use Rattle.expr_reader.specs.Standing.{HasRoom};
 
 use expr_reader::{Expression, Variables};
 
-/// Whether one token more can be counted, and one variable more numbered: no memory holds so many that they can't.
+/// Whether one more token can be counted, and one more variable numbered. Memory never holds so many that this fails.
 pub(crate) fn has_room(expression: &Expression, variables: &Variables<'_>) -> bool
     ensures { IsTrue result → HasRoom (names_in variables.now) expression.now }
 {

@@ -1,4 +1,4 @@
-//! How the parts of a rule are put together.
+//! Assembles the parts of a rule.
 
 ghost use Rattle.std.specs.Prelude.{◌≡◌, map, IfOk, OnOk};
 ghost use Rattle.its_model.specs.Views.{name_of, rule_of};

@@ -21,19 +21,19 @@ pub(crate) struct Symbols<'a> {
 
 /// A symbol's number, and the number of its places.
 #[derive(Clone, Copy)]
-pub(crate) struct Known {
+pub(crate) struct KnownSymbol {
     pub number: usize,
     pub arity: u32,
 }
 
 /// A symbol's name, and the number of its places.
 #[derive(Clone, Copy)]
-pub(crate) struct Listed<'a> {
+pub(crate) struct SymbolEntry<'a> {
     pub name: &'a [u8],
     pub arity: u32,
 }
 
-/// A count as a number of 32 bits; no memory holds more.
+/// A count as a number of 32 bits; memory holds no greater counts.
 pub(crate) fn narrow(count: usize) -> Result<u32, Memory>
     ensures { IfOk result (λ n. n ≡ count) }
 {
@@ -52,8 +52,8 @@ impl<'a> Symbols<'a> {
         }
     }
 
-    /// The symbol that a term has. A new symbol goes to the end, with so many places.
-    pub(crate) fn of_term(&mut self, name: &'a [u8], arity: u32) -> Result<Known, Memory>
+    /// The symbol of a term. A new symbol is appended, with this many places.
+    pub(crate) fn of_term(&mut self, name: &'a [u8], arity: u32) -> Result<KnownSymbol, Memory>
         ensures number { IfOk result (λ known. known.number ≡ position_of name.now (names_in self.old.names)) }
         ensures names { OnOk result (names_in self.new.names ≡ with_name (names_in self.old.names) name.now) }
         ensures arities { OnOk result (self.new.arities.items
@@ -64,7 +64,7 @@ impl<'a> Symbols<'a> {
         let number = self.names.number(name)?;
         self.keep(number, arity)?;
         match self.arities.get(number) {
-            Some(arity) => Ok(Known {
+            Some(arity) => Ok(KnownSymbol {
                 number,
                 arity: *arity,
             }),
@@ -83,7 +83,7 @@ impl<'a> Symbols<'a> {
     }
 
     /// The symbol with a number.
-    pub(crate) fn get(&self, number: usize) -> Option<Listed<'a>>
+    pub(crate) fn get(&self, number: usize) -> Option<SymbolEntry<'a>>
         ensures { symbol_in result ≡ slice_get (tabled (names_in self.now.names) self.now.arities.items) number }
     {
         match self.names.names().get_index(number) {
@@ -92,11 +92,11 @@ impl<'a> Symbols<'a> {
         }
     }
 
-    fn listed(&self, name: &'a [u8], number: usize) -> Option<Listed<'a>>
+    fn listed(&self, name: &'a [u8], number: usize) -> Option<SymbolEntry<'a>>
         ensures { symbol_in result ≡ with_arity name.now (slice_get self.now.arities.items number) }
     {
         match self.arities.get(number) {
-            Some(arity) => Some(Listed {
+            Some(arity) => Some(SymbolEntry {
                 name,
                 arity: *arity,
             }),
@@ -104,7 +104,7 @@ impl<'a> Symbols<'a> {
         }
     }
 
-    // A new symbol has so many places.
+    // A new symbol has this many places.
     fn keep(&mut self, number: usize, arity: u32) -> Result<(), Memory>
         ensures arities { OnOk result (self.new.arities.items
             ≡ (if nat_lt number (length self.old.arities.items) then self.old.arities.items else

@@ -1,9 +1,9 @@
-//! Where each piece leads behind the target of a rule.
+//! The steps of parsing behind the target of a rule.
 
 ghost use Rattle.std.specs.Prelude.{◌≡◌, ◌&&◌, ◌||◌, not, IfOk};
 ghost use Rattle.its_reader.specs.Views.{piece_of as plain_of, maybe_of};
 ghost use Rattle.its_reader.specs.Tests as tests;
-ghost use Rattle.its_reader.specs.PlaceSteps.{TailLeads};
+ghost use Rattle.its_reader.specs.StateSteps.{TailLeads};
 ghost use Rattle.its_reader.specs.TailSteps.{WholeLeads, GuardIsEnded, SquareEnds, AtomTakes, TakesMaybe, TakesPiece};
 ghost use Rattle.its_reader.specs.TailSteps.{StaysInGuard, guarding_if as plain_guarding, goes_on_in};
 ghost use Rattle.expr_reader.specs.GuardParts.{is_read, piece_in};
@@ -11,32 +11,32 @@ ghost use Rattle.expr_reader.specs.GuardStanding.{Takes};
 ghost use Rattle.expr_reader.specs.Variables.{names_in};
 ghost use Rattle.expr_reader.specs.Views.{piece_of as inner_plain};
 
-use crate::ahead_right::is_modest;
 use crate::draft::{Draft, RuleDraft};
+use crate::lookahead_right::is_modest;
+use crate::parser_state::{GuardOpening, ParserState, SourceState, TailState};
 use crate::piece::{Piece, inner_of, is_open};
-use crate::place::{Fence, LeftPlace, Place, TailPlace};
 use crate::room::has_room;
-use expr_reader::{GuardPlace, Piece as Inner};
+use expr_reader::{GuardState, Piece as Inner};
 use model::Memory;
 use std::alloc::{AllocError, Global};
 
 impl<'a> Draft<'a> {
-    /// The place that a piece leads to behind a target, with the piece behind it. None where it can't follow.
+    /// The state behind a piece behind a target, given the piece after it. None where the piece can't follow.
     pub(crate) fn advance_in_tail(
         &mut self,
         alloc: Global,
-        place: TailPlace,
+        state: TailState,
         piece: Piece<'a>,
         behind: Option<Piece<'a>>,
-    ) -> Result<Option<Place>, Memory>
-        ensures { IfOk result (λ reached. TailLeads place self.old (plain_of piece.entry)
+    ) -> Result<Option<ParserState>, Memory>
+        ensures { IfOk result (λ reached. TailLeads state self.old (plain_of piece.entry)
             (maybe_of behind.entry) reached self.new) }
     {
-        match place {
-            TailPlace::Targeted => self.behind_target(alloc, piece, behind),
-            TailPlace::GuardMarked => self.behind_mark(alloc, piece, behind),
-            TailPlace::SquareOpened => self.behind_square(alloc, piece, behind),
-            TailPlace::Guarding(fence) => self.advance_in_guard(alloc, fence, piece, behind),
+        match state {
+            TailState::Targeted => self.behind_target(alloc, piece, behind),
+            TailState::GuardMarked => self.behind_mark(alloc, piece, behind),
+            TailState::SquareOpened => self.behind_square(alloc, piece, behind),
+            TailState::Guarding(fence) => self.advance_in_guard(alloc, fence, piece, behind),
         }
     }
 
@@ -45,15 +45,15 @@ impl<'a> Draft<'a> {
         alloc: Global,
         piece: Piece<'a>,
         behind: Option<Piece<'a>>,
-    ) -> Result<Option<Place>, Memory>
-        ensures { IfOk result (λ reached. TailLeads TailPlace.Targeted self.old (plain_of piece.entry)
+    ) -> Result<Option<ParserState>, Memory>
+        ensures { IfOk result (λ reached. TailLeads TailState.Targeted self.old (plain_of piece.entry)
             (maybe_of behind.entry) reached self.new) }
     {
         if piece.marks() {
-            return Ok(Some(Place::InTail(TailPlace::GuardMarked)));
+            return Ok(Some(ParserState::InTail(TailState::GuardMarked)));
         }
         if piece.opens_square() {
-            return Ok(Some(Place::InTail(TailPlace::SquareOpened)));
+            return Ok(Some(ParserState::InTail(TailState::SquareOpened)));
         }
         let reached = self.behind_rule(alloc, piece)?;
         Ok(reached)
@@ -65,15 +65,15 @@ impl<'a> Draft<'a> {
         alloc: Global,
         piece: Piece<'a>,
         behind: Option<Piece<'a>>,
-    ) -> Result<Option<Place>, Memory>
-        ensures { IfOk result (λ reached. TailLeads TailPlace.GuardMarked self.old (plain_of piece.entry)
+    ) -> Result<Option<ParserState>, Memory>
+        ensures { IfOk result (λ reached. TailLeads TailState.GuardMarked self.old (plain_of piece.entry)
             (maybe_of behind.entry) reached self.new) }
     {
         if ends_mark(piece, behind) {
             let ruled = self.behind_rule(alloc, piece)?;
             Ok(ruled)
         } else {
-            let taken = self.take_atom(alloc, Fence::Mark, piece, behind)?;
+            let taken = self.take_atom(alloc, GuardOpening::Mark, piece, behind)?;
             Ok(taken)
         }
     }
@@ -83,21 +83,25 @@ impl<'a> Draft<'a> {
         alloc: Global,
         piece: Piece<'a>,
         behind: Option<Piece<'a>>,
-    ) -> Result<Option<Place>, Memory>
-        ensures { IfOk result (λ reached. TailLeads TailPlace.SquareOpened self.old (plain_of piece.entry)
+    ) -> Result<Option<ParserState>, Memory>
+        ensures { IfOk result (λ reached. TailLeads TailState.SquareOpened self.old (plain_of piece.entry)
             (maybe_of behind.entry) reached self.new) }
     {
         if piece.closes_square() {
             self.end_rule(alloc)?;
-            Ok(Some(Place::InLeft(LeftPlace::Ruled)))
+            Ok(Some(ParserState::InLeft(SourceState::AfterRule)))
         } else {
-            let taken = self.take_atom(alloc, Fence::Square, piece, behind)?;
+            let taken = self.take_atom(alloc, GuardOpening::Square, piece, behind)?;
             Ok(taken)
         }
     }
 
     // The rule ends before a rule's source, or the end of the section.
-    fn behind_rule(&mut self, alloc: Global, piece: Piece<'a>) -> Result<Option<Place>, Memory>
+    fn behind_rule(
+        &mut self,
+        alloc: Global,
+        piece: Piece<'a>,
+    ) -> Result<Option<ParserState>, Memory>
         ensures { IfOk result (λ reached. WholeLeads self.old (plain_of piece.entry) reached self.new) }
     {
         if leaves_rule(piece) {
@@ -108,15 +112,15 @@ impl<'a> Draft<'a> {
         }
     }
 
-    // An atom has ended: what joins, or what follows the guard. Elsewhere more of the guard.
+    // An atom has ended: a conjunction sign, or what follows the guard, can come. Elsewhere the guard continues.
     fn advance_in_guard(
         &mut self,
         alloc: Global,
-        fence: Fence,
+        fence: GuardOpening,
         piece: Piece<'a>,
         behind: Option<Piece<'a>>,
-    ) -> Result<Option<Place>, Memory>
-        ensures { IfOk result (λ reached. TailLeads (TailPlace.Guarding fence) self.old (plain_of piece.entry)
+    ) -> Result<Option<ParserState>, Memory>
+        ensures { IfOk result (λ reached. TailLeads (TailState.Guarding fence) self.old (plain_of piece.entry)
             (maybe_of behind.entry) reached self.new) }
     {
         if self.rule.guard_goes_on(piece) {
@@ -131,29 +135,33 @@ impl<'a> Draft<'a> {
     fn behind_atoms(
         &mut self,
         alloc: Global,
-        fence: Fence,
+        fence: GuardOpening,
         piece: Piece<'a>,
-    ) -> Result<Option<Place>, Memory>
+    ) -> Result<Option<ParserState>, Memory>
         ensures { IfOk result (λ reached. GuardIsEnded fence self.old (plain_of piece.entry) reached self.new) }
     {
         match fence {
-            Fence::Mark => {
+            GuardOpening::Mark => {
                 let ruled = self.behind_rule(alloc, piece)?;
                 Ok(ruled)
             }
-            Fence::Square => {
+            GuardOpening::Square => {
                 let shut = self.behind_squared(alloc, piece)?;
                 Ok(shut)
             }
         }
     }
 
-    fn behind_squared(&mut self, alloc: Global, piece: Piece<'a>) -> Result<Option<Place>, Memory>
+    fn behind_squared(
+        &mut self,
+        alloc: Global,
+        piece: Piece<'a>,
+    ) -> Result<Option<ParserState>, Memory>
         ensures { IfOk result (λ reached. SquareEnds self.old (plain_of piece.entry) reached self.new) }
     {
         if piece.closes_square() {
             self.end_rule(alloc)?;
-            Ok(Some(Place::InLeft(LeftPlace::Ruled)))
+            Ok(Some(ParserState::InLeft(SourceState::AfterRule)))
         } else {
             Ok(None)
         }
@@ -163,10 +171,10 @@ impl<'a> Draft<'a> {
     fn take_atom(
         &mut self,
         alloc: Global,
-        fence: Fence,
+        fence: GuardOpening,
         piece: Piece<'a>,
         behind: Option<Piece<'a>>,
-    ) -> Result<Option<Place>, Memory>
+    ) -> Result<Option<ParserState>, Memory>
         ensures { IfOk result (λ reached. AtomTakes fence self.old (plain_of piece.entry)
             (maybe_of behind.entry) reached self.new) }
     {
@@ -195,14 +203,14 @@ fn ends_mark(piece: Piece<'_>, behind: Option<Piece<'_>>) -> bool
 impl<'a> RuleDraft<'a> {
     /// An atom has been read.
     pub(crate) fn has_read_atom(&self) -> bool
-        ensures { result ≡ is_read self.now.guard.place }
+        ensures { result ≡ is_read self.now.guard.state }
     {
-        self.guard.place == GuardPlace::AtomRead
+        self.guard.state == GuardState::AtomRead
     }
 
     // The guard doesn't end before a piece.
     fn guard_goes_on(&self, piece: Piece<'a>) -> bool
-        ensures { result ≡ (not (is_read self.now.guard.place) || tests.joins (plain_of piece.entry)) }
+        ensures { result ≡ (not (is_read self.now.guard.state) || tests.joins (plain_of piece.entry)) }
     {
         !self.has_read_atom() || piece.joins()
     }
@@ -217,10 +225,10 @@ impl<'a> RuleDraft<'a> {
     fn take_guard(
         &mut self,
         alloc: Global,
-        fence: Fence,
+        fence: GuardOpening,
         piece: Option<Inner<'a>>,
         behind: Option<Inner<'a>>,
-    ) -> Result<Option<Place>, Memory>
+    ) -> Result<Option<ParserState>, Memory>
         ensures takes { IfOk result (λ reached. TakesMaybe fence self.old (piece_in piece.entry)
             (piece_in behind.entry) reached self.new) }
         ensures stays { StaysInGuard self.old self.new }
@@ -238,10 +246,10 @@ impl<'a> RuleDraft<'a> {
     fn take_inner_guard(
         &mut self,
         alloc: Global,
-        fence: Fence,
+        fence: GuardOpening,
         piece: Inner<'a>,
         behind: Option<Inner<'a>>,
-    ) -> Result<Option<Place>, Memory>
+    ) -> Result<Option<ParserState>, Memory>
         ensures takes { IfOk result (λ reached. TakesPiece fence self.old (inner_plain piece.entry)
             (piece_in behind.entry) reached self.new) }
         ensures stays { StaysInGuard self.old self.new }
@@ -273,11 +281,11 @@ impl<'a> RuleDraft<'a> {
     }
 }
 
-fn guarding_if(test: bool, fence: Fence) -> Option<Place>
+fn guarding_if(test: bool, fence: GuardOpening) -> Option<ParserState>
     ensures { result ≡ plain_guarding test fence }
 {
     if test {
-        Some(Place::InTail(TailPlace::Guarding(fence)))
+        Some(ParserState::InTail(TailState::Guarding(fence)))
     } else {
         None
     }

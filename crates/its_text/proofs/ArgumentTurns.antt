@@ -14,7 +14,7 @@ use Rattle.expr_text.proofs.FrontSteps.{token_ended, ended_there, names_ended}
 use Rattle.its_text.specs.Pieces.{Piece, In, Comma}
 use Rattle.its_text.specs.Written.{RightTerm, Target, Marked, Bare}
 use Rattle.its_text.specs.Numbering.{term_in, arrow_names, with_right}
-use Rattle.its_text.specs.Fronts.{Led, Wrap, InCom, Alone, Aimed, RightOpened, Arguing, RightShut}
+use Rattle.its_text.specs.Fronts.{Led, Wrap, InCom, Alone, Aimed, RightOpened, Arguing, TargetClosed}
 use Rattle.its_text.specs.Steps.{shut_by, behind_comma, behind_argument, argument_step, behind_open, step}
 use Rattle.its_text.specs.FrontNames.{symbols_behind, names_with}
 use Rattle.its_text.specs.FrontFaults.{bare_differs}
@@ -129,7 +129,7 @@ argument_ends a arguments e s same =
           },
     )
 
--- a right term that is shut
+-- a right term that has been closed
 pub shut_kept : (l : Led) (wrap : Wrap) (t : RightTerm) (ps : List Piece) → IsKept (shut_by l wrap t) ps ↔ HasRight l t
 shut_kept l InCom t ps = (λ h. h, λ h. h)
 shut_kept l Alone t ps = (λ h. h, λ h. h)
@@ -237,7 +237,7 @@ parted_turns a arguments e ps = parted_by a arguments e ps (expression_steps.fin
 
 -- behind `Com_1(` and its term
 pub right_shut_turns : (l : Led) (t : RightTerm) (ps : List Piece)
-    → Turns (RightShut l t) (In inner.Close) ps (step (RightShut l t) (In inner.Close))
+    → Turns (TargetClosed l t) (In inner.Close) ps (step (TargetClosed l t) (In inner.Close))
 right_shut_turns l t ps =
     let same = arity_same (with_right (symbols_behind l) t) t.name (length t.arguments) in
     (λ h. (h.0, same.1 h.1), λ h. (h.0, same.0 h.1))

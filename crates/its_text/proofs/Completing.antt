@@ -16,9 +16,9 @@ use Rattle.its_text.specs.Written.{LeftTerm, RightTerm, Marked, Bare, NoGuard, B
 use Rattle.its_text.specs.Written.{Start}
 use Rattle.its_text.specs.Written.{Variables, Comment}
 use Rattle.its_text.specs.Fronts.{Ruling, Led, Wrap, InCom, Alone, Aimed, Headed, Front, Between, Opened, GoalNamed}
-use Rattle.its_text.specs.Fronts.{GoalSaid, StartNamed, StartOpened, StartListed, StartSaid, StartShut, Listing}
-use Rattle.its_text.specs.Fronts.{CommentNamed, Ruled, SourceNamed, LeftOpened, LeftRead, LeftParted, LeftShut, Costing}
-use Rattle.its_text.specs.Fronts.{Arrowed, ComNamed, ComOpened, TargetNamed, RightOpened, Arguing, RightShut, Targeted}
+use Rattle.its_text.specs.Fronts.{GoalRead, StartNamed, StartOpened, StartListed, StartRead, StartClosed, Listing}
+use Rattle.its_text.specs.Fronts.{CommentNamed, AfterRule, SourceNamed, LeftOpened, LeftRead, LeftParted, SourceClosed, Costing}
+use Rattle.its_text.specs.Fronts.{Arrowed, ComNamed, ComOpened, TargetNamed, RightOpened, Arguing, TargetClosed, Targeted}
 use Rattle.its_text.specs.Fronts.{GuardMarked, WordRead, MarkGuarding, SquareOpened, SquareGuarding, ruling_with}
 use Rattle.its_text.specs.Fronts.{section_of}
 use Rattle.its_text.specs.Steps.{behind_argument, argument_step, guard_ended, mark_guard_step, square_guard_step}
@@ -41,20 +41,20 @@ onward done f g p at same = ap (λ o. next step o p) at ∙ same
 between_goes : (ss : List Section) (done : List Piece) → At done (Between ss) → IsBeginning programs done
 between_goes ss done at = (ss, [], ends done (Between ss) ss at refl)
 
-goal_said_goes : (ss : List Section) (done : List Piece) → At done (GoalSaid ss) → IsBeginning programs done
-goal_said_goes ss done at = back close_bracket done (between_goes (Goal ∷ ss) (close_bracket ∷ done) (onward done (GoalSaid ss) (Between (Goal ∷ ss)) close_bracket at refl))
+goal_said_goes : (ss : List Section) (done : List Piece) → At done (GoalRead ss) → IsBeginning programs done
+goal_said_goes ss done at = back close_bracket done (between_goes (Goal ∷ ss) (close_bracket ∷ done) (onward done (GoalRead ss) (Between (Goal ∷ ss)) close_bracket at refl))
 
 goal_named_goes : (ss : List Section) (done : List Piece) → At done (GoalNamed ss) → IsBeginning programs done
-goal_named_goes ss done at = back (word (codes "COMPLEXITY")) done (goal_said_goes ss ((word (codes "COMPLEXITY")) ∷ done) (onward done (GoalNamed ss) (GoalSaid ss) (word (codes "COMPLEXITY")) at refl))
+goal_named_goes ss done at = back (word (codes "COMPLEXITY")) done (goal_said_goes ss ((word (codes "COMPLEXITY")) ∷ done) (onward done (GoalNamed ss) (GoalRead ss) (word (codes "COMPLEXITY")) at refl))
 
-start_shut_goes : (ss : List Section) (name : Name) (done : List Piece) → At done (StartShut ss name) → IsBeginning programs done
-start_shut_goes ss name done at = back close_bracket done (between_goes (Start name ∷ ss) (close_bracket ∷ done) (onward done (StartShut ss name) (Between (Start name ∷ ss)) close_bracket at refl))
+start_shut_goes : (ss : List Section) (name : Name) (done : List Piece) → At done (StartClosed ss name) → IsBeginning programs done
+start_shut_goes ss name done at = back close_bracket done (between_goes (Start name ∷ ss) (close_bracket ∷ done) (onward done (StartClosed ss name) (Between (Start name ∷ ss)) close_bracket at refl))
 
-start_said_goes : (ss : List Section) (name : Name) (done : List Piece) → At done (StartSaid ss name) → IsBeginning programs done
-start_said_goes ss name done at = back close_bracket done (start_shut_goes ss name (close_bracket ∷ done) (onward done (StartSaid ss name) (StartShut ss name) close_bracket at refl))
+start_said_goes : (ss : List Section) (name : Name) (done : List Piece) → At done (StartRead ss name) → IsBeginning programs done
+start_said_goes ss name done at = back close_bracket done (start_shut_goes ss name (close_bracket ∷ done) (onward done (StartRead ss name) (StartClosed ss name) close_bracket at refl))
 
 start_listed_goes : (ss : List Section) (done : List Piece) → At done (StartListed ss) → IsBeginning programs done
-start_listed_goes ss done at = back (word (codes "f")) done (start_said_goes ss (codes "f") ((word (codes "f")) ∷ done) (onward done (StartListed ss) (StartSaid ss (codes "f")) (word (codes "f")) at refl))
+start_listed_goes ss done at = back (word (codes "f")) done (start_said_goes ss (codes "f") ((word (codes "f")) ∷ done) (onward done (StartListed ss) (StartRead ss (codes "f")) (word (codes "f")) at refl))
 
 start_opened_goes : (ss : List Section) (done : List Piece) → At done (StartOpened ss) → IsBeginning programs done
 start_opened_goes ss done at = back (word (codes "FUNCTIONSYMBOLS")) done (start_listed_goes ss ((word (codes "FUNCTIONSYMBOLS")) ∷ done) (onward done (StartOpened ss) (StartListed ss) (word (codes "FUNCTIONSYMBOLS")) at refl))
@@ -71,14 +71,14 @@ comment_named_goes ss done at = back (Remark (41 ∷ [])) done (between_goes (Co
 opened_goes : (ss : List Section) (done : List Piece) → At done (Opened ss) → IsBeginning programs done
 opened_goes ss done at = back (word (codes "VAR")) done (listing_goes ss [] ((word (codes "VAR")) ∷ done) (onward done (Opened ss) (Listing ss []) (word (codes "VAR")) at refl))
 
-ruled_goes : (r : Ruling) (done : List Piece) → At done (Ruled r) → IsBeginning programs done
-ruled_goes r done at = back close_bracket done (between_goes (section_of r) (close_bracket ∷ done) (onward done (Ruled r) (Between (section_of r)) close_bracket at refl))
+ruled_goes : (r : Ruling) (done : List Piece) → At done (AfterRule r) → IsBeginning programs done
+ruled_goes r done at = back close_bracket done (between_goes (section_of r) (close_bracket ∷ done) (onward done (AfterRule r) (Between (section_of r)) close_bracket at refl))
 
 targeted_goes : (h : Headed) (done : List Piece) → At done (Targeted h) → IsBeginning programs done
 targeted_goes h done at = back close_bracket done (between_goes (section_of (ruling_with h NoGuard)) (close_bracket ∷ done) (onward done (Targeted h) (Between (section_of (ruling_with h NoGuard))) close_bracket at refl))
 
-right_shut_goes : (l : Led) (t : RightTerm) (done : List Piece) → At done (RightShut l t) → IsBeginning programs done
-right_shut_goes l t done at = back close_bracket done (targeted_goes (record { led = l; target = Marked t }) (close_bracket ∷ done) (onward done (RightShut l t) (Targeted (record { led = l; target = Marked t })) close_bracket at refl))
+right_shut_goes : (l : Led) (t : RightTerm) (done : List Piece) → At done (TargetClosed l t) → IsBeginning programs done
+right_shut_goes l t done at = back close_bracket done (targeted_goes (record { led = l; target = Marked t }) (close_bracket ∷ done) (onward done (TargetClosed l t) (Targeted (record { led = l; target = Marked t })) close_bracket at refl))
 
 shut_goes : (l : Led) (wrap : Wrap) (t : RightTerm) (done : List Piece) → At done (shut_by l wrap t) → IsBeginning programs done
 shut_goes l InCom t done at = right_shut_goes l t done at
@@ -99,9 +99,9 @@ com_named_goes l done at = back open_bracket done (com_opened_goes l (open_brack
 arrowed_goes : (l : Led) (done : List Piece) → At done (Arrowed l) → IsBeginning programs done
 arrowed_goes l done at = back (word (codes "f")) done (target_named_goes (record { led = l; wrap = Alone; name = codes "f" }) ((word (codes "f")) ∷ done) (onward done (Arrowed l) (TargetNamed (record { led = l; wrap = Alone; name = codes "f" })) (word (codes "f")) at refl))
 
-left_shut_goes : (r : Ruling) (t : LeftTerm) (done : List Piece) → At done (LeftShut r t) → IsBeginning programs done
+left_shut_goes : (r : Ruling) (t : LeftTerm) (done : List Piece) → At done (SourceClosed r t) → IsBeginning programs done
 left_shut_goes r t done at =
-    back Arrow done (arrowed_goes (record { ruling = r; left = t; cost = None }) (Arrow ∷ done) (onward done (LeftShut r t) (behind_left r t None) Arrow at refl))
+    back Arrow done (arrowed_goes (record { ruling = r; left = t; cost = None }) (Arrow ∷ done) (onward done (SourceClosed r t) (behind_left r t None) Arrow at refl))
 
 -- a cost can be completed, and then its brace closes
 pub costing_steps : (r : Ruling) (t : LeftTerm) (done : List Piece) (e f : expression.Front) (p : inner.Piece)
@@ -138,7 +138,7 @@ word_read_goes : (h : Headed) (name : Name) (done : List Piece) → At done (Wor
 word_read_goes h name done at = back open_bracket done (left_opened_goes (ruling_with h (BehindMark None)) name (open_bracket ∷ done) (onward done (WordRead h name) (LeftOpened (ruling_with h (BehindMark None)) name) open_bracket at refl))
 
 square_opened_goes : (h : Headed) (done : List Piece) → At done (SquareOpened h) → IsBeginning programs done
-square_opened_goes h done at = back SquareClose done (ruled_goes (ruling_with h (InSquares None)) (SquareClose ∷ done) (onward done (SquareOpened h) (Ruled (ruling_with h (InSquares None))) SquareClose at refl))
+square_opened_goes h done at = back SquareClose done (ruled_goes (ruling_with h (InSquares None)) (SquareClose ∷ done) (onward done (SquareOpened h) (AfterRule (ruling_with h (InSquares None))) SquareClose at refl))
 
 -- an argument can be completed, and then the term closes
 arguing_steps : (a : Aimed) (arguments : List Sum) (done : List Piece) (e f : expression.Front) (p : inner.Piece)
@@ -183,7 +183,7 @@ square_steps h done g k p at same = onward done (SquareGuarding h g) (SquareGuar
 square_ends : (h : Headed) (done : List Piece) (g : guards.GuardFront) (atoms : Atoms) → At done (SquareGuarding h g) → guards.finish g ≡ Some atoms → IsBeginning programs done
 square_ends h done g atoms at same =
     back SquareClose done (ruled_goes (ruling_with h (InSquares (Some atoms))) (SquareClose ∷ done)
-    (onward done (SquareGuarding h g) (Ruled (ruling_with h (InSquares (Some atoms)))) SquareClose at (ap (λ o. square_ended h o) same)))
+    (onward done (SquareGuarding h g) (AfterRule (ruling_with h (InSquares (Some atoms)))) SquareClose at (ap (λ o. square_ended h o) same)))
 
 square_goes : (h : Headed) (g : guards.GuardFront) (done : List Piece) → At done (SquareGuarding h g) → IsBeginning programs done
 square_goes h g done at =
@@ -194,20 +194,20 @@ pub goes_on : (done : List Piece) (f : Front) → reached programs done ≡ Some
 goes_on done (Between ss) at = between_goes ss done at
 goes_on done (Opened ss) at = opened_goes ss done at
 goes_on done (GoalNamed ss) at = goal_named_goes ss done at
-goes_on done (GoalSaid ss) at = goal_said_goes ss done at
+goes_on done (GoalRead ss) at = goal_said_goes ss done at
 goes_on done (StartNamed ss) at = start_named_goes ss done at
 goes_on done (StartOpened ss) at = start_opened_goes ss done at
 goes_on done (StartListed ss) at = start_listed_goes ss done at
-goes_on done (StartSaid ss name) at = start_said_goes ss name done at
-goes_on done (StartShut ss name) at = start_shut_goes ss name done at
+goes_on done (StartRead ss name) at = start_said_goes ss name done at
+goes_on done (StartClosed ss name) at = start_shut_goes ss name done at
 goes_on done (Listing ss names) at = listing_goes ss names done at
 goes_on done (CommentNamed ss) at = comment_named_goes ss done at
-goes_on done (Ruled r) at = ruled_goes r done at
+goes_on done (AfterRule r) at = ruled_goes r done at
 goes_on done (SourceNamed r name) at = source_named_goes r name done at
 goes_on done (LeftOpened r name) at = left_opened_goes r name done at
 goes_on done (LeftRead r name a earlier) at = left_read_goes r name a earlier done at
 goes_on done (LeftParted r name a earlier) at = left_parted_goes r name a earlier done at
-goes_on done (LeftShut r t) at = left_shut_goes r t done at
+goes_on done (SourceClosed r t) at = left_shut_goes r t done at
 goes_on done (Costing r t e) at = costing_goes r t e done at
 goes_on done (Arrowed l) at = arrowed_goes l done at
 goes_on done (ComNamed l) at = com_named_goes l done at
@@ -215,7 +215,7 @@ goes_on done (ComOpened l) at = com_opened_goes l done at
 goes_on done (TargetNamed a) at = target_named_goes a done at
 goes_on done (RightOpened a) at = right_opened_goes a done at
 goes_on done (Arguing a arguments e) at = arguing_goes a arguments e done at
-goes_on done (RightShut l t) at = right_shut_goes l t done at
+goes_on done (TargetClosed l t) at = right_shut_goes l t done at
 goes_on done (Targeted h) at = targeted_goes h done at
 goes_on done (GuardMarked h) at = guard_marked_goes h done at
 goes_on done (WordRead h name) at = word_read_goes h name done at

@@ -12,7 +12,7 @@ use Rattle.expr_text.proofs.FrontSteps.{token_ended, names_ended}
 use Rattle.its_text.specs.Pieces.{Piece, In, Arrow, CostOpen, CostClose}
 use Rattle.its_text.specs.Written.{LeftTerm}
 use Rattle.its_text.specs.Numbering.{left_names}
-use Rattle.its_text.specs.Fronts.{Ruling, LeftShut, Costing}
+use Rattle.its_text.specs.Fronts.{Ruling, SourceClosed, Costing}
 use Rattle.its_text.specs.Steps.{behind_left, cost_step, cost_ended}
 use Rattle.its_text.specs.FrontNames.{symbols_led}
 use Rattle.its_text.specs.FrontFaults.{other_arity}
@@ -35,16 +35,16 @@ few_left t left = let few = left.1 in let same = length-reverse t.arguments in o
 
 -- `->` keeps the limits exactly where the front is quiet
 pub arrow_turns : (r : Ruling) (t : LeftTerm) (ps : List Piece)
-    → Turns (LeftShut r t) Arrow ps (Some (behind_left r t None))
+    → Turns (SourceClosed r t) Arrow ps (Some (behind_left r t None))
 arrow_turns r t ps =
     let places = places_kept r t in (
       λ h. places.0 h.source,
       λ h. record { source = places.1 h; cost = tt; variables = few_left t h.0.1 },
     )
 
--- so does `-{`
+-- the same for `-{`
 pub cost_turns : (r : Ruling) (t : LeftTerm) (ps : List Piece)
-    → Turns (LeftShut r t) CostOpen ps (Some (Costing r t expression.beginning))
+    → Turns (SourceClosed r t) CostOpen ps (Some (Costing r t expression.beginning))
 cost_turns r t ps =
     let places = places_kept r t in (
       λ h. places.0 h.source,

@@ -1,10 +1,10 @@
 -- What holds of each step that leads somewhere holds of every step, and a text ends between sections alone.
 use Rattle.std.proofs.Common.{◌≡◌, List, Option, Some, ap}
 use Rattle.its_text.specs.Pieces.{Piece}
-use Rattle.its_text.specs.Fronts.{Front, Between, Opened, GoalNamed, GoalSaid, StartNamed, StartOpened, StartListed}
-use Rattle.its_text.specs.Fronts.{StartSaid, StartShut, Listing, CommentNamed}
-use Rattle.its_text.specs.Fronts.{Ruled, SourceNamed, LeftOpened, LeftRead, LeftParted, LeftShut, Costing, Arrowed}
-use Rattle.its_text.specs.Fronts.{ComNamed, ComOpened, TargetNamed, RightOpened, Arguing, RightShut, Targeted}
+use Rattle.its_text.specs.Fronts.{Front, Between, Opened, GoalNamed, GoalRead, StartNamed, StartOpened, StartListed}
+use Rattle.its_text.specs.Fronts.{StartRead, StartClosed, Listing, CommentNamed}
+use Rattle.its_text.specs.Fronts.{AfterRule, SourceNamed, LeftOpened, LeftRead, LeftParted, SourceClosed, Costing, Arrowed}
+use Rattle.its_text.specs.Fronts.{ComNamed, ComOpened, TargetNamed, RightOpened, Arguing, TargetClosed, Targeted}
 use Rattle.its_text.specs.Fronts.{GuardMarked, WordRead, MarkGuarding, SquareOpened, SquareGuarding}
 use Rattle.its_text.specs.Written.{Section}
 use Rattle.its_text.specs.Steps.{step, finish}
@@ -25,20 +25,20 @@ module _ (P : Front → Piece → Option Front → Type 0) (each : HoldsOfSteps 
   of_step (Between ss) p = between_case P each ss p
   of_step (Opened ss) p = opened_case P each ss p
   of_step (GoalNamed ss) p = goal_named_case P each ss p
-  of_step (GoalSaid ss) p = goal_said_case P each ss p
+  of_step (GoalRead ss) p = goal_said_case P each ss p
   of_step (StartNamed ss) p = start_named_case P each ss p
   of_step (StartOpened ss) p = start_opened_case P each ss p
   of_step (StartListed ss) p = start_listed_case P each ss p
-  of_step (StartSaid ss start) p = start_said_case P each ss start p
-  of_step (StartShut ss start) p = start_shut_case P each ss start p
+  of_step (StartRead ss start) p = start_said_case P each ss start p
+  of_step (StartClosed ss start) p = start_shut_case P each ss start p
   of_step (Listing ss names) p = listing_case P each ss names p
   of_step (CommentNamed ss) p = comment_named_case P each ss p
-  of_step (Ruled r) p = ruled_case P each r p
+  of_step (AfterRule r) p = ruled_case P each r p
   of_step (SourceNamed r source) p = source_named_case P each r source p
   of_step (LeftOpened r source) p = left_opened_case P each r source p
   of_step (LeftRead r source a earlier) p = left_read_case P each r source a earlier p
   of_step (LeftParted r source a earlier) p = left_parted_case P each r source a earlier p
-  of_step (LeftShut r t) p = left_shut_case P each r t p
+  of_step (SourceClosed r t) p = left_shut_case P each r t p
   of_step (Costing r t e) p = costing_case P each r t e p
   of_step (Arrowed l) p = arrowed_case P each l p
   of_step (ComNamed l) p = com_named_case P each l p
@@ -46,7 +46,7 @@ module _ (P : Front → Piece → Option Front → Type 0) (each : HoldsOfSteps 
   of_step (TargetNamed a) p = target_named_case P each a p
   of_step (RightOpened a) p = right_opened_case P each a p
   of_step (Arguing a arguments e) p = in_argument_case P each a arguments e p
-  of_step (RightShut l t) p = right_shut_case P each l t p
+  of_step (TargetClosed l t) p = right_shut_case P each l t p
   of_step (Targeted h) p = targeted_case P each h p
   of_step (GuardMarked h) p = guard_marked_case P each h p
   of_step (WordRead h name) p = word_read_case P each h name p
@@ -59,20 +59,20 @@ pub ended : (f : Front) (ss : List Section) → finish f ≡ Some ss → f ≡ B
 ended (Between ts) ss same = let e : ts ≡ ss = cc in ap Between e
 ended (Opened ts) ss same = cc
 ended (GoalNamed ts) ss same = cc
-ended (GoalSaid ts) ss same = cc
+ended (GoalRead ts) ss same = cc
 ended (StartNamed ts) ss same = cc
 ended (StartOpened ts) ss same = cc
 ended (StartListed ts) ss same = cc
-ended (StartSaid ts start) ss same = cc
-ended (StartShut ts start) ss same = cc
+ended (StartRead ts start) ss same = cc
+ended (StartClosed ts start) ss same = cc
 ended (Listing ts names) ss same = cc
 ended (CommentNamed ts) ss same = cc
-ended (Ruled r) ss same = cc
+ended (AfterRule r) ss same = cc
 ended (SourceNamed r source) ss same = cc
 ended (LeftOpened r source) ss same = cc
 ended (LeftRead r source a earlier) ss same = cc
 ended (LeftParted r source a earlier) ss same = cc
-ended (LeftShut r t) ss same = cc
+ended (SourceClosed r t) ss same = cc
 ended (Costing r t e) ss same = cc
 ended (Arrowed l) ss same = cc
 ended (ComNamed l) ss same = cc
@@ -80,7 +80,7 @@ ended (ComOpened l) ss same = cc
 ended (TargetNamed a) ss same = cc
 ended (RightOpened a) ss same = cc
 ended (Arguing a arguments e) ss same = cc
-ended (RightShut l t) ss same = cc
+ended (TargetClosed l t) ss same = cc
 ended (Targeted h) ss same = cc
 ended (GuardMarked h) ss same = cc
 ended (WordRead h name) ss same = cc

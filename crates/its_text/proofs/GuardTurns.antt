@@ -64,7 +64,7 @@ module _ (cost : Option Sum) (names : List Name) where
             },
       )
 
-  -- so does its right side
+  -- the same for its right side
   right_goes_on : (c : Conjoined) (l : Sum) (sign : inner.Sign) (e f : expression.Front) (p : inner.Piece)
       (behind : Option Piece) → expression_steps.step e p ≡ Some f
       → GuardTurns others names (RightSide c l sign e) p behind (Some (RightSide c l sign f))

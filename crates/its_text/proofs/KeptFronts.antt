@@ -18,10 +18,10 @@ use Rattle.its_text.specs.Pieces.{Piece, In}
 use Rattle.its_text.specs.Written.{LeftTerm, RightTerm, Target, Marked, Bare, Section}
 use Rattle.its_text.specs.Numbering.{is_com, arity_of, with_right, symbols_of, term_in, left_names, atoms_of_cost}
 use Rattle.its_text.specs.Numbering.{arrow_names, rules_of}
-use Rattle.its_text.specs.Fronts.{Ruling, Led, Aimed, Headed, Front, Between, Opened, GoalNamed, GoalSaid, StartNamed}
-use Rattle.its_text.specs.Fronts.{StartOpened, StartListed, StartSaid, StartShut, Listing, CommentNamed, Ruled}
-use Rattle.its_text.specs.Fronts.{SourceNamed, LeftOpened, LeftRead, LeftParted, LeftShut, Costing, Arrowed, ComNamed}
-use Rattle.its_text.specs.Fronts.{ComOpened, TargetNamed, RightOpened, Arguing, RightShut, Targeted, GuardMarked}
+use Rattle.its_text.specs.Fronts.{Ruling, Led, Aimed, Headed, Front, Between, Opened, GoalNamed, GoalRead, StartNamed}
+use Rattle.its_text.specs.Fronts.{StartOpened, StartListed, StartRead, StartClosed, Listing, CommentNamed, AfterRule}
+use Rattle.its_text.specs.Fronts.{SourceNamed, LeftOpened, LeftRead, LeftParted, SourceClosed, Costing, Arrowed, ComNamed}
+use Rattle.its_text.specs.Fronts.{ComOpened, TargetNamed, RightOpened, Arguing, TargetClosed, Targeted, GuardMarked}
 use Rattle.its_text.specs.Fronts.{WordRead}
 use Rattle.its_text.specs.Fronts.{MarkGuarding, SquareOpened, SquareGuarding}
 use Rattle.its_text.specs.Steps.{guard_named}
@@ -50,7 +50,7 @@ pub record AreDone (ss : List Section) : Type 0 where
   pub named : HaveRules (rules_of ss)
   pub within : HaveRulesWithin (rules_of ss)
 
--- so are the rules so far, of the first section of rules
+-- the same for the rules so far, of the first section of rules
 pub record IsRulingKept (r : Ruling) : Type 0 where
   pub sections : AreDone r.sections
   pub once : has is_rules r.sections ≡ false
@@ -166,20 +166,20 @@ abbrev pub IsKept : Front → List Piece → Type 0
 IsKept (Between ss) ps = AreDone ss
 IsKept (Opened ss) ps = AreDone ss × (repeats ss (Some (In inner.Open)) (first ps) ≡ false)
 IsKept (GoalNamed ss) ps = AreDone ss × (has is_goal ss ≡ false)
-IsKept (GoalSaid ss) ps = AreDone ss × (has is_goal ss ≡ false)
+IsKept (GoalRead ss) ps = AreDone ss × (has is_goal ss ≡ false)
 IsKept (StartNamed ss) ps = AreDone ss × (has is_start ss ≡ false)
 IsKept (StartOpened ss) ps = AreDone ss × (has is_start ss ≡ false)
 IsKept (StartListed ss) ps = AreDone ss × (has is_start ss ≡ false)
-IsKept (StartSaid ss name) ps = AreDone ss × (has is_start ss ≡ false)
-IsKept (StartShut ss name) ps = AreDone ss × (has is_start ss ≡ false)
+IsKept (StartRead ss name) ps = AreDone ss × (has is_start ss ≡ false)
+IsKept (StartClosed ss name) ps = AreDone ss × (has is_start ss ≡ false)
 IsKept (Listing ss names) ps = AreDone ss × (has is_variables ss ≡ false)
 IsKept (CommentNamed ss) ps = AreDone ss
-IsKept (Ruled r) ps = IsRulingKept r
+IsKept (AfterRule r) ps = IsRulingKept r
 IsKept (SourceNamed r name) ps = IsOpenRuling r
 IsKept (LeftOpened r name) ps = IsOpenRuling r
 IsKept (LeftRead r name a earlier) ps = IsOpenRuling r × AreLeft (a ∷ earlier) × (is_operator (first ps) ≡ false)
 IsKept (LeftParted r name a earlier) ps = IsOpenRuling r × AreLeft (a ∷ earlier)
-IsKept (LeftShut r t) ps = IsSourceOpen r t
+IsKept (SourceClosed r t) ps = IsSourceOpen r t
 IsKept (Costing r t e) ps = IsCostingKept r t e
 IsKept (Arrowed l) ps = IsLedKept l
 IsKept (ComNamed l) ps = IsLedKept l
@@ -187,7 +187,7 @@ IsKept (ComOpened l) ps = IsLedKept l
 IsKept (TargetNamed a) ps = IsLedKept a.led × ((is_com a.name && is_open (first ps)) ≡ false)
 IsKept (RightOpened a) ps = IsAimedKept a
 IsKept (Arguing a arguments e) ps = IsArguingKept a arguments e
-IsKept (RightShut l t) ps = HasRight l t
+IsKept (TargetClosed l t) ps = HasRight l t
 IsKept (Targeted h) ps = IsTargetKept h.led h.target
 IsKept (GuardMarked h) ps = IsHeadedKept h
 IsKept (WordRead h name) ps = IsHeadedKept h × IsWordKept h name (first ps)
@@ -255,20 +255,20 @@ abbrev pub IsQuiet : Front → Option Piece → Option Piece → Type 0
 IsQuiet (Between ss) next behind = repeats ss next behind ≡ false
 IsQuiet (Opened ss) next behind = ⊤
 IsQuiet (GoalNamed ss) next behind = ⊤
-IsQuiet (GoalSaid ss) next behind = ⊤
+IsQuiet (GoalRead ss) next behind = ⊤
 IsQuiet (StartNamed ss) next behind = ⊤
 IsQuiet (StartOpened ss) next behind = ⊤
 IsQuiet (StartListed ss) next behind = ⊤
-IsQuiet (StartSaid ss name) next behind = ⊤
-IsQuiet (StartShut ss name) next behind = ⊤
+IsQuiet (StartRead ss name) next behind = ⊤
+IsQuiet (StartClosed ss name) next behind = ⊤
 IsQuiet (Listing ss names) next behind = ⊤
 IsQuiet (CommentNamed ss) next behind = ⊤
-IsQuiet (Ruled r) next behind = (is_word next && are_full r.rules) ≡ false
+IsQuiet (AfterRule r) next behind = (is_word next && are_full r.rules) ≡ false
 IsQuiet (SourceNamed r name) next behind = ⊤
 IsQuiet (LeftOpened r name) next behind = IsLeftQuiet [] next behind
 IsQuiet (LeftRead r name a earlier) next behind = ⊤
 IsQuiet (LeftParted r name a earlier) next behind = IsLeftQuiet (a ∷ earlier) next behind
-IsQuiet (LeftShut r t) next behind = other_arity (symbols_led r t) t.name (length t.arguments) ≡ false
+IsQuiet (SourceClosed r t) next behind = other_arity (symbols_led r t) t.name (length t.arguments) ≡ false
 IsQuiet (Costing r t e) next behind = IsCostQuiet r t e next behind
 IsQuiet (Arrowed l) next behind = shown.targets_many (Arrowed l) next behind ≡ false
 IsQuiet (ComNamed l) next behind = ⊤
@@ -277,7 +277,7 @@ IsQuiet (ComOpened l) next behind =
 IsQuiet (TargetNamed a) next behind = ⊤
 IsQuiet (RightOpened a) next behind = IsGoingQuiet (shown.open_expression (RightOpened a) next behind) next behind
 IsQuiet (Arguing a arguments e) next behind = IsArgumentQuiet a arguments e next behind
-IsQuiet (RightShut l t) next behind = other_arity (with_right (symbols_behind l) t) t.name (length t.arguments) ≡ false
+IsQuiet (TargetClosed l t) next behind = other_arity (with_right (symbols_behind l) t) t.name (length t.arguments) ≡ false
 IsQuiet (Targeted h) next behind =
     (bare_differs h.led h.target ≡ false) × (shown.too_many_rules (Targeted h) next behind ≡ false)
 IsQuiet (GuardMarked h) next behind =

@@ -9,7 +9,7 @@ use Rattle.expr_text.proofs.text_core.NameLaws.{same_equal}
 use Rattle.expr_text.specs.Pieces as inner
 use Rattle.its_text.specs.Pieces.{Piece, In, Comma, word}
 use Rattle.its_text.specs.Numbering.{is_com}
-use Rattle.its_text.specs.Fronts.{Ruling, Led, Alone, Aimed, Ruled, LeftOpened, LeftRead, LeftParted, Arrowed}
+use Rattle.its_text.specs.Fronts.{Ruling, Led, Alone, Aimed, AfterRule, LeftOpened, LeftRead, LeftParted, Arrowed}
 use Rattle.its_text.specs.Fronts.{ComNamed, ComOpened, TargetNamed}
 use Rattle.its_text.specs.Steps.{behind_target_name, behind_rule, step}
 use Rattle.its_text.specs.FrontFaults.{is_open}
@@ -25,7 +25,7 @@ room_for_rule r = (
 )
 
 -- between rules each step keeps the limits exactly where the front is quiet
-pub ruled_turns : (r : Ruling) (p : inner.Piece) (ps : List Piece) → Turns (Ruled r) (In p) ps (behind_rule r p)
+pub ruled_turns : (r : Ruling) (p : inner.Piece) (ps : List Piece) → Turns (AfterRule r) (In p) ps (behind_rule r p)
 ruled_turns r (inner.Word name) ps = room_for_rule r
 ruled_turns r inner.Close ps = (λ h. ((rules_done r).0 h, refl), λ h. (rules_done r).1 h.0)
 ruled_turns r (inner.Digits ds) ps = tt
@@ -62,12 +62,12 @@ pub left_closed_turns : (r : Ruling) (name : Name) (ps : List Piece)
     → Turns (LeftOpened r name) (In inner.Close) ps (step (LeftOpened r name) (In inner.Close))
 left_closed_turns r name ps = (λ h. (h.0, tt), λ h. (h.0, no_left))
 
--- so does a left term with a comma behind an argument
+-- the same for a left term with a comma behind an argument
 pub left_comma_turns : (r : Ruling) (name a : Name) (earlier : List Name) (ps : List Piece)
     → Turns (LeftRead r name a earlier) Comma ps (Some (LeftParted r name a earlier))
 left_comma_turns r name a earlier ps = (λ h. ((h.0, h.1, refl), tt), λ h. (h.0.0, h.0.1))
 
--- and so does one that is shut behind an argument
+-- and so does a left term that is closed behind an argument
 pub left_shut_turns : (r : Ruling) (name a : Name) (earlier : List Name) (ps : List Piece)
     → Turns (LeftRead r name a earlier) (In inner.Close) ps (step (LeftRead r name a earlier) (In inner.Close))
 left_shut_turns r name a earlier ps = (λ h. ((h.0, h.1, refl), tt), λ h. (h.0.0, h.0.1))

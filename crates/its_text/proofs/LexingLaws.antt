@@ -1,4 +1,5 @@
--- Each piece of a program's text has a byte at least, and no more than there are; so its tokens stand in order.
+-- Each piece of a program's text has at least one byte, and no more than remain; so its tokens are in order of
+-- position.
 use Rattle.std.proofs.Common.{◌≡◌, ℕ, zero, suc, ◌+◌, ◌<◌, ◌≤◌, Bool, true, false, if◌then◌else◌, ◌&&◌, ◌==◌, nat_lt}
 use Rattle.std.proofs.Common.{List, [], ◌∷◌, length, length-append, Option, Some, None, ap, subst, arith}
 use Rattle.std.specs.Prelude.{⊤}
@@ -82,7 +83,7 @@ lexeme_fits b bytes =
     (either_fits (1 + length bytes) (begins_name b) _ _ (omega arith, (let h = prefix_fits continues_name bytes in omega (arith, h)))
     (either_fits (1 + length bytes) (is_ascii_digit b) _ _ (omega arith, (let h = prefix_fits is_ascii_digit bytes in omega (arith, h))) (mark_fits b bytes)))
 
--- what is found is at least one byte, and within so many
+-- what is found is at least one byte, and within this many
 abbrev FitsMaybe : ℕ → Option ℕ → Type 0
 FitsMaybe most None = ⊤
 FitsMaybe most (Some len) = (0 < len) × (len ≤ most)
@@ -115,7 +116,7 @@ in_mode InComment b bytes = remark_fits b bytes (closing_at (b ∷ bytes) 0) (su
 pub lexes_within : (mode : Mode) → LexesWithin (lexeme_in mode)
 lexes_within mode = record { each = λ b bytes. let h = in_mode mode b bytes in (h.0, (let k = h.1 in omega (arith, k))) }
 
--- the tokens of a text stand in order
+-- the tokens of a text are in order of position
 pub tokens_in_order : (bytes : List ℕ) → AreInOrder 0 (tokens_of bytes) (length bytes)
 tokens_in_order bytes =
     subst (AreInOrder 0 (tokens_of bytes)) (let e : 0 + length bytes ≡ length bytes = omega arith in e) (in_order_in lexer lexes_within bytes Outside 0 0 (omega arith))

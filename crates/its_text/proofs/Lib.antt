@@ -1,3 +1,4 @@
+-- laws of the parser of programs: its steps, its faults, the programs of texts, and limits; worked values
 pub mod StepCases
 pub mod SectionCases
 pub mod SourceCases

@@ -55,7 +55,7 @@ tokens_named (b ∷ bytes) mode zero at =
 pub text_named : (bytes : List ℕ) → AreNamed (pieces (tokens_of bytes))
 text_named bytes = tokens_named bytes Outside 0 0
 
--- so it is in the pieces that come before others, the last one first
+-- the same for the pieces that come before others, the last one first
 pub before_named : (done rest : List Piece) → AreNamed (onto done rest) → AreNamed done × AreNamed rest
 before_named [] rest h = (tt, h)
 before_named (p ∷ done) rest h = let x = before_named done (p ∷ rest) h in ((x.1.0, x.0), x.1.1)

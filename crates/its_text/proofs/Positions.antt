@@ -1,4 +1,4 @@
--- What a front shows stands at the last byte that was read or at the next token.
+-- A front shows faults at the last byte that was read or at the next token only.
 use Rattle.std.specs.Prelude.{◌≡◌, ℕ, ◌≤◌, Bool, true, false, nat_le, length, if◌then◌else◌, List, [], ◌∷◌, ◌++◌}
 use Rattle.std.specs.Prelude.{Option, Some, None, ◌⊎◌, ⊤, refl}
 use Rattle.std.proofs.Common.{◌∙◌, ap, inl, inr, arith}
@@ -15,11 +15,11 @@ use Rattle.expr_text.specs.GuardFronts.{GuardFront, LeftSide, RightSide}
 use Rattle.expr_text.specs.FrontNames.{before_expression, goes_on_with, token_count}
 use Rattle.its_text.specs.Pieces.{Piece, In, Comma, Arrow, CostOpen, CostClose, GuardMark, SquareOpen, SquareClose}
 use Rattle.its_text.specs.Pieces.{Disjoining, Remark, Wrong, Strange}
-use Rattle.its_text.specs.Fronts.{Front, Between, Opened, GoalNamed, GoalSaid, StartNamed, StartOpened, StartListed}
-use Rattle.its_text.specs.Fronts.{StartSaid, StartShut, Listing, CommentNamed, Ruled, SourceNamed, LeftOpened, LeftRead}
-use Rattle.its_text.specs.Fronts.{LeftParted, LeftShut, Costing, Arrowed, ComNamed, ComOpened, TargetNamed, RightOpened}
+use Rattle.its_text.specs.Fronts.{Front, Between, Opened, GoalNamed, GoalRead, StartNamed, StartOpened, StartListed}
+use Rattle.its_text.specs.Fronts.{StartRead, StartClosed, Listing, CommentNamed, AfterRule, SourceNamed, LeftOpened, LeftRead}
+use Rattle.its_text.specs.Fronts.{LeftParted, SourceClosed, Costing, Arrowed, ComNamed, ComOpened, TargetNamed, RightOpened}
 use Rattle.its_text.specs.Fronts.{Arguing}
-use Rattle.its_text.specs.Fronts.{RightShut, Targeted, GuardMarked, WordRead, MarkGuarding, SquareOpened}
+use Rattle.its_text.specs.Fronts.{TargetClosed, Targeted, GuardMarked, WordRead, MarkGuarding, SquareOpened}
 use Rattle.its_text.specs.Fronts.{SquareGuarding}
 use Rattle.its_text.specs.Numbering.{left_names}
 use Rattle.its_text.specs.FrontNames.{names_with, headed_names}
@@ -34,7 +34,7 @@ use Rattle.its_text.specs.FrontFaults.{left_of, expression_faults, token_faults,
 use Rattle.its_text.specs.FrontFaults.{expansion_faults, argument_faults, right_side_faults, ends_expression}
 use Rattle.its_text.specs.FrontFaults.{atom_faults, ended_faults, next_faults, last_faults}
 
--- each fault of a list stands at a position
+-- every fault of a list is at this position
 abbrev pub StandAt : ℕ → FaultList → Type 0
 StandAt at [] = ⊤
 StandAt at (x ∷ xs) = (x.at ≡ at) × StandAt at xs
@@ -122,20 +122,20 @@ ended_at : (at : ℕ) (f : Front) (next : Option Piece) → StandAt at (ended_fa
 ended_at at (Between ss) next = tt
 ended_at at (Opened ss) next = tt
 ended_at at (GoalNamed ss) next = tt
-ended_at at (GoalSaid ss) next = tt
+ended_at at (GoalRead ss) next = tt
 ended_at at (StartNamed ss) next = tt
 ended_at at (StartOpened ss) next = tt
 ended_at at (StartListed ss) next = tt
-ended_at at (StartSaid ss start) next = tt
-ended_at at (StartShut ss start) next = tt
+ended_at at (StartRead ss start) next = tt
+ended_at at (StartClosed ss start) next = tt
 ended_at at (Listing ss names) next = tt
 ended_at at (CommentNamed ss) next = tt
-ended_at at (Ruled r) next = tt
+ended_at at (AfterRule r) next = tt
 ended_at at (SourceNamed r source) next = tt
 ended_at at (LeftOpened r source) next = tt
 ended_at at (LeftRead r source a earlier) next = tt
 ended_at at (LeftParted r source a earlier) next = tt
-ended_at at (LeftShut r t) next = tt
+ended_at at (SourceClosed r t) next = tt
 ended_at at (Costing r t e) next = choice_at at (ends_expression e next) _ (argument_at at (left_names t) (expression_steps.finish e))
 ended_at at (Arrowed l) next = tt
 ended_at at (ComNamed l) next = tt
@@ -143,7 +143,7 @@ ended_at at (ComOpened l) next = tt
 ended_at at (TargetNamed a) next = tt
 ended_at at (RightOpened a) next = tt
 ended_at at (Arguing a arguments e) next = choice_at at (ends_expression e next) _ (argument_at at (names_with a.led arguments) (expression_steps.finish e))
-ended_at at (RightShut l t) next = tt
+ended_at at (TargetClosed l t) next = tt
 ended_at at (Targeted h) next = tt
 ended_at at (GuardMarked h) next = tt
 ended_at at (WordRead h name) next = tt
@@ -151,18 +151,18 @@ ended_at at (MarkGuarding h g) next = atom_at at (headed_names h) g next
 ended_at at (SquareOpened h) next = tt
 ended_at at (SquareGuarding h g) next = atom_at at (headed_names h) g next
 
--- each fault that is shown at the last byte stands there
+-- every fault that is shown at the last byte has its position
 pub last_at : (at : ℕ) (f : Front) (next : Option Piece) → StandAt at (last_faults at f next)
 last_at at f next = both at (fault_if (shown.has_other_arity f) ArityDiffers at) (ended_faults at f next) (if_at (shown.has_other_arity f) ArityDiffers at) (ended_at at f next)
 
--- each fault that is shown at the next token stands there
+-- every fault that is shown at the next token has its position
 pub next_stands : (at : ℕ) (f : Front) (next behind : Option Piece) → StandAt at (next_faults at f next behind)
 next_stands at f next behind =
     both at (fault_if (shown.targets_again f next behind) Syntax at ++ fault_if (shown.repeats_at f next behind) RepeatedSection at ++ fault_if (shown.targets_many f next behind) ManyTargets at ++ left_of at (left_wanted f) next behind ++ fault_if (shown.too_many_rules f next behind) (Limit TooManyRules) at ++ fault_if (shown.passes_arguments f next) (Limit TooManyArguments) at ++ fault_if (shown.another_atom f next) (Limit TooManyAtoms) at ++ fault_if (shown.long_name next) (Limit LongName) at) (token_faults at (open_expression f next behind) next behind)
     (then_if at (fault_if (shown.targets_again f next behind) Syntax at ++ fault_if (shown.repeats_at f next behind) RepeatedSection at ++ fault_if (shown.targets_many f next behind) ManyTargets at ++ left_of at (left_wanted f) next behind ++ fault_if (shown.too_many_rules f next behind) (Limit TooManyRules) at ++ fault_if (shown.passes_arguments f next) (Limit TooManyArguments) at ++ fault_if (shown.another_atom f next) (Limit TooManyAtoms) at) (shown.long_name next) (Limit LongName) (then_if at (fault_if (shown.targets_again f next behind) Syntax at ++ fault_if (shown.repeats_at f next behind) RepeatedSection at ++ fault_if (shown.targets_many f next behind) ManyTargets at ++ left_of at (left_wanted f) next behind ++ fault_if (shown.too_many_rules f next behind) (Limit TooManyRules) at ++ fault_if (shown.passes_arguments f next) (Limit TooManyArguments) at) (shown.another_atom f next) (Limit TooManyAtoms) (then_if at (fault_if (shown.targets_again f next behind) Syntax at ++ fault_if (shown.repeats_at f next behind) RepeatedSection at ++ fault_if (shown.targets_many f next behind) ManyTargets at ++ left_of at (left_wanted f) next behind ++ fault_if (shown.too_many_rules f next behind) (Limit TooManyRules) at) (shown.passes_arguments f next) (Limit TooManyArguments) (then_if at (fault_if (shown.targets_again f next behind) Syntax at ++ fault_if (shown.repeats_at f next behind) RepeatedSection at ++ fault_if (shown.targets_many f next behind) ManyTargets at ++ left_of at (left_wanted f) next behind) (shown.too_many_rules f next behind) (Limit TooManyRules) (both at (fault_if (shown.targets_again f next behind) Syntax at ++ fault_if (shown.repeats_at f next behind) RepeatedSection at ++ fault_if (shown.targets_many f next behind) ManyTargets at) (left_of at (left_wanted f) next behind) (then_if at (fault_if (shown.targets_again f next behind) Syntax at ++ fault_if (shown.repeats_at f next behind) RepeatedSection at) (shown.targets_many f next behind) ManyTargets (then_if at (fault_if (shown.targets_again f next behind) Syntax at) (shown.repeats_at f next behind) RepeatedSection (if_at (shown.targets_again f next behind) Syntax at))) (left_at at (left_wanted f) next behind))))))
     (token_at at (open_expression f next behind) next behind)
 
--- a fault that is among those at one position stands there
+-- a fault in a list of faults at one position has that position
 pub among_at : (at : ℕ) (x : Fault Kind) (xs : FaultList) → StandAt at xs → Among x xs → x.at ≡ at
 among_at at x [] h m = absurd m
 among_at at x (y ∷ ys) h (inl same) = ap (λ z. z.at) same ∙ h.0
@@ -178,7 +178,7 @@ split x (y ∷ xs) ys (inr more) = go (split x xs ys more)
     go (inl m) = inl (inr m)
     go (inr m) = inr m
 
--- what a front shows stands at the last byte that was read, or at the next token
+-- a fault that a front shows is at the last byte that was read, or at the next token
 pub stands : (n : ℕ) (done : Tokens) (f : Front) (rest : Tokens) (x : Fault Kind) → Among x (shown.front_faults n done f rest) → (x.at ≡ last_byte done) ⊎ (x.at ≡ next_at n rest)
 stands n done f rest x m = go (split x (last_faults (last_byte done) f (next_piece rest)) _ m)
   where

@@ -14,10 +14,10 @@ use Rattle.expr_text.specs.GuardFronts.{GuardFront, LeftSide, RightSide}
 use Rattle.expr_text.specs.FrontNames.{with_conjoined, token_count, goes_on_with}
 use Rattle.its_text.specs.Pieces.{Piece, In, Comma, Arrow, CostOpen, CostClose, GuardMark, SquareOpen, SquareClose}
 use Rattle.its_text.specs.Pieces.{Disjoining, Remark, Wrong, Strange}
-use Rattle.its_text.specs.Fronts.{Front, Between, Opened, GoalNamed, GoalSaid, StartNamed, StartOpened}
-use Rattle.its_text.specs.Fronts.{StartListed, StartSaid, StartShut, Listing, CommentNamed, Ruled, SourceNamed}
-use Rattle.its_text.specs.Fronts.{LeftOpened, LeftRead, LeftParted, LeftShut, Costing, Arrowed, ComNamed, ComOpened}
-use Rattle.its_text.specs.Fronts.{TargetNamed, RightOpened, Arguing, RightShut, Targeted, GuardMarked, WordRead}
+use Rattle.its_text.specs.Fronts.{Front, Between, Opened, GoalNamed, GoalRead, StartNamed, StartOpened}
+use Rattle.its_text.specs.Fronts.{StartListed, StartRead, StartClosed, Listing, CommentNamed, AfterRule, SourceNamed}
+use Rattle.its_text.specs.Fronts.{LeftOpened, LeftRead, LeftParted, SourceClosed, Costing, Arrowed, ComNamed, ComOpened}
+use Rattle.its_text.specs.Fronts.{TargetNamed, RightOpened, Arguing, TargetClosed, Targeted, GuardMarked, WordRead}
 use Rattle.its_text.specs.Fronts.{MarkGuarding}
 use Rattle.its_text.specs.Fronts.{SquareOpened, SquareGuarding}
 use Rattle.its_text.specs.Numbering.{left_names}
@@ -236,20 +236,20 @@ module _ (last at : ℕ) (next behind : Option Piece) where
   quiet_of (Between ss) s = s.repeated
   quiet_of (Opened ss) s = tt
   quiet_of (GoalNamed ss) s = tt
-  quiet_of (GoalSaid ss) s = tt
+  quiet_of (GoalRead ss) s = tt
   quiet_of (StartNamed ss) s = tt
   quiet_of (StartOpened ss) s = tt
   quiet_of (StartListed ss) s = tt
-  quiet_of (StartSaid ss start) s = tt
-  quiet_of (StartShut ss start) s = tt
+  quiet_of (StartRead ss start) s = tt
+  quiet_of (StartClosed ss start) s = tt
   quiet_of (Listing ss names) s = tt
   quiet_of (CommentNamed ss) s = tt
-  quiet_of (Ruled r) s = s.rules
+  quiet_of (AfterRule r) s = s.rules
   quiet_of (SourceNamed r source) s = tt
   quiet_of (LeftOpened r source) s = (left_quiet at [] next behind).0 s.left
   quiet_of (LeftRead r source a earlier) s = tt
   quiet_of (LeftParted r source a earlier) s = (left_quiet at (a ∷ earlier) next behind).0 s.left
-  quiet_of (LeftShut r t) s = s.arity
+  quiet_of (SourceClosed r t) s = s.arity
   quiet_of (Costing r t e) s =
       record { cost = (ended_quiet (left_names t) e).0 s.ended; going = going_of (Costing r t e) s }
   quiet_of (Arrowed l) s = s.many
@@ -263,7 +263,7 @@ module _ (last at : ℕ) (next behind : Option Piece) where
         few = s.arguments;
         going = going_of (Arguing a arguments e) s;
       }
-  quiet_of (RightShut l t) s = s.arity
+  quiet_of (TargetClosed l t) s = s.arity
   quiet_of (Targeted h) s = (s.arity, s.rules)
   quiet_of (GuardMarked h) s =
       (s.rules, going_of (GuardMarked h) s)
@@ -313,17 +313,17 @@ module _ (last at : ℕ) (next behind : Option Piece) where
   silent_of (Between ss) q m = all_silent (Between ss) refl refl refl q refl refl refl refl refl m.0 refl
   silent_of (Opened ss) q m = all_silent (Opened ss) refl refl refl refl refl refl refl refl refl m.0 refl
   silent_of (GoalNamed ss) q m = all_silent (GoalNamed ss) refl refl refl refl refl refl refl refl refl m.0 refl
-  silent_of (GoalSaid ss) q m = all_silent (GoalSaid ss) refl refl refl refl refl refl refl refl refl m.0 refl
+  silent_of (GoalRead ss) q m = all_silent (GoalRead ss) refl refl refl refl refl refl refl refl refl m.0 refl
   silent_of (StartNamed ss) q m = all_silent (StartNamed ss) refl refl refl refl refl refl refl refl refl m.0 refl
   silent_of (StartOpened ss) q m = all_silent (StartOpened ss) refl refl refl refl refl refl refl refl refl m.0 refl
   silent_of (StartListed ss) q m = all_silent (StartListed ss) refl refl refl refl refl refl refl refl refl m.0 refl
-  silent_of (StartSaid ss start) q m =
-      all_silent (StartSaid ss start) refl refl refl refl refl refl refl refl refl m.0 refl
-  silent_of (StartShut ss start) q m =
-      all_silent (StartShut ss start) refl refl refl refl refl refl refl refl refl m.0 refl
+  silent_of (StartRead ss start) q m =
+      all_silent (StartRead ss start) refl refl refl refl refl refl refl refl refl m.0 refl
+  silent_of (StartClosed ss start) q m =
+      all_silent (StartClosed ss start) refl refl refl refl refl refl refl refl refl m.0 refl
   silent_of (Listing ss names) q m = all_silent (Listing ss names) refl refl refl refl refl refl refl refl refl m.0 refl
   silent_of (CommentNamed ss) q m = all_silent (CommentNamed ss) refl refl refl refl refl refl refl refl refl m.0 refl
-  silent_of (Ruled r) q m = all_silent (Ruled r) refl refl refl refl refl refl q refl refl m.0 refl
+  silent_of (AfterRule r) q m = all_silent (AfterRule r) refl refl refl refl refl refl q refl refl m.0 refl
   silent_of (SourceNamed r source) q m =
       all_silent (SourceNamed r source) refl refl refl refl refl refl refl refl refl m.0 refl
   silent_of (LeftOpened r source) q m =
@@ -334,7 +334,7 @@ module _ (last at : ℕ) (next behind : Option Piece) where
   silent_of (LeftParted r source a earlier) q m =
       all_silent (LeftParted r source a earlier) refl refl refl refl refl
       ((left_quiet at (a ∷ earlier) next behind).1 q) refl refl refl m.0 refl
-  silent_of (LeftShut r t) q m = all_silent (LeftShut r t) q refl refl refl refl refl refl refl refl m.0 refl
+  silent_of (SourceClosed r t) q m = all_silent (SourceClosed r t) q refl refl refl refl refl refl refl refl m.0 refl
   silent_of (Costing r t e) q m =
       all_silent (Costing r t e) refl ((ended_quiet (left_names t) e).1 q.cost) refl refl refl refl refl refl refl m.0
       (token_of (Costing r t e) q.going m)
@@ -347,7 +347,7 @@ module _ (last at : ℕ) (next behind : Option Piece) where
   silent_of (Arguing a arguments e) q m =
       all_silent (Arguing a arguments e) refl ((ended_quiet (names_with a.led arguments) e).1 q.argument) refl refl refl refl refl
       q.few refl m.0 (token_of (Arguing a arguments e) q.going m)
-  silent_of (RightShut l t) q m = all_silent (RightShut l t) q refl refl refl refl refl refl refl refl m.0 refl
+  silent_of (TargetClosed l t) q m = all_silent (TargetClosed l t) q refl refl refl refl refl refl refl refl m.0 refl
   silent_of (Targeted h) q m = all_silent (Targeted h) q.0 refl refl refl refl refl q.1 refl refl m.0 refl
   silent_of (GuardMarked h) q m =
       all_silent (GuardMarked h) refl refl refl refl refl refl q.0 refl refl m.0 (token_of (GuardMarked h) q.1 m)

@@ -20,9 +20,9 @@ use Rattle.its_text.specs.Written.{LeftTerm, Target, Marked, Bare, Guard, NoGuar
 use Rattle.its_text.specs.Written.{Section, Goal, Start, Variables, Rules, Comment, names_behind, sums_behind}
 use Rattle.its_text.specs.Written.{left_behind, right_behind, arrow_behind, target_behind, guard_behind, rules_behind}
 use Rattle.its_text.specs.Written.{words_behind, section_behind, pieces_behind}
-use Rattle.its_text.specs.Fronts.{Ruling, Led, InCom, Alone, Aimed, Headed, Front, Between, Opened, Listing, Ruled}
-use Rattle.its_text.specs.Fronts.{SourceNamed, LeftOpened, LeftRead, LeftShut, Costing, Arrowed, ComNamed, ComOpened}
-use Rattle.its_text.specs.Fronts.{RightOpened, Arguing, RightShut, Targeted, GuardMarked, WordRead, MarkGuarding}
+use Rattle.its_text.specs.Fronts.{Ruling, Led, InCom, Alone, Aimed, Headed, Front, Between, Opened, Listing, AfterRule}
+use Rattle.its_text.specs.Fronts.{SourceNamed, LeftOpened, LeftRead, SourceClosed, Costing, Arrowed, ComNamed, ComOpened}
+use Rattle.its_text.specs.Fronts.{RightOpened, Arguing, TargetClosed, Targeted, GuardMarked, WordRead, MarkGuarding}
 use Rattle.its_text.specs.Fronts.{SquareOpened, SquareGuarding, ruling_with, section_of}
 use Rattle.its_text.specs.Steps.{behind_target_name, behind_comma, argument_step, guard_ended, mark_guard_step}
 use Rattle.its_text.specs.Steps.{guard_named, square_guard_step, square_ended, right_shut, behind_arrow, step}
@@ -63,13 +63,13 @@ left_read r name [] done at = onward done (LeftOpened r name) _ close_bracket at
 left_read r name (a ∷ earlier) done at = onward (names_behind (a ∷ earlier) done) (LeftRead r name a earlier) _ close_bracket (names_read r name a earlier done at) refl
 
 -- an arrow, with a cost or none
-arrow_read : (r : Ruling) (t : LeftTerm) (cost : Option Sum) (done : List Piece) → At done (LeftShut r t)
+arrow_read : (r : Ruling) (t : LeftTerm) (cost : Option Sum) (done : List Piece) → At done (SourceClosed r t)
     → At (arrow_behind cost done) (behind_left r t cost)
-arrow_read r t None done at = onward done (LeftShut r t) (behind_left r t None) Arrow at refl
+arrow_read r t None done at = onward done (SourceClosed r t) (behind_left r t None) Arrow at refl
 arrow_read r t (Some c) done at =
     onward (sum_behind In c (CostOpen ∷ done)) (Costing r t (behind_sum [] c)) (behind_left r t (Some c)) CostClose
     (expression_is_read In (λ behind e. At behind (Costing r t e)) (costing_steps r t) c (CostOpen ∷ done)
-    (onward done (LeftShut r t) (Costing r t expression.beginning) CostOpen at refl))
+    (onward done (SourceClosed r t) (Costing r t expression.beginning) CostOpen at refl))
     (ap (λ o. cost_ended r t o) (sum_finish c))
 
 -- an argument that is wanted: behind the bracket, or behind a comma
@@ -126,7 +126,7 @@ bare_name l name other = ap (λ v. if v then ComNamed l else behind_target_name 
 
 target_read : (l : Led) (t : Target) (done : List Piece) → IsTarget t → At done (Arrowed l) → At (target_behind t done) (Targeted (record { led = l; target = t }))
 target_read l (Marked t) done is at =
-    onward (right_behind t (open_bracket ∷ word (codes "Com_1") ∷ done)) (RightShut l t) _ close_bracket
+    onward (right_behind t (open_bracket ∷ word (codes "Com_1") ∷ done)) (TargetClosed l t) _ close_bracket
     (right_read (record { led = l; wrap = InCom; name = t.name }) t.arguments (open_bracket ∷ word t.name ∷ open_bracket ∷ word (codes "Com_1") ∷ done)
     (onward (word t.name ∷ open_bracket ∷ word (codes "Com_1") ∷ done) (behind_target_name l InCom t.name) _ open_bracket
     (onward (open_bracket ∷ word (codes "Com_1") ∷ done) (ComOpened l) (behind_target_name l InCom t.name) (word t.name)
@@ -186,10 +186,10 @@ abbrev pub Behind : Headed → Guard → List Piece → Type 0
 Behind h NoGuard done = At done (Targeted h)
 Behind h (BehindMark None) done = At done (GuardMarked h)
 Behind h (BehindMark (Some atoms)) done = Marks h done (behind_atoms atoms)
-Behind h (InSquares atoms) done = At done (Ruled (ruling_with h (InSquares atoms)))
+Behind h (InSquares atoms) done = At done (AfterRule (ruling_with h (InSquares atoms)))
 
 abbrev pub BehindRules : List Section → List WrittenRule → List Piece → Type 0
-BehindRules ss [] done = At done (Ruled (record { sections = ss; rules = [] }))
+BehindRules ss [] done = At done (AfterRule (record { sections = ss; rules = [] }))
 BehindRules ss (r ∷ rules) done = Behind (headed_at ss rules r) r.guard done
 
 -- behind a rule the next one begins
@@ -205,7 +205,7 @@ opens_behind h (BehindMark (Some atoms)) name done at =
     (word_ends_guard (behind_atoms atoms) atoms name (atoms_finish atoms)) refl (λ other. refl) at)
     refl
 opens_behind h (InSquares atoms) name done at =
-    onward (word name ∷ done) (SourceNamed (ruling_with h (InSquares atoms)) name) _ open_bracket (onward done (Ruled (ruling_with h (InSquares atoms))) (SourceNamed (ruling_with h (InSquares atoms)) name) (word name) at refl) refl
+    onward (word name ∷ done) (SourceNamed (ruling_with h (InSquares atoms)) name) _ open_bracket (onward done (AfterRule (ruling_with h (InSquares atoms))) (SourceNamed (ruling_with h (InSquares atoms)) name) (word name) at refl) refl
 
 -- or the section ends
 closes_behind : (h : Headed) (guard : Guard) (done : List Piece) → Behind h guard done → At (close_bracket ∷ done) (Between (section_of (ruling_with h guard)))
@@ -214,16 +214,16 @@ closes_behind h (BehindMark None) done at = onward done (GuardMarked h) _ close_
 closes_behind h (BehindMark (Some atoms)) done at =
     mark_ends h (behind_atoms atoms) atoms inner.Close (Between (section_of (ruling_with h (BehindMark (Some atoms))))) done (atoms_finish atoms)
     (close_ends_guard (behind_atoms atoms) atoms (atoms_finish atoms)) refl (λ other. refl) at
-closes_behind h (InSquares atoms) done at = onward done (Ruled (ruling_with h (InSquares atoms))) _ close_bracket at refl
+closes_behind h (InSquares atoms) done at = onward done (AfterRule (ruling_with h (InSquares atoms))) _ close_bracket at refl
 
 rule_opens : (ss : List Section) (rules : List WrittenRule) (name : Name) (done : List Piece) → BehindRules ss rules done
     → At (open_bracket ∷ word name ∷ done) (LeftOpened (record { sections = ss; rules = rules }) name)
 rule_opens ss [] name done at =
-    onward (word name ∷ done) (SourceNamed (record { sections = ss; rules = [] }) name) _ open_bracket (onward done (Ruled (record { sections = ss; rules = [] })) _ (word name) at refl) refl
+    onward (word name ∷ done) (SourceNamed (record { sections = ss; rules = [] }) name) _ open_bracket (onward done (AfterRule (record { sections = ss; rules = [] })) _ (word name) at refl) refl
 rule_opens ss (r ∷ rules) name done at = opens_behind (headed_at ss rules r) r.guard name done at
 
 rules_close : (ss : List Section) (rules : List WrittenRule) (done : List Piece) → BehindRules ss rules done → At (close_bracket ∷ done) (Between (Rules rules ∷ ss))
-rules_close ss [] done at = onward done (Ruled (record { sections = ss; rules = [] })) _ close_bracket at refl
+rules_close ss [] done at = onward done (AfterRule (record { sections = ss; rules = [] })) _ close_bracket at refl
 rules_close ss (r ∷ rules) done at = closes_behind (headed_at ss rules r) r.guard done at
 
 -- a guard in square brackets: its front, or the front before it
@@ -235,8 +235,8 @@ squares_step h done g k p (inl at) same = inl (onward done (SquareGuarding h g) 
 squares_step h done g k p (inr at) same =
     inl (onward done (SquareOpened h) (SquareGuarding h k) (In p) at.0 (ap (λ o. square_guard_step h o) (subst (λ j. guards.step j p ≡ Some k) at.1 same)))
 
-squares_close : (h : Headed) (g : guards.GuardFront) (atoms : Atoms) (done : List Piece) → guards.finish g ≡ Some atoms → Squares h done g → At (SquareClose ∷ done) (Ruled (ruling_with h (InSquares (Some atoms))))
-squares_close h g atoms done ends (inl at) = onward done (SquareGuarding h g) (Ruled (ruling_with h (InSquares (Some atoms)))) SquareClose at (ap (λ o. square_ended h o) ends)
+squares_close : (h : Headed) (g : guards.GuardFront) (atoms : Atoms) (done : List Piece) → guards.finish g ≡ Some atoms → Squares h done g → At (SquareClose ∷ done) (AfterRule (ruling_with h (InSquares (Some atoms))))
+squares_close h g atoms done ends (inl at) = onward done (SquareGuarding h g) (AfterRule (ruling_with h (InSquares (Some atoms)))) SquareClose at (ap (λ o. square_ended h o) ends)
 squares_close h g atoms done ends (inr at) = absurd (none_is_some (subst (λ k. guards.finish k ≡ Some atoms) at.1 ends))
 
 -- a guard behind a target
@@ -250,8 +250,8 @@ guard_read h (InSquares (Some atoms)) done at =
     squares_close h (behind_atoms atoms) atoms (atoms_behind In atoms (SquareOpen ∷ done)) (atoms_finish atoms)
     (guard_is_read In (Squares h) (squares_step h) atoms (SquareOpen ∷ done) (inr (onward done (Targeted h) (SquareOpened h) SquareOpen at refl, refl)))
 
--- rules one behind the other
-rules_read : (ss : List Section) (rules : List WrittenRule) (done : List Piece) → HaveTargets rules → At done (Ruled (record { sections = ss; rules = [] })) → BehindRules ss rules (rules_behind rules done)
+-- rules one after the other
+rules_read : (ss : List Section) (rules : List WrittenRule) (done : List Piece) → HaveTargets rules → At done (AfterRule (record { sections = ss; rules = [] })) → BehindRules ss rules (rules_behind rules done)
 rules_read ss [] done are at = at
 rules_read ss (r ∷ rules) done are at =
     guard_read (headed_at ss rules r) r.guard (target_behind r.target (arrow_behind r.cost (left_behind r.left (rules_behind rules done))))
@@ -279,7 +279,7 @@ section_read (Variables names) ss done is at =
     (words_read ss names (word (codes "VAR") ∷ open_bracket ∷ done) (onward (open_bracket ∷ done) (Opened ss) (Listing ss []) (word (codes "VAR")) (section_opens ss done at) refl)) refl
 section_read (Rules rules) ss done is at =
     rules_close ss rules (rules_behind rules (word (codes "RULES") ∷ open_bracket ∷ done))
-    (rules_read ss rules (word (codes "RULES") ∷ open_bracket ∷ done) is (onward (open_bracket ∷ done) (Opened ss) (Ruled (record { sections = ss; rules = [] })) (word (codes "RULES")) (section_opens ss done at) refl))
+    (rules_read ss rules (word (codes "RULES") ∷ open_bracket ∷ done) is (onward (open_bracket ∷ done) (Opened ss) (AfterRule (record { sections = ss; rules = [] })) (word (codes "RULES")) (section_opens ss done at) refl))
 section_read (Comment bytes) ss done is at =
     ap (λ o. next step (next step o (word (codes "COMMENT"))) (Remark bytes)) (section_opens ss done at)
 

@@ -1,4 +1,4 @@
--- What the tests of limits tell, and names and terms that don't change behind more names.
+-- Laws of the limits' tests, and names and terms that don't change when names are appended.
 use Rattle.std.proofs.Common.{◌≡◌, ℕ, suc, ◌≤◌, Bool, true, false, not, ◌&&◌, ◌||◌, if◌then◌else◌, ◌==◌, ◌↔◌, nat_le}
 use Rattle.std.proofs.Common.{List, [], ◌∷◌, ◌++◌, Option, Some, None, refl, ap, sym, ◌∙◌, arith}
 use Rattle.std.proofs.lemmas.Bool.Decides.{nat_tests}
@@ -29,7 +29,7 @@ below a b h = grind (arith, nat_tests, h)
 pub not_at : (a b : ℕ) → suc b ≤ a → nat_le a b ≡ false
 not_at a b h = grind (arith, nat_tests, h)
 
--- numbers that the test doesn't tell apart are the same
+-- if the test finds no difference between two numbers, they are equal
 pub same_number : (a b : ℕ) → not (a == b) ≡ false → a ≡ b
 same_number a b h = go (a == b) refl h
   where
@@ -37,7 +37,7 @@ same_number a b h = go (a == b) refl h
     go true e k = grind (arith, nat_tests, e)
     go false e k = cc
 
--- the same numbers aren't told apart by the test
+-- the test finds no difference between equal numbers
 pub number_same : (a b : ℕ) → a ≡ b → not (a == b) ≡ false
 number_same a b h = ap not (let e : (a == b) ≡ true = grind (arith, nat_tests, h) in e)
 
@@ -131,7 +131,7 @@ module _ (names last : List Name) (e : Extends names last) where
       let b = arguments_stay sums h.1 in
       (λ w. (a.0 w.0, b.0 w.1), λ w. (a.1 w.0, b.1 w.1))
 
-  -- so is a cost
+  -- the same for a cost
   pub cost_stays : (cost : Option Sum) → CostReads names cost → IsCostWithin names cost ↔ IsCostWithin last cost
   cost_stays None h = (λ w. tt, λ w. tt)
   cost_stays (Some c) h = argument_stays c h

@@ -10,7 +10,7 @@ use Rattle.its_text.specs.Pieces.{Disjoining, Remark, Wrong, Strange}
 use Rattle.its_text.specs.Written.{RightTerm}
 use Rattle.its_text.specs.Fronts.{Front, Led, Aimed, Headed}
 use Rattle.its_text.specs.Fronts.{Arrowed, ComNamed, ComOpened, TargetNamed, RightOpened}
-use Rattle.its_text.specs.Fronts.{Arguing, RightShut, Targeted, GuardMarked, WordRead, MarkGuarding, SquareOpened}
+use Rattle.its_text.specs.Fronts.{Arguing, TargetClosed, Targeted, GuardMarked, WordRead, MarkGuarding, SquareOpened}
 use Rattle.its_text.specs.Fronts.{SquareGuarding}
 use Rattle.its_text.specs.Steps.{step}
 use Rattle.its_text.proofs.StepCases.{HoldsOfSteps}
@@ -144,28 +144,28 @@ module _ (P : Front → Piece → Option Front → Type 0) (each : HoldsOfSteps 
   in_argument_case a arguments e Strange = each.nowhere (Arguing a arguments e) Strange
 
   -- behind the right term within `Com_1(`
-  pub right_shut_case : (l : Led) (t : RightTerm) (p : Piece) → P (RightShut l t) p (step (RightShut l t) p)
-  right_shut_case l t (In (inner.Word name)) = each.nowhere (RightShut l t) (In (inner.Word name))
-  right_shut_case l t (In (inner.Digits ds)) = each.nowhere (RightShut l t) (In (inner.Digits ds))
-  right_shut_case l t (In inner.Open) = each.nowhere (RightShut l t) (In inner.Open)
+  pub right_shut_case : (l : Led) (t : RightTerm) (p : Piece) → P (TargetClosed l t) p (step (TargetClosed l t) p)
+  right_shut_case l t (In (inner.Word name)) = each.nowhere (TargetClosed l t) (In (inner.Word name))
+  right_shut_case l t (In (inner.Digits ds)) = each.nowhere (TargetClosed l t) (In (inner.Digits ds))
+  right_shut_case l t (In inner.Open) = each.nowhere (TargetClosed l t) (In inner.Open)
   right_shut_case l t (In inner.Close) = each.right_shut_close l t
-  right_shut_case l t (In inner.Plus) = each.nowhere (RightShut l t) (In inner.Plus)
-  right_shut_case l t (In inner.Minus) = each.nowhere (RightShut l t) (In inner.Minus)
-  right_shut_case l t (In inner.Times) = each.nowhere (RightShut l t) (In inner.Times)
-  right_shut_case l t (In inner.Caret) = each.nowhere (RightShut l t) (In inner.Caret)
-  right_shut_case l t (In (inner.Related sign)) = each.nowhere (RightShut l t) (In (inner.Related sign))
-  right_shut_case l t (In (inner.Joining joint)) = each.nowhere (RightShut l t) (In (inner.Joining joint))
-  right_shut_case l t Comma = each.nowhere (RightShut l t) Comma
-  right_shut_case l t Arrow = each.nowhere (RightShut l t) Arrow
-  right_shut_case l t CostOpen = each.nowhere (RightShut l t) CostOpen
-  right_shut_case l t CostClose = each.nowhere (RightShut l t) CostClose
-  right_shut_case l t GuardMark = each.nowhere (RightShut l t) GuardMark
-  right_shut_case l t SquareOpen = each.nowhere (RightShut l t) SquareOpen
-  right_shut_case l t SquareClose = each.nowhere (RightShut l t) SquareClose
-  right_shut_case l t Disjoining = each.nowhere (RightShut l t) Disjoining
-  right_shut_case l t (Remark bytes) = each.nowhere (RightShut l t) (Remark bytes)
-  right_shut_case l t Wrong = each.nowhere (RightShut l t) Wrong
-  right_shut_case l t Strange = each.nowhere (RightShut l t) Strange
+  right_shut_case l t (In inner.Plus) = each.nowhere (TargetClosed l t) (In inner.Plus)
+  right_shut_case l t (In inner.Minus) = each.nowhere (TargetClosed l t) (In inner.Minus)
+  right_shut_case l t (In inner.Times) = each.nowhere (TargetClosed l t) (In inner.Times)
+  right_shut_case l t (In inner.Caret) = each.nowhere (TargetClosed l t) (In inner.Caret)
+  right_shut_case l t (In (inner.Related sign)) = each.nowhere (TargetClosed l t) (In (inner.Related sign))
+  right_shut_case l t (In (inner.Joining joint)) = each.nowhere (TargetClosed l t) (In (inner.Joining joint))
+  right_shut_case l t Comma = each.nowhere (TargetClosed l t) Comma
+  right_shut_case l t Arrow = each.nowhere (TargetClosed l t) Arrow
+  right_shut_case l t CostOpen = each.nowhere (TargetClosed l t) CostOpen
+  right_shut_case l t CostClose = each.nowhere (TargetClosed l t) CostClose
+  right_shut_case l t GuardMark = each.nowhere (TargetClosed l t) GuardMark
+  right_shut_case l t SquareOpen = each.nowhere (TargetClosed l t) SquareOpen
+  right_shut_case l t SquareClose = each.nowhere (TargetClosed l t) SquareClose
+  right_shut_case l t Disjoining = each.nowhere (TargetClosed l t) Disjoining
+  right_shut_case l t (Remark bytes) = each.nowhere (TargetClosed l t) (Remark bytes)
+  right_shut_case l t Wrong = each.nowhere (TargetClosed l t) Wrong
+  right_shut_case l t Strange = each.nowhere (TargetClosed l t) Strange
 
   -- behind the target
   pub targeted_case : (h : Headed) (p : Piece) → P (Targeted h) p (step (Targeted h) p)

@@ -5,8 +5,8 @@ use Rattle.expr_text.specs.Pieces as inner
 use Rattle.its_text.specs.Pieces.{Piece, In, Comma, Arrow, CostOpen, CostClose, GuardMark, SquareOpen, SquareClose}
 use Rattle.its_text.specs.Pieces.{Disjoining, Remark, Wrong, Strange}
 use Rattle.its_text.specs.Written.{Section}
-use Rattle.its_text.specs.Fronts.{Front, Between, Opened, GoalNamed, GoalSaid, StartNamed, StartOpened, StartListed}
-use Rattle.its_text.specs.Fronts.{StartSaid, StartShut, Listing, CommentNamed}
+use Rattle.its_text.specs.Fronts.{Front, Between, Opened, GoalNamed, GoalRead, StartNamed, StartOpened, StartListed}
+use Rattle.its_text.specs.Fronts.{StartRead, StartClosed, Listing, CommentNamed}
 use Rattle.its_text.specs.Steps.{step}
 use Rattle.its_text.proofs.StepCases.{HoldsOfSteps}
 
@@ -84,28 +84,28 @@ module _ (P : Front → Piece → Option Front → Type 0) (each : HoldsOfSteps 
   goal_named_case ss Strange = each.nowhere (GoalNamed ss) Strange
 
   -- behind `(GOAL COMPLEXITY`
-  pub goal_said_case : (ss : List Section) (p : Piece) → P (GoalSaid ss) p (step (GoalSaid ss) p)
-  goal_said_case ss (In (inner.Word name)) = each.nowhere (GoalSaid ss) (In (inner.Word name))
-  goal_said_case ss (In (inner.Digits ds)) = each.nowhere (GoalSaid ss) (In (inner.Digits ds))
-  goal_said_case ss (In inner.Open) = each.nowhere (GoalSaid ss) (In inner.Open)
+  pub goal_said_case : (ss : List Section) (p : Piece) → P (GoalRead ss) p (step (GoalRead ss) p)
+  goal_said_case ss (In (inner.Word name)) = each.nowhere (GoalRead ss) (In (inner.Word name))
+  goal_said_case ss (In (inner.Digits ds)) = each.nowhere (GoalRead ss) (In (inner.Digits ds))
+  goal_said_case ss (In inner.Open) = each.nowhere (GoalRead ss) (In inner.Open)
   goal_said_case ss (In inner.Close) = each.goal_said_close ss
-  goal_said_case ss (In inner.Plus) = each.nowhere (GoalSaid ss) (In inner.Plus)
-  goal_said_case ss (In inner.Minus) = each.nowhere (GoalSaid ss) (In inner.Minus)
-  goal_said_case ss (In inner.Times) = each.nowhere (GoalSaid ss) (In inner.Times)
-  goal_said_case ss (In inner.Caret) = each.nowhere (GoalSaid ss) (In inner.Caret)
-  goal_said_case ss (In (inner.Related sign)) = each.nowhere (GoalSaid ss) (In (inner.Related sign))
-  goal_said_case ss (In (inner.Joining joint)) = each.nowhere (GoalSaid ss) (In (inner.Joining joint))
-  goal_said_case ss Comma = each.nowhere (GoalSaid ss) Comma
-  goal_said_case ss Arrow = each.nowhere (GoalSaid ss) Arrow
-  goal_said_case ss CostOpen = each.nowhere (GoalSaid ss) CostOpen
-  goal_said_case ss CostClose = each.nowhere (GoalSaid ss) CostClose
-  goal_said_case ss GuardMark = each.nowhere (GoalSaid ss) GuardMark
-  goal_said_case ss SquareOpen = each.nowhere (GoalSaid ss) SquareOpen
-  goal_said_case ss SquareClose = each.nowhere (GoalSaid ss) SquareClose
-  goal_said_case ss Disjoining = each.nowhere (GoalSaid ss) Disjoining
-  goal_said_case ss (Remark bytes) = each.nowhere (GoalSaid ss) (Remark bytes)
-  goal_said_case ss Wrong = each.nowhere (GoalSaid ss) Wrong
-  goal_said_case ss Strange = each.nowhere (GoalSaid ss) Strange
+  goal_said_case ss (In inner.Plus) = each.nowhere (GoalRead ss) (In inner.Plus)
+  goal_said_case ss (In inner.Minus) = each.nowhere (GoalRead ss) (In inner.Minus)
+  goal_said_case ss (In inner.Times) = each.nowhere (GoalRead ss) (In inner.Times)
+  goal_said_case ss (In inner.Caret) = each.nowhere (GoalRead ss) (In inner.Caret)
+  goal_said_case ss (In (inner.Related sign)) = each.nowhere (GoalRead ss) (In (inner.Related sign))
+  goal_said_case ss (In (inner.Joining joint)) = each.nowhere (GoalRead ss) (In (inner.Joining joint))
+  goal_said_case ss Comma = each.nowhere (GoalRead ss) Comma
+  goal_said_case ss Arrow = each.nowhere (GoalRead ss) Arrow
+  goal_said_case ss CostOpen = each.nowhere (GoalRead ss) CostOpen
+  goal_said_case ss CostClose = each.nowhere (GoalRead ss) CostClose
+  goal_said_case ss GuardMark = each.nowhere (GoalRead ss) GuardMark
+  goal_said_case ss SquareOpen = each.nowhere (GoalRead ss) SquareOpen
+  goal_said_case ss SquareClose = each.nowhere (GoalRead ss) SquareClose
+  goal_said_case ss Disjoining = each.nowhere (GoalRead ss) Disjoining
+  goal_said_case ss (Remark bytes) = each.nowhere (GoalRead ss) (Remark bytes)
+  goal_said_case ss Wrong = each.nowhere (GoalRead ss) Wrong
+  goal_said_case ss Strange = each.nowhere (GoalRead ss) Strange
 
   -- behind `(STARTTERM`
   pub start_named_case : (ss : List Section) (p : Piece) → P (StartNamed ss) p (step (StartNamed ss) p)
@@ -181,53 +181,53 @@ module _ (P : Front → Piece → Option Front → Type 0) (each : HoldsOfSteps 
 
   -- behind the start symbol
   pub start_said_case : (ss : List Section) (start : Name) (p : Piece)
-      → P (StartSaid ss start) p (step (StartSaid ss start) p)
-  start_said_case ss start (In (inner.Word name)) = each.nowhere (StartSaid ss start) (In (inner.Word name))
-  start_said_case ss start (In (inner.Digits ds)) = each.nowhere (StartSaid ss start) (In (inner.Digits ds))
-  start_said_case ss start (In inner.Open) = each.nowhere (StartSaid ss start) (In inner.Open)
+      → P (StartRead ss start) p (step (StartRead ss start) p)
+  start_said_case ss start (In (inner.Word name)) = each.nowhere (StartRead ss start) (In (inner.Word name))
+  start_said_case ss start (In (inner.Digits ds)) = each.nowhere (StartRead ss start) (In (inner.Digits ds))
+  start_said_case ss start (In inner.Open) = each.nowhere (StartRead ss start) (In inner.Open)
   start_said_case ss start (In inner.Close) = each.start_said_close ss start
-  start_said_case ss start (In inner.Plus) = each.nowhere (StartSaid ss start) (In inner.Plus)
-  start_said_case ss start (In inner.Minus) = each.nowhere (StartSaid ss start) (In inner.Minus)
-  start_said_case ss start (In inner.Times) = each.nowhere (StartSaid ss start) (In inner.Times)
-  start_said_case ss start (In inner.Caret) = each.nowhere (StartSaid ss start) (In inner.Caret)
-  start_said_case ss start (In (inner.Related sign)) = each.nowhere (StartSaid ss start) (In (inner.Related sign))
-  start_said_case ss start (In (inner.Joining joint)) = each.nowhere (StartSaid ss start) (In (inner.Joining joint))
-  start_said_case ss start Comma = each.nowhere (StartSaid ss start) Comma
-  start_said_case ss start Arrow = each.nowhere (StartSaid ss start) Arrow
-  start_said_case ss start CostOpen = each.nowhere (StartSaid ss start) CostOpen
-  start_said_case ss start CostClose = each.nowhere (StartSaid ss start) CostClose
-  start_said_case ss start GuardMark = each.nowhere (StartSaid ss start) GuardMark
-  start_said_case ss start SquareOpen = each.nowhere (StartSaid ss start) SquareOpen
-  start_said_case ss start SquareClose = each.nowhere (StartSaid ss start) SquareClose
-  start_said_case ss start Disjoining = each.nowhere (StartSaid ss start) Disjoining
-  start_said_case ss start (Remark bytes) = each.nowhere (StartSaid ss start) (Remark bytes)
-  start_said_case ss start Wrong = each.nowhere (StartSaid ss start) Wrong
-  start_said_case ss start Strange = each.nowhere (StartSaid ss start) Strange
+  start_said_case ss start (In inner.Plus) = each.nowhere (StartRead ss start) (In inner.Plus)
+  start_said_case ss start (In inner.Minus) = each.nowhere (StartRead ss start) (In inner.Minus)
+  start_said_case ss start (In inner.Times) = each.nowhere (StartRead ss start) (In inner.Times)
+  start_said_case ss start (In inner.Caret) = each.nowhere (StartRead ss start) (In inner.Caret)
+  start_said_case ss start (In (inner.Related sign)) = each.nowhere (StartRead ss start) (In (inner.Related sign))
+  start_said_case ss start (In (inner.Joining joint)) = each.nowhere (StartRead ss start) (In (inner.Joining joint))
+  start_said_case ss start Comma = each.nowhere (StartRead ss start) Comma
+  start_said_case ss start Arrow = each.nowhere (StartRead ss start) Arrow
+  start_said_case ss start CostOpen = each.nowhere (StartRead ss start) CostOpen
+  start_said_case ss start CostClose = each.nowhere (StartRead ss start) CostClose
+  start_said_case ss start GuardMark = each.nowhere (StartRead ss start) GuardMark
+  start_said_case ss start SquareOpen = each.nowhere (StartRead ss start) SquareOpen
+  start_said_case ss start SquareClose = each.nowhere (StartRead ss start) SquareClose
+  start_said_case ss start Disjoining = each.nowhere (StartRead ss start) Disjoining
+  start_said_case ss start (Remark bytes) = each.nowhere (StartRead ss start) (Remark bytes)
+  start_said_case ss start Wrong = each.nowhere (StartRead ss start) Wrong
+  start_said_case ss start Strange = each.nowhere (StartRead ss start) Strange
 
   -- behind the bracket that closes on the start symbol
   pub start_shut_case : (ss : List Section) (start : Name) (p : Piece)
-      → P (StartShut ss start) p (step (StartShut ss start) p)
-  start_shut_case ss start (In (inner.Word name)) = each.nowhere (StartShut ss start) (In (inner.Word name))
-  start_shut_case ss start (In (inner.Digits ds)) = each.nowhere (StartShut ss start) (In (inner.Digits ds))
-  start_shut_case ss start (In inner.Open) = each.nowhere (StartShut ss start) (In inner.Open)
+      → P (StartClosed ss start) p (step (StartClosed ss start) p)
+  start_shut_case ss start (In (inner.Word name)) = each.nowhere (StartClosed ss start) (In (inner.Word name))
+  start_shut_case ss start (In (inner.Digits ds)) = each.nowhere (StartClosed ss start) (In (inner.Digits ds))
+  start_shut_case ss start (In inner.Open) = each.nowhere (StartClosed ss start) (In inner.Open)
   start_shut_case ss start (In inner.Close) = each.start_shut_close ss start
-  start_shut_case ss start (In inner.Plus) = each.nowhere (StartShut ss start) (In inner.Plus)
-  start_shut_case ss start (In inner.Minus) = each.nowhere (StartShut ss start) (In inner.Minus)
-  start_shut_case ss start (In inner.Times) = each.nowhere (StartShut ss start) (In inner.Times)
-  start_shut_case ss start (In inner.Caret) = each.nowhere (StartShut ss start) (In inner.Caret)
-  start_shut_case ss start (In (inner.Related sign)) = each.nowhere (StartShut ss start) (In (inner.Related sign))
-  start_shut_case ss start (In (inner.Joining joint)) = each.nowhere (StartShut ss start) (In (inner.Joining joint))
-  start_shut_case ss start Comma = each.nowhere (StartShut ss start) Comma
-  start_shut_case ss start Arrow = each.nowhere (StartShut ss start) Arrow
-  start_shut_case ss start CostOpen = each.nowhere (StartShut ss start) CostOpen
-  start_shut_case ss start CostClose = each.nowhere (StartShut ss start) CostClose
-  start_shut_case ss start GuardMark = each.nowhere (StartShut ss start) GuardMark
-  start_shut_case ss start SquareOpen = each.nowhere (StartShut ss start) SquareOpen
-  start_shut_case ss start SquareClose = each.nowhere (StartShut ss start) SquareClose
-  start_shut_case ss start Disjoining = each.nowhere (StartShut ss start) Disjoining
-  start_shut_case ss start (Remark bytes) = each.nowhere (StartShut ss start) (Remark bytes)
-  start_shut_case ss start Wrong = each.nowhere (StartShut ss start) Wrong
-  start_shut_case ss start Strange = each.nowhere (StartShut ss start) Strange
+  start_shut_case ss start (In inner.Plus) = each.nowhere (StartClosed ss start) (In inner.Plus)
+  start_shut_case ss start (In inner.Minus) = each.nowhere (StartClosed ss start) (In inner.Minus)
+  start_shut_case ss start (In inner.Times) = each.nowhere (StartClosed ss start) (In inner.Times)
+  start_shut_case ss start (In inner.Caret) = each.nowhere (StartClosed ss start) (In inner.Caret)
+  start_shut_case ss start (In (inner.Related sign)) = each.nowhere (StartClosed ss start) (In (inner.Related sign))
+  start_shut_case ss start (In (inner.Joining joint)) = each.nowhere (StartClosed ss start) (In (inner.Joining joint))
+  start_shut_case ss start Comma = each.nowhere (StartClosed ss start) Comma
+  start_shut_case ss start Arrow = each.nowhere (StartClosed ss start) Arrow
+  start_shut_case ss start CostOpen = each.nowhere (StartClosed ss start) CostOpen
+  start_shut_case ss start CostClose = each.nowhere (StartClosed ss start) CostClose
+  start_shut_case ss start GuardMark = each.nowhere (StartClosed ss start) GuardMark
+  start_shut_case ss start SquareOpen = each.nowhere (StartClosed ss start) SquareOpen
+  start_shut_case ss start SquareClose = each.nowhere (StartClosed ss start) SquareClose
+  start_shut_case ss start Disjoining = each.nowhere (StartClosed ss start) Disjoining
+  start_shut_case ss start (Remark bytes) = each.nowhere (StartClosed ss start) (Remark bytes)
+  start_shut_case ss start Wrong = each.nowhere (StartClosed ss start) Wrong
+  start_shut_case ss start Strange = each.nowhere (StartClosed ss start) Strange
 
   -- behind `(VAR` and names
   pub listing_case : (ss : List Section) (names : List Name) (p : Piece)

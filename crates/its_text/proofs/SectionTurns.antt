@@ -10,7 +10,7 @@ use Rattle.expr_text.proofs.text_core.NameLaws.{same_equal}
 use Rattle.its_text.specs.Pieces.{Piece, word}
 use Rattle.its_text.specs.Written.{Section, Goal, Start, Variables, Rules, Comment}
 use Rattle.its_text.specs.Numbering.{rules_of}
-use Rattle.its_text.specs.Fronts.{Ruling, Front, Opened, GoalNamed, StartNamed, Listing, CommentNamed, Ruled}
+use Rattle.its_text.specs.Fronts.{Ruling, Front, Opened, GoalNamed, StartNamed, Listing, CommentNamed, AfterRule}
 use Rattle.its_text.specs.Fronts.{section_of}
 use Rattle.its_text.specs.Steps.{section_named}
 use Rattle.its_text.specs.FrontFaults.{is_goal, is_start, is_variables, is_rules, has, has_named}
@@ -214,7 +214,7 @@ third_of_four a b true d = refl
 third_of_four a b false d = refl
 
 module _ (ss : List Section) (name : Name) (ps : List Piece) where
-  -- it begins a section that stands there once
+  -- it begins a section that may occur only once
   begins_once : (test : Section → Bool) (g : Front) → IsKept g ps ↔ (AreDone ss × (has test ss ≡ false))
       → has_named ss name ≡ has test ss → Turns (Opened ss) (word name) ps (Some g)
   begins_once test g kept named = (
@@ -232,17 +232,17 @@ module _ (ss : List Section) (name : Name) (ps : List Piece) where
 
   rules_turns : (v : Bool) → is_same name (codes "RULES") ≡ v
       → Turns (Opened ss) (word name) ps
-      (if v then Some (Ruled (record { sections = ss; rules = [] })) else if is_same name (codes "COMMENT") then Some
+      (if v then Some (AfterRule (record { sections = ss; rules = [] })) else if is_same name (codes "COMMENT") then Some
       (CommentNamed ss) else None)
   rules_turns false e = comment_turns (is_same name (codes "COMMENT")) refl
   rules_turns true e =
-      begins_once is_rules (Ruled (record { sections = ss; rules = [] })) (no_rule ss)
+      begins_once is_rules (AfterRule (record { sections = ss; rules = [] })) (no_rule ss)
       (ap (has_named ss) (same_equal name (codes "RULES") e))
 
   variables_turns : (v : Bool) → is_same name (codes "VAR") ≡ v
       → Turns (Opened ss) (word name) ps
       (if v then Some (Listing ss []) else if is_same name (codes "RULES") then Some
-      (Ruled (record { sections = ss; rules = [] })) else if is_same name (codes "COMMENT") then Some
+      (AfterRule (record { sections = ss; rules = [] })) else if is_same name (codes "COMMENT") then Some
       (CommentNamed ss) else None)
   variables_turns false e = rules_turns (is_same name (codes "RULES")) refl
   variables_turns true e =
@@ -253,7 +253,7 @@ module _ (ss : List Section) (name : Name) (ps : List Piece) where
   start_turns : (v : Bool) → is_same name (codes "STARTTERM") ≡ v
       → Turns (Opened ss) (word name) ps
       (if v then Some (StartNamed ss) else if is_same name (codes "VAR") then Some (Listing ss []) else if is_same name
-      (codes "RULES") then Some (Ruled (record { sections = ss; rules = [] })) else if is_same name
+      (codes "RULES") then Some (AfterRule (record { sections = ss; rules = [] })) else if is_same name
       (codes "COMMENT") then Some (CommentNamed ss) else None)
   start_turns false e = variables_turns (is_same name (codes "VAR")) refl
   start_turns true e =
@@ -265,7 +265,7 @@ module _ (ss : List Section) (name : Name) (ps : List Piece) where
       → Turns (Opened ss) (word name) ps
       (if v then Some (GoalNamed ss) else if is_same name (codes "STARTTERM") then Some
       (StartNamed ss) else if is_same name (codes "VAR") then Some (Listing ss []) else if is_same name
-      (codes "RULES") then Some (Ruled (record { sections = ss; rules = [] })) else if is_same name
+      (codes "RULES") then Some (AfterRule (record { sections = ss; rules = [] })) else if is_same name
       (codes "COMMENT") then Some (CommentNamed ss) else None)
   goal_turns false e = start_turns (is_same name (codes "STARTTERM")) refl
   goal_turns true e =

@@ -1,4 +1,4 @@
--- A rule's target that stands alone isn't named `Com_1`, in each front that a piece leads to.
+-- A target without `Com_1(..)` around it isn't named `Com_` and digits, in each front that a piece leads to.
 use Rattle.std.specs.Prelude.{◌≡◌, List, [], ◌∷◌, codes, Bool, true, false, if◌then◌else◌, Option, Some, None, ⊤, refl}
 use Rattle.std.specs.Prelude.{IsFalse}
 use Rattle.expr_text.specs.model.Programs.{Name}
@@ -12,9 +12,9 @@ use Rattle.expr_text.specs.GuardFronts as guards
 use Rattle.its_text.specs.Pieces.{Piece}
 use Rattle.its_text.specs.Written.{LeftTerm, RightTerm, Guard, NoGuard, BehindMark, InSquares, Section}
 use Rattle.its_text.specs.Fronts.{Ruling, Led, Wrap, InCom, Alone, Aimed, Headed, Front, Between, Opened, GoalNamed}
-use Rattle.its_text.specs.Fronts.{GoalSaid, StartNamed, StartOpened, StartListed, StartSaid, StartShut, Listing}
-use Rattle.its_text.specs.Fronts.{CommentNamed, Ruled, SourceNamed, LeftOpened, LeftRead, LeftParted, LeftShut, Costing}
-use Rattle.its_text.specs.Fronts.{Arrowed, ComNamed, ComOpened, TargetNamed, RightOpened, Arguing, RightShut, Targeted}
+use Rattle.its_text.specs.Fronts.{GoalRead, StartNamed, StartOpened, StartListed, StartRead, StartClosed, Listing}
+use Rattle.its_text.specs.Fronts.{CommentNamed, AfterRule, SourceNamed, LeftOpened, LeftRead, LeftParted, SourceClosed, Costing}
+use Rattle.its_text.specs.Fronts.{Arrowed, ComNamed, ComOpened, TargetNamed, RightOpened, Arguing, TargetClosed, Targeted}
 use Rattle.its_text.specs.Fronts.{GuardMarked, WordRead, MarkGuarding, SquareOpened, SquareGuarding, ruling_with}
 use Rattle.expr_text.specs.text_core.Choices.{when}
 use Rattle.its_text.specs.Steps.{section_named, cost_step, cost_ended, behind_target_name, shut_by, behind_arrow}
@@ -43,20 +43,20 @@ abbrev pub IsFront : Front → Type 0
 IsFront (Between ss) = AreSections ss
 IsFront (Opened ss) = AreSections ss
 IsFront (GoalNamed ss) = AreSections ss
-IsFront (GoalSaid ss) = AreSections ss
+IsFront (GoalRead ss) = AreSections ss
 IsFront (StartNamed ss) = AreSections ss
 IsFront (StartOpened ss) = AreSections ss
 IsFront (StartListed ss) = AreSections ss
-IsFront (StartSaid ss name) = AreSections ss
-IsFront (StartShut ss name) = AreSections ss
+IsFront (StartRead ss name) = AreSections ss
+IsFront (StartClosed ss name) = AreSections ss
 IsFront (Listing ss names) = AreSections ss
 IsFront (CommentNamed ss) = AreSections ss
-IsFront (Ruled r) = IsRuling r
+IsFront (AfterRule r) = IsRuling r
 IsFront (SourceNamed r name) = IsRuling r
 IsFront (LeftOpened r name) = IsRuling r
 IsFront (LeftRead r name a earlier) = IsRuling r
 IsFront (LeftParted r name a earlier) = IsRuling r
-IsFront (LeftShut r t) = IsRuling r
+IsFront (SourceClosed r t) = IsRuling r
 IsFront (Costing r t e) = IsRuling r
 IsFront (Arrowed l) = IsRuling l.ruling
 IsFront (ComNamed l) = IsRuling l.ruling
@@ -64,7 +64,7 @@ IsFront (ComOpened l) = IsRuling l.ruling
 IsFront (TargetNamed a) = IsAimed a
 IsFront (RightOpened a) = IsAimed a
 IsFront (Arguing a arguments e) = IsAimed a
-IsFront (RightShut l t) = IsRuling l.ruling
+IsFront (TargetClosed l t) = IsRuling l.ruling
 IsFront (Targeted h) = IsHeaded h
 IsFront (GuardMarked h) = IsHeaded h
 IsFront (WordRead h name) = IsHeaded h
@@ -72,7 +72,7 @@ IsFront (MarkGuarding h g) = IsHeaded h
 IsFront (SquareOpened h) = IsHeaded h
 IsFront (SquareGuarding h g) = IsHeaded h
 
--- so are those of the front that a piece leads to
+-- the same for those of the front that a piece leads to
 abbrev pub Keeps : Option Front → Type 0
 Keeps None = ⊤
 Keeps (Some g) = IsFront g
@@ -90,7 +90,7 @@ section_named_keeps ss name h =
     or_keeps (is_same name (codes "GOAL")) (GoalNamed ss) _ h
     (or_keeps (is_same name (codes "STARTTERM")) (StartNamed ss) _ h
     (or_keeps (is_same name (codes "VAR")) (Listing ss []) _ h
-    (or_keeps (is_same name (codes "RULES")) (Ruled (record { sections = ss; rules = [] })) _ (h, tt)
+    (or_keeps (is_same name (codes "RULES")) (AfterRule (record { sections = ss; rules = [] })) _ (h, tt)
     (or_keeps (is_same name (codes "COMMENT")) (CommentNamed ss) None h tt))))
 
 behind_arrow_keeps : (l : Led) (name : Name) → IsRuling l.ruling → IsFront (behind_arrow l name)
@@ -217,7 +217,7 @@ keeps_each = record {
   nowhere = λ f p k. tt;
   between_open = λ ss k. k;
   opened_word = λ ss name k. section_named_keeps ss name k;
-  goal_named_word = λ ss name k. when_keeps (is_same name (codes "COMPLEXITY")) (GoalSaid ss) k;
+  goal_named_word = λ ss name k. when_keeps (is_same name (codes "COMPLEXITY")) (GoalRead ss) k;
   goal_said_close = λ ss k. (tt, k);
   start_named_open = λ ss k. k;
   start_opened_word = λ ss name k. when_keeps (is_same name (codes "FUNCTIONSYMBOLS")) (StartListed ss) k;

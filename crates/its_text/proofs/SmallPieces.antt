@@ -13,11 +13,11 @@ use Rattle.expr_text.specs.FrontNames.{is_front, goes_on_with}
 use Rattle.its_text.specs.Pieces.{Piece, In, Comma, Arrow, CostOpen, CostClose, GuardMark, SquareOpen, SquareClose}
 use Rattle.its_text.specs.Pieces.{Disjoining, Remark, Wrong, Strange, digits}
 use Rattle.its_text.specs.Written.{LeftTerm}
-use Rattle.its_text.specs.Fronts.{Ruling, Aimed, Headed, Front, Between, Opened, GoalNamed, GoalSaid, StartNamed}
+use Rattle.its_text.specs.Fronts.{Ruling, Aimed, Headed, Front, Between, Opened, GoalNamed, GoalRead, StartNamed}
 use Rattle.its_text.specs.Fronts.{StartOpened}
-use Rattle.its_text.specs.Fronts.{StartListed, StartSaid, StartShut, Listing, CommentNamed, Ruled, SourceNamed}
-use Rattle.its_text.specs.Fronts.{LeftOpened, LeftRead, LeftParted, LeftShut, Costing, Arrowed, ComNamed, ComOpened}
-use Rattle.its_text.specs.Fronts.{TargetNamed, RightOpened, Arguing, RightShut, Targeted, GuardMarked, WordRead}
+use Rattle.its_text.specs.Fronts.{StartListed, StartRead, StartClosed, Listing, CommentNamed, AfterRule, SourceNamed}
+use Rattle.its_text.specs.Fronts.{LeftOpened, LeftRead, LeftParted, SourceClosed, Costing, Arrowed, ComNamed, ComOpened}
+use Rattle.its_text.specs.Fronts.{TargetNamed, RightOpened, Arguing, TargetClosed, Targeted, GuardMarked, WordRead}
 use Rattle.its_text.specs.Fronts.{MarkGuarding}
 use Rattle.its_text.specs.Fronts.{SquareOpened, SquareGuarding}
 use Rattle.its_text.specs.Steps.{behind_argument, argument_step, guard_ended, mark_guard_step, square_guard_step}
@@ -127,20 +127,20 @@ digits_small : (f g : Front) (ds : List ℕ) (behind : Option Piece) → step f 
 digits_small (Between ss) g ds behind same small = cc
 digits_small (Opened ss) g ds behind same small = cc
 digits_small (GoalNamed ss) g ds behind same small = cc
-digits_small (GoalSaid ss) g ds behind same small = cc
+digits_small (GoalRead ss) g ds behind same small = cc
 digits_small (StartNamed ss) g ds behind same small = cc
 digits_small (StartOpened ss) g ds behind same small = cc
 digits_small (StartListed ss) g ds behind same small = cc
-digits_small (StartSaid ss start) g ds behind same small = cc
-digits_small (StartShut ss start) g ds behind same small = cc
+digits_small (StartRead ss start) g ds behind same small = cc
+digits_small (StartClosed ss start) g ds behind same small = cc
 digits_small (Listing ss names) g ds behind same small = cc
 digits_small (CommentNamed ss) g ds behind same small = cc
-digits_small (Ruled r) g ds behind same small = cc
+digits_small (AfterRule r) g ds behind same small = cc
 digits_small (SourceNamed r source) g ds behind same small = cc
 digits_small (LeftOpened r source) g ds behind same small = cc
 digits_small (LeftRead r source a earlier) g ds behind same small = cc
 digits_small (LeftParted r source a earlier) g ds behind same small = cc
-digits_small (LeftShut r t) g ds behind same small = cc
+digits_small (SourceClosed r t) g ds behind same small = cc
 digits_small (Costing r t e) g ds behind same small =
     small (costing_digits r t (expression_steps.step e (inner.Digits ds)) g same)
 digits_small (Arrowed l) g ds behind same small = cc
@@ -150,7 +150,7 @@ digits_small (TargetNamed a) g ds behind same small = cc
 digits_small (RightOpened a) g ds behind same small = small refl
 digits_small (Arguing a arguments e) g ds behind same small =
     small (arguing_digits a arguments e (expression_steps.step e (inner.Digits ds)) ds g same)
-digits_small (RightShut l t) g ds behind same small = cc
+digits_small (TargetClosed l t) g ds behind same small = cc
 digits_small (Targeted h) g ds behind same small = cc
 digits_small (GuardMarked h) g ds behind same small = small refl
 digits_small (WordRead h name) g ds behind same small =

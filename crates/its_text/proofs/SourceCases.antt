@@ -6,26 +6,26 @@ use Rattle.expr_text.specs.Fronts as expression
 use Rattle.its_text.specs.Pieces.{Piece, In, Comma, Arrow, CostOpen, CostClose, GuardMark, SquareOpen, SquareClose}
 use Rattle.its_text.specs.Pieces.{Disjoining, Remark, Wrong, Strange}
 use Rattle.its_text.specs.Written.{LeftTerm}
-use Rattle.its_text.specs.Fronts.{Front, Ruling, Ruled, SourceNamed, LeftOpened, LeftRead}
-use Rattle.its_text.specs.Fronts.{LeftParted, LeftShut, Costing}
+use Rattle.its_text.specs.Fronts.{Front, Ruling, AfterRule, SourceNamed, LeftOpened, LeftRead}
+use Rattle.its_text.specs.Fronts.{LeftParted, SourceClosed, Costing}
 use Rattle.its_text.specs.Steps.{step}
 use Rattle.its_text.proofs.StepCases.{HoldsOfSteps}
 
 module _ (P : Front → Piece → Option Front → Type 0) (each : HoldsOfSteps P) where
   -- behind `(RULES` and whole rules
-  pub ruled_case : (r : Ruling) (p : Piece) → P (Ruled r) p (step (Ruled r) p)
+  pub ruled_case : (r : Ruling) (p : Piece) → P (AfterRule r) p (step (AfterRule r) p)
   ruled_case r (In p) = each.ruled_piece r p
-  ruled_case r Comma = each.nowhere (Ruled r) Comma
-  ruled_case r Arrow = each.nowhere (Ruled r) Arrow
-  ruled_case r CostOpen = each.nowhere (Ruled r) CostOpen
-  ruled_case r CostClose = each.nowhere (Ruled r) CostClose
-  ruled_case r GuardMark = each.nowhere (Ruled r) GuardMark
-  ruled_case r SquareOpen = each.nowhere (Ruled r) SquareOpen
-  ruled_case r SquareClose = each.nowhere (Ruled r) SquareClose
-  ruled_case r Disjoining = each.nowhere (Ruled r) Disjoining
-  ruled_case r (Remark bytes) = each.nowhere (Ruled r) (Remark bytes)
-  ruled_case r Wrong = each.nowhere (Ruled r) Wrong
-  ruled_case r Strange = each.nowhere (Ruled r) Strange
+  ruled_case r Comma = each.nowhere (AfterRule r) Comma
+  ruled_case r Arrow = each.nowhere (AfterRule r) Arrow
+  ruled_case r CostOpen = each.nowhere (AfterRule r) CostOpen
+  ruled_case r CostClose = each.nowhere (AfterRule r) CostClose
+  ruled_case r GuardMark = each.nowhere (AfterRule r) GuardMark
+  ruled_case r SquareOpen = each.nowhere (AfterRule r) SquareOpen
+  ruled_case r SquareClose = each.nowhere (AfterRule r) SquareClose
+  ruled_case r Disjoining = each.nowhere (AfterRule r) Disjoining
+  ruled_case r (Remark bytes) = each.nowhere (AfterRule r) (Remark bytes)
+  ruled_case r Wrong = each.nowhere (AfterRule r) Wrong
+  ruled_case r Strange = each.nowhere (AfterRule r) Strange
 
   -- behind a rule's source
   pub source_named_case : (r : Ruling) (source : Name) (p : Piece)
@@ -128,28 +128,28 @@ module _ (P : Front → Piece → Option Front → Type 0) (each : HoldsOfSteps 
   left_parted_case r source a earlier Strange = each.nowhere (LeftParted r source a earlier) Strange
 
   -- behind the left term
-  pub left_shut_case : (r : Ruling) (t : LeftTerm) (p : Piece) → P (LeftShut r t) p (step (LeftShut r t) p)
-  left_shut_case r t (In (inner.Word name)) = each.nowhere (LeftShut r t) (In (inner.Word name))
-  left_shut_case r t (In (inner.Digits ds)) = each.nowhere (LeftShut r t) (In (inner.Digits ds))
-  left_shut_case r t (In inner.Open) = each.nowhere (LeftShut r t) (In inner.Open)
-  left_shut_case r t (In inner.Close) = each.nowhere (LeftShut r t) (In inner.Close)
-  left_shut_case r t (In inner.Plus) = each.nowhere (LeftShut r t) (In inner.Plus)
-  left_shut_case r t (In inner.Minus) = each.nowhere (LeftShut r t) (In inner.Minus)
-  left_shut_case r t (In inner.Times) = each.nowhere (LeftShut r t) (In inner.Times)
-  left_shut_case r t (In inner.Caret) = each.nowhere (LeftShut r t) (In inner.Caret)
-  left_shut_case r t (In (inner.Related sign)) = each.nowhere (LeftShut r t) (In (inner.Related sign))
-  left_shut_case r t (In (inner.Joining joint)) = each.nowhere (LeftShut r t) (In (inner.Joining joint))
-  left_shut_case r t Comma = each.nowhere (LeftShut r t) Comma
+  pub left_shut_case : (r : Ruling) (t : LeftTerm) (p : Piece) → P (SourceClosed r t) p (step (SourceClosed r t) p)
+  left_shut_case r t (In (inner.Word name)) = each.nowhere (SourceClosed r t) (In (inner.Word name))
+  left_shut_case r t (In (inner.Digits ds)) = each.nowhere (SourceClosed r t) (In (inner.Digits ds))
+  left_shut_case r t (In inner.Open) = each.nowhere (SourceClosed r t) (In inner.Open)
+  left_shut_case r t (In inner.Close) = each.nowhere (SourceClosed r t) (In inner.Close)
+  left_shut_case r t (In inner.Plus) = each.nowhere (SourceClosed r t) (In inner.Plus)
+  left_shut_case r t (In inner.Minus) = each.nowhere (SourceClosed r t) (In inner.Minus)
+  left_shut_case r t (In inner.Times) = each.nowhere (SourceClosed r t) (In inner.Times)
+  left_shut_case r t (In inner.Caret) = each.nowhere (SourceClosed r t) (In inner.Caret)
+  left_shut_case r t (In (inner.Related sign)) = each.nowhere (SourceClosed r t) (In (inner.Related sign))
+  left_shut_case r t (In (inner.Joining joint)) = each.nowhere (SourceClosed r t) (In (inner.Joining joint))
+  left_shut_case r t Comma = each.nowhere (SourceClosed r t) Comma
   left_shut_case r t Arrow = each.left_shut_arrow r t
   left_shut_case r t CostOpen = each.left_shut_cost r t
-  left_shut_case r t CostClose = each.nowhere (LeftShut r t) CostClose
-  left_shut_case r t GuardMark = each.nowhere (LeftShut r t) GuardMark
-  left_shut_case r t SquareOpen = each.nowhere (LeftShut r t) SquareOpen
-  left_shut_case r t SquareClose = each.nowhere (LeftShut r t) SquareClose
-  left_shut_case r t Disjoining = each.nowhere (LeftShut r t) Disjoining
-  left_shut_case r t (Remark bytes) = each.nowhere (LeftShut r t) (Remark bytes)
-  left_shut_case r t Wrong = each.nowhere (LeftShut r t) Wrong
-  left_shut_case r t Strange = each.nowhere (LeftShut r t) Strange
+  left_shut_case r t CostClose = each.nowhere (SourceClosed r t) CostClose
+  left_shut_case r t GuardMark = each.nowhere (SourceClosed r t) GuardMark
+  left_shut_case r t SquareOpen = each.nowhere (SourceClosed r t) SquareOpen
+  left_shut_case r t SquareClose = each.nowhere (SourceClosed r t) SquareClose
+  left_shut_case r t Disjoining = each.nowhere (SourceClosed r t) Disjoining
+  left_shut_case r t (Remark bytes) = each.nowhere (SourceClosed r t) (Remark bytes)
+  left_shut_case r t Wrong = each.nowhere (SourceClosed r t) Wrong
+  left_shut_case r t Strange = each.nowhere (SourceClosed r t) Strange
 
   -- in a cost
   pub costing_case : (r : Ruling) (t : LeftTerm) (e : expression.Front) (p : Piece)

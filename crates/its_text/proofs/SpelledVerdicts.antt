@@ -144,7 +144,7 @@ pub sections_answered : (n : ℕ) (ts : Tokens) (ss : List Section) → Writes s
     → answer programs n ts ≡ Stands ss
 sections_answered = within_answered programs programs_laws AreSectionsWithin LeadsWithin shows_no_limit
 
--- a text that nothing stands against is answered
+-- a text without faults is answered
 faultless_answered : (bytes : List ℕ) (written : List Section) → IsFaultless bytes written
     → answer programs (length bytes) (tokens_of bytes) ≡ Stands written
 faultless_answered bytes written h =

@@ -12,10 +12,10 @@ use Rattle.its_text.specs.Pieces.{Piece, In, Comma, Arrow, CostOpen, CostClose, 
 use Rattle.its_text.specs.Pieces.{Remark}
 use Rattle.its_text.specs.Written.{LeftTerm, RightTerm, Marked, NoGuard, InSquares, Section, Goal, Start, Variables}
 use Rattle.its_text.specs.Written.{Comment}
-use Rattle.its_text.specs.Fronts.{Ruling, Led, InCom, Aimed, Headed, Front, Between, Opened, GoalNamed, GoalSaid}
-use Rattle.its_text.specs.Fronts.{StartNamed, StartOpened, StartListed, StartSaid, StartShut, Listing, CommentNamed}
-use Rattle.its_text.specs.Fronts.{Ruled, SourceNamed, LeftOpened, LeftRead, LeftParted, LeftShut, Costing, Arrowed}
-use Rattle.its_text.specs.Fronts.{ComNamed, ComOpened, TargetNamed, RightOpened, Arguing, RightShut, Targeted}
+use Rattle.its_text.specs.Fronts.{Ruling, Led, InCom, Aimed, Headed, Front, Between, Opened, GoalNamed, GoalRead}
+use Rattle.its_text.specs.Fronts.{StartNamed, StartOpened, StartListed, StartRead, StartClosed, Listing, CommentNamed}
+use Rattle.its_text.specs.Fronts.{AfterRule, SourceNamed, LeftOpened, LeftRead, LeftParted, SourceClosed, Costing, Arrowed}
+use Rattle.its_text.specs.Fronts.{ComNamed, ComOpened, TargetNamed, RightOpened, Arguing, TargetClosed, Targeted}
 use Rattle.its_text.specs.Fronts.{GuardMarked, WordRead, MarkGuarding, SquareOpened, SquareGuarding, ruling_with}
 use Rattle.its_text.specs.Steps.{behind_left, cost_step, cost_ended}
 use Rattle.its_text.specs.Steps.{section_named, left_shut, behind_target_name, behind_arrow, behind_target, behind_rule}
@@ -32,9 +32,9 @@ pub record HoldsOfSteps (P : Front → Piece → Option Front → Type 0) : Type
   pub opened_word : (ss : List Section) (name : Name) → P (Opened ss) (In (inner.Word name)) (section_named ss name)
   -- behind `(GOAL`
   pub goal_named_word : (ss : List Section) (name : Name)
-      → P (GoalNamed ss) (In (inner.Word name)) (when (is_same name (codes "COMPLEXITY")) (GoalSaid ss))
+      → P (GoalNamed ss) (In (inner.Word name)) (when (is_same name (codes "COMPLEXITY")) (GoalRead ss))
   -- behind `(GOAL COMPLEXITY`
-  pub goal_said_close : (ss : List Section) → P (GoalSaid ss) (In inner.Close) (Some (Between (Goal ∷ ss)))
+  pub goal_said_close : (ss : List Section) → P (GoalRead ss) (In inner.Close) (Some (Between (Goal ∷ ss)))
   -- behind `(STARTTERM`
   pub start_named_open : (ss : List Section) → P (StartNamed ss) (In inner.Open) (Some (StartOpened ss))
   -- behind the bracket after `STARTTERM`
@@ -42,13 +42,13 @@ pub record HoldsOfSteps (P : Front → Piece → Option Front → Type 0) : Type
       → P (StartOpened ss) (In (inner.Word name)) (when (is_same name (codes "FUNCTIONSYMBOLS")) (StartListed ss))
   -- behind `FUNCTIONSYMBOLS`
   pub start_listed_word : (ss : List Section) (name : Name)
-      → P (StartListed ss) (In (inner.Word name)) (Some (StartSaid ss name))
+      → P (StartListed ss) (In (inner.Word name)) (Some (StartRead ss name))
   -- behind the start symbol
   pub start_said_close : (ss : List Section) (name : Name)
-      → P (StartSaid ss name) (In inner.Close) (Some (StartShut ss name))
+      → P (StartRead ss name) (In inner.Close) (Some (StartClosed ss name))
   -- behind the bracket that closes on the start symbol
   pub start_shut_close : (ss : List Section) (name : Name)
-      → P (StartShut ss name) (In inner.Close) (Some (Between (Start name ∷ ss)))
+      → P (StartClosed ss name) (In inner.Close) (Some (Between (Start name ∷ ss)))
   -- behind `(VAR` and names
   pub listing_word : (ss : List Section) (names : List Name) (name : Name)
       → P (Listing ss names) (In (inner.Word name)) (Some (Listing ss (name ∷ names)))
@@ -58,7 +58,7 @@ pub record HoldsOfSteps (P : Front → Piece → Option Front → Type 0) : Type
   pub comment_named_remark : (ss : List Section) (bytes : List ℕ)
       → P (CommentNamed ss) (Remark bytes) (Some (Between (Comment bytes ∷ ss)))
   -- behind `(RULES` and whole rules
-  pub ruled_piece : (r : Ruling) (p : inner.Piece) → P (Ruled r) (In p) (behind_rule r p)
+  pub ruled_piece : (r : Ruling) (p : inner.Piece) → P (AfterRule r) (In p) (behind_rule r p)
   -- behind a rule's source
   pub source_named_open : (r : Ruling) (name : Name) → P (SourceNamed r name) (In inner.Open) (Some (LeftOpened r name))
   -- behind the bracket that opens left arguments
@@ -75,9 +75,9 @@ pub record HoldsOfSteps (P : Front → Piece → Option Front → Type 0) : Type
   pub left_parted_word : (r : Ruling) (name a : Name) (earlier : List Name) (b : Name)
       → P (LeftParted r name a earlier) (In (inner.Word b)) (Some (LeftRead r name b (a ∷ earlier)))
   -- behind the left term
-  pub left_shut_arrow : (r : Ruling) (t : LeftTerm) → P (LeftShut r t) Arrow (Some (behind_left r t None))
+  pub left_shut_arrow : (r : Ruling) (t : LeftTerm) → P (SourceClosed r t) Arrow (Some (behind_left r t None))
   pub left_shut_cost : (r : Ruling) (t : LeftTerm)
-      → P (LeftShut r t) CostOpen (Some (Costing r t expression.beginning))
+      → P (SourceClosed r t) CostOpen (Some (Costing r t expression.beginning))
   -- in a cost
   pub costing_piece : (r : Ruling) (t : LeftTerm) (e : expression.Front) (p : inner.Piece)
       → P (Costing r t e) (In p) (cost_step r t (expression_steps.step e p))
@@ -99,7 +99,7 @@ pub record HoldsOfSteps (P : Front → Piece → Option Front → Type 0) : Type
   pub in_argument_comma : (a : Aimed) (arguments : List Sum) (e : expression.Front)
       → P (Arguing a arguments e) Comma (behind_comma a arguments (expression_steps.finish e))
   -- behind the right term within `Com_1(`
-  pub right_shut_close : (l : Led) (t : RightTerm) → P (RightShut l t) (In inner.Close) (Some (behind_target l (Marked t)))
+  pub right_shut_close : (l : Led) (t : RightTerm) → P (TargetClosed l t) (In inner.Close) (Some (behind_target l (Marked t)))
   -- behind the target
   pub targeted_piece : (h : Headed) (p : inner.Piece) → P (Targeted h) (In p) (behind_rule (ruling_with h NoGuard) p)
   pub targeted_mark : (h : Headed) → P (Targeted h) GuardMark (Some (GuardMarked h))
@@ -115,7 +115,7 @@ pub record HoldsOfSteps (P : Front → Piece → Option Front → Type 0) : Type
   pub square_opened_piece : (h : Headed) (p : inner.Piece)
       → P (SquareOpened h) (In p) (square_guard_step h (guards.step guards.no_atoms p))
   pub square_opened_square_close : (h : Headed)
-      → P (SquareOpened h) SquareClose (Some (Ruled (ruling_with h (InSquares None))))
+      → P (SquareOpened h) SquareClose (Some (AfterRule (ruling_with h (InSquares None))))
   -- in the atoms after `[`
   pub square_guarding_piece : (h : Headed) (g : guards.GuardFront) (p : inner.Piece)
       → P (SquareGuarding h g) (In p) (square_guard_step h (guards.step g p))

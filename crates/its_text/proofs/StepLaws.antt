@@ -1,4 +1,4 @@
--- Each piece that is taken stands behind those of the front before.
+-- Each piece that is read is written last in the new front.
 use Rattle.std.specs.Prelude.{◌≡◌, List, [], ◌∷◌, codes, Bool, true, false, if◌then◌else◌, Option, Some, None, ⊤, refl}
 use Rattle.std.proofs.Common.{sym, ◌∙◌, ap}
 use Rattle.expr_text.specs.model.Programs.{Name}
@@ -16,8 +16,8 @@ use Rattle.its_text.specs.Pieces.{Piece, In, Comma, CostOpen, CostClose, GuardMa
 use Rattle.its_text.specs.Pieces.{open_bracket, close_bracket}
 use Rattle.its_text.specs.Written.{LeftTerm, RightTerm, NoGuard, BehindMark, Section, sums_behind, left_behind}
 use Rattle.its_text.specs.Written.{pieces_behind}
-use Rattle.its_text.specs.Fronts.{Ruling, Led, Wrap, InCom, Alone, Aimed, Headed, Front, GoalNamed, GoalSaid}
-use Rattle.its_text.specs.Fronts.{StartNamed, StartListed, Listing, CommentNamed, Ruled, Costing, Arrowed, ComNamed}
+use Rattle.its_text.specs.Fronts.{Ruling, Led, Wrap, InCom, Alone, Aimed, Headed, Front, GoalNamed, GoalRead}
+use Rattle.its_text.specs.Fronts.{StartNamed, StartListed, Listing, CommentNamed, AfterRule, Costing, Arrowed, ComNamed}
 use Rattle.its_text.specs.Fronts.{RightOpened}
 use Rattle.its_text.specs.Fronts.{Arguing, GuardMarked, WordRead, MarkGuarding, SquareGuarding, ruling_with}
 use Rattle.its_text.specs.Fronts.{ruling_pieces, aimed_pieces, headed_pieces, parted_behind, front_pieces}
@@ -34,7 +34,7 @@ abbrev pub Leads : List Piece → Piece → Option Front → Type 0
 Leads written p None = ⊤
 Leads written p (Some g) = front_pieces g ≡ p ∷ written
 
--- where a name is a word, the word stands there
+-- where a name equals a word, the word is the piece
 when_named : (name wanted : Name) (g : Front) (written : List Piece) → front_pieces g ≡ word wanted ∷ written → Leads written (word name) (when (is_same name wanted) g)
 when_named name wanted g written e = go (is_same name wanted) refl
   where
@@ -56,7 +56,7 @@ section_named_leads ss name =
     named_or name (codes "GOAL") (GoalNamed ss) _ (open_bracket ∷ pieces_behind ss) refl
     (named_or name (codes "STARTTERM") (StartNamed ss) _ (open_bracket ∷ pieces_behind ss) refl
     (named_or name (codes "VAR") (Listing ss []) _ (open_bracket ∷ pieces_behind ss) refl
-    (named_or name (codes "RULES") (Ruled (record { sections = ss; rules = [] })) _ (open_bracket ∷ pieces_behind ss) refl
+    (named_or name (codes "RULES") (AfterRule (record { sections = ss; rules = [] })) _ (open_bracket ∷ pieces_behind ss) refl
     (named_or name (codes "COMMENT") (CommentNamed ss) _ (open_bracket ∷ pieces_behind ss) refl tt))))
 
 behind_arrow_leads : (l : Led) (name : Name) → front_pieces (behind_arrow l name) ≡ word name ∷ front_pieces (Arrowed l)
@@ -114,7 +114,7 @@ arguing_leads : (a : Aimed) (arguments : List Sum) (e : expression.Front) (o : O
 arguing_leads a arguments e (Some more) p w = w
 arguing_leads a arguments e None p w = argued_leads a arguments e (expression_steps.finish e) p (finish_written In e (parted_behind arguments (open_bracket ∷ aimed_pieces a)))
 
--- so do those of a cost
+-- the same for those of a cost
 costing_leads : (r : Ruling) (t : LeftTerm) (e : expression.Front) (o : Option expression.Front) (p : inner.Piece)
     → Adds In (CostOpen ∷ left_behind t (ruling_pieces r)) e p o → Leads (front_pieces (Costing r t e)) (In p) (cost_step r t o)
 costing_leads r t e None p w = tt
@@ -187,7 +187,7 @@ behind_open_leads a inner.Caret = arguing_step_leads a [] expression.beginning i
 behind_open_leads a (inner.Related sign) = arguing_step_leads a [] expression.beginning (inner.Related sign)
 behind_open_leads a (inner.Joining joint) = arguing_step_leads a [] expression.beginning (inner.Joining joint)
 
--- a piece that is taken stands behind what was read
+-- a piece that is read is written behind those read before
 abbrev LeadsOn : Front → Piece → Option Front → Type 0
 LeadsOn f p o = Leads (front_pieces f) p o
 
@@ -197,7 +197,7 @@ leads_each = record {
   nowhere = λ f p. tt;
   between_open = λ ss. refl;
   opened_word = λ ss name. section_named_leads ss name;
-  goal_named_word = λ ss name. when_named name (codes "COMPLEXITY") (GoalSaid ss) _ refl;
+  goal_named_word = λ ss name. when_named name (codes "COMPLEXITY") (GoalRead ss) _ refl;
   goal_said_close = λ ss. refl;
   start_named_open = λ ss. refl;
   start_opened_word = λ ss name. when_named name (codes "FUNCTIONSYMBOLS") (StartListed ss) _ refl;
@@ -238,6 +238,6 @@ leads_each = record {
   square_guarding_square_close = λ h g. square_ended_leads h g (guards.finish g) (guard_finish_written In g (SquareOpen ∷ headed_pieces h));
 }
 
--- each piece that is taken stands behind what was read
+-- each piece that is read is written behind those read before
 pub step_leads : (f : Front) (p : Piece) → Leads (front_pieces f) p (step f p)
 step_leads f p = of_step LeadsOn leads_each f p

@@ -3,7 +3,7 @@
 use Rattle.std.proofs.Common.{List, Option, codes, refl}
 use Rattle.expr_text.specs.text_core.Names.{is_same}
 use Rattle.its_text.specs.Pieces.{Piece, word}
-use Rattle.its_text.specs.Fronts.{Front, GoalNamed, GoalSaid, StartOpened, StartListed}
+use Rattle.its_text.specs.Fronts.{Front, GoalNamed, GoalRead, StartOpened, StartListed}
 use Rattle.its_text.specs.Steps.{step}
 use Rattle.its_text.proofs.SectionTurns.{Turns, when_turns, goal_done, start_done, variables_done, comment_done}
 use Rattle.its_text.proofs.SectionTurns.{named_turns}
@@ -29,7 +29,7 @@ turns_each = record {
   nowhere = λ f p ps. tt;
   between_open = λ ss ps. (λ h. h, λ h. h);
   opened_word = λ ss name ps. named_turns ss name ps;
-  goal_named_word = λ ss name ps. when_turns (is_same name (codes "COMPLEXITY")) (GoalNamed ss) (word name) ps (GoalSaid ss) (λ h. (h, tt), λ h. h.0);
+  goal_named_word = λ ss name ps. when_turns (is_same name (codes "COMPLEXITY")) (GoalNamed ss) (word name) ps (GoalRead ss) (λ h. (h, tt), λ h. h.0);
   goal_said_close = λ ss ps. (λ h. ((goal_done ss).0 h, tt), λ h. (goal_done ss).1 h.0);
   start_named_open = λ ss ps. (λ h. (h, tt), λ h. h.0);
   start_opened_word = λ ss name ps. when_turns (is_same name (codes "FUNCTIONSYMBOLS")) (StartOpened ss) (word name) ps (StartListed ss) (λ h. (h, tt), λ h. h.0);

@@ -27,7 +27,7 @@ use Rattle.expr_text.specs.Differences.{differences, first_of_all}
 use Rattle.its_text.specs.Spelling.{AreArgumentsWithin, IsCostWithin, IsAtomWithin, AreAtomsWithin, IsGuardWithin}
 use Rattle.its_text.proofs.DistinctNames.{all_one_more}
 
--- a name that is among names stands before their end
+-- a name that is in a list has a position below the list's length
 pub position_below : (n : Name) (names : List Name) → is_among n names ≡ true → position_of n names < length names
 position_below n [] h = cc
 position_below n (m ∷ names) h = go (is_same n m) refl h (λ k. position_below n names k)
@@ -64,7 +64,7 @@ pub sums_extends : (names : List Name) (sums : List Sum) → Extends names (with
 sums_extends names [] = extends_self names
 sums_extends names (s ∷ sums) = extended names (with_sums names sums) (with_sum (with_sums names sums) s) (sums_extends names sums) (sum_extends (with_sums names sums) s)
 
--- so do those of a cost
+-- the same for those of a cost
 pub cost_extends : (names : List Name) (cost : Option Sum) → Extends names (with_cost names cost)
 cost_extends names None = extends_self names
 cost_extends names (Some c) = sum_extends names c
@@ -116,7 +116,7 @@ arguments_valid names [] h w = tt
 arguments_valid names (s ∷ sums) h w =
     all_one_more (IsValidTerm (length names)) (sums_terms names sums) (sum_term names s) (arguments_valid names sums h.1 w.1) (record { variables = sum_below names s h.0; expands = w.0.expanded })
 
--- so is a cost
+-- the same for a cost
 pub cost_valid : (names : List Name) (cost : Option Sum) → CostReads names cost → IsCostWithin names cost → IsValidCost (length names) (cost_term names cost)
 cost_valid names None h w = tt
 cost_valid names (Some c) h w = record { variables = sum_below names c h; expands = w.expanded }

@@ -18,7 +18,7 @@ use Rattle.its_text.specs.Spelling.{Spells}
 use Rattle.its_text.specs.Verdicts.{IsFaultless, IsVerdict, IsOnlyVerdict, VerdictsAreRight}
 use Rattle.its_text.proofs.ReaderLaws.{answers_all_texts, one_first_fault}
 
--- sections against which nothing stands are a program, or lack a part
+-- sections without faults are a program, or lack a part
 module _ (bytes : List ℕ) (written : List Section) (stands : IsFaultless bytes written) where
   of_program : (at : ℕ) (o : Option Program) → program_numbered written ≡ o → whole (length bytes) (tokens_of bytes) written (start_of written) (rules_of written) ≡ program_or at o → IsVerdict bytes (program_or at o)
   of_program at None e k = inr (record { written = written; stands = stands; lacks = k })
@@ -45,7 +45,7 @@ judged_right bytes (Refused x) h = inl h
 pub verdict_right : (bytes : List ℕ) → IsVerdict bytes (verdict bytes)
 verdict_right bytes = judged_right bytes (answer programs (length bytes) (tokens_of bytes)) (answers_all_texts.each (length bytes) (tokens_of bytes))
 
--- what sections that are a program by numbers come to
+-- the verdict on sections that are a program by numbers
 pub whole_numbered : (n : ℕ) (ts : List (Token Piece)) (written : List Section) (p : Program) (start : Option Name) (rules : Option (List WrittenRule)) → program_of_parts start rules ≡ Some p → whole n ts written start rules ≡ Stands p
 whole_numbered n ts written p None None e = cc
 whole_numbered n ts written p None (Some rules) e = cc
@@ -59,7 +59,7 @@ spelled_judged bytes p s (Stands written) h =
     let same : s.written ≡ written = h.only s.written s.text in
     inl (whole_numbered (length bytes) (tokens_of bytes) written p (start_of written) (rules_of written) (subst (λ w. program_numbered w ≡ Some p) same s.numbered))
 
--- a right verdict is what the right answer of the reader comes to
+-- a right verdict is the one of the right answer of the reader
 only_judged : (bytes : List ℕ) (b : Answer Program Kind) (a : Answer (List Section) Kind) → Answers programs (length bytes) (tokens_of bytes) a → IsVerdict bytes b → b ≡ verdict_of_answer (length bytes) (tokens_of bytes) a
 only_judged bytes (Stands p) (Stands written) h t =
     sym (whole_numbered (length bytes) (tokens_of bytes) written p (start_of written) (rules_of written) (subst (λ w. program_numbered w ≡ Some p) (h.only t.written t.stands.text) t.numbered))

@@ -2,8 +2,8 @@
 use Rattle.std.specs.Prelude.{refl}
 use Rattle.its_text.specs.WorkedLimits.{LimitsAreWorkedOut}
 
-pub limits_are_told : LimitsAreWorkedOut
-limits_are_told = record {
+pub limits_are_worked : LimitsAreWorkedOut
+limits_are_worked = record {
   left_full = tt;
   left_passed = refl;
   right_full = tt;

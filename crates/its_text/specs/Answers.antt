@@ -1,4 +1,4 @@
--- What reading a text comes to: its program, or its first fault.
+-- The answer to a text: its program, or its first fault.
 use Rattle.std.specs.Prelude.{ℕ, zero, suc, ◌+◌, List, [], ◌∷◌, length, Option, Some, None}
 use Rattle.expr_text.specs.model.Programs.{Name, Program}
 use Rattle.expr_text.specs.text_core.Tokens.{Token}
@@ -37,8 +37,8 @@ abbrev pub program_or : ℕ → Option Program → Answer Program Kind
 program_or at None = Refused (record { kind = StartUnknown; at = at })
 program_or at (Some p) = Stands p
 
--- a text of n bytes that nothing else stands against: a section is missing, or the start symbol is the source of no
--- rule
+-- the verdict on a text of n bytes that has no other fault: a section is missing, or the start symbol is the source of
+-- no rule, or it is a program
 abbrev pub whole : ℕ → List (Token Piece) → List Section → Option Name → Option (List WrittenRule) → Answer Program Kind
 whole n ts sections (Some start) (Some rules) =
     program_or (at_maybe ts (start_index sections)) (program_from start rules (first_leaving start rules))
@@ -48,6 +48,6 @@ abbrev pub verdict_of_answer : ℕ → List (Token Piece) → Answer (List Secti
 verdict_of_answer n ts (Refused x) = Refused x
 verdict_of_answer n ts (Stands sections) = whole n ts sections (start_of sections) (rules_of sections)
 
--- what reading bytes comes to
+-- the verdict on bytes
 abbrev pub verdict : List ℕ → Answer Program Kind
 verdict bytes = verdict_of_answer (length bytes) (tokens_of bytes) (answer programs (length bytes) (tokens_of bytes))

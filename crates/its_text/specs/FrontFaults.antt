@@ -1,4 +1,4 @@
--- The faults that a front of a program's text shows against the tokens before it and behind it.
+-- The faults that a front of a program's text shows, at the last token and at the next ones.
 use Rattle.std.specs.Prelude.{ℕ, ◌+◌, ◌-◌, Bool, true, false, not, ◌&&◌, ◌||◌, if◌then◌else◌, nat_lt, nat_le, ◌==◌}
 use Rattle.std.specs.Prelude.{List}
 use Rattle.std.specs.Prelude.{[], ◌∷◌, ◌++◌, length, codes, Option, Some, None}
@@ -25,8 +25,8 @@ use Rattle.its_text.specs.Pieces.{Piece, In, Disjoining, Strange}
 use Rattle.its_text.specs.Written.{Target, Marked, Bare, NoGuard, WrittenRule, Section, Goal, Start, Variables, Rules}
 use Rattle.its_text.specs.Written.{Comment}
 use Rattle.its_text.specs.Numbering.{is_com, arity_of, with_right, left_names, atoms_of_cost}
-use Rattle.its_text.specs.Fronts.{Led, rule_with, Front, Between, Ruled, LeftOpened, LeftParted, LeftShut, Costing}
-use Rattle.its_text.specs.Fronts.{Arrowed, ComOpened, RightOpened, Arguing, RightShut, Targeted, GuardMarked, WordRead}
+use Rattle.its_text.specs.Fronts.{Led, rule_with, Front, Between, AfterRule, LeftOpened, LeftParted, SourceClosed, Costing}
+use Rattle.its_text.specs.Fronts.{Arrowed, ComOpened, RightOpened, Arguing, TargetClosed, Targeted, GuardMarked, WordRead}
 use Rattle.its_text.specs.Fronts.{MarkGuarding, SquareOpened, SquareGuarding}
 use Rattle.its_text.specs.Steps.{guard_named}
 use Rattle.its_text.specs.FrontNames.{symbols_led, symbols_behind, names_with, headed_names}
@@ -64,7 +64,7 @@ abbrev pub long_name : Option Piece → Bool
 long_name (Some (In (inner.Word name))) = nat_lt name_limit (length name)
 long_name _ = false
 
--- the section that an opening bracket and a keyword begin is there already
+-- whether the section that an opening bracket and a keyword begin occurred before
 abbrev pub is_goal : Section → Bool
 is_goal Goal = true
 is_goal (Start name) = false
@@ -129,7 +129,7 @@ ends_expression e (Some (In p)) = not (goes_on_with e p)
 ends_expression e _ = true
 
 abbrev pub too_many_rules : Front → Option Piece → Option Piece → Bool
-too_many_rules (Ruled r) next behind = is_word next && are_full r.rules
+too_many_rules (AfterRule r) next behind = is_word next && are_full r.rules
 too_many_rules (Targeted h) next behind = is_word next && are_full (rule_with h NoGuard ∷ h.led.ruling.rules)
 too_many_rules (GuardMarked h) next behind =
     is_word next && is_open behind && are_full (rule_with h NoGuard ∷ h.led.ruling.rules)
@@ -183,8 +183,8 @@ bare_differs l (Marked t) = false
 bare_differs l (Bare t) = other_arity (with_right (symbols_behind l) t) t.name (length t.arguments)
 
 abbrev pub has_other_arity : Front → Bool
-has_other_arity (LeftShut r t) = other_arity (symbols_led r t) t.name (length t.arguments)
-has_other_arity (RightShut l t) = other_arity (with_right (symbols_behind l) t) t.name (length t.arguments)
+has_other_arity (SourceClosed r t) = other_arity (symbols_led r t) t.name (length t.arguments)
+has_other_arity (TargetClosed l t) = other_arity (with_right (symbols_behind l) t) t.name (length t.arguments)
 has_other_arity (Targeted h) = bare_differs h.led h.target
 has_other_arity _ = false
 
@@ -260,7 +260,7 @@ passes_arguments (Arguing a arguments e) next =
     (token_count e == 0) && nat_le place_limit (length arguments) && begins next
 passes_arguments _ next = false
 
--- an atom begins with it behind as many as the limit, with so many others that the rule's cost counts as
+-- an atom begins with it behind as many as the limit, with this many others that the rule's cost counts as
 abbrev pub is_full : ℕ → GuardFront → Bool
 is_full others (LeftSide NoAtoms e) = false
 is_full others (LeftSide (JointAfter atoms joint) e) =
@@ -272,7 +272,7 @@ another_atom (MarkGuarding h g) next = is_full (atoms_of_cost h.led.cost) g && b
 another_atom (SquareGuarding h g) next = is_full (atoms_of_cost h.led.cost) g && begins next
 another_atom _ next = false
 
--- the refusal for what stands in the way of expanding an expression
+-- the refusal for the fault that prevents the expansion of an expression
 abbrev pub expansion_kind : polynomials.Fault → Kind
 expansion_kind polynomials.LargeCoefficient = NumberTooLarge
 expansion_kind polynomials.ManyTerms = Limit TooManyTerms
@@ -314,12 +314,12 @@ ended_faults at (MarkGuarding h g) next = atom_faults at (headed_names h) g next
 ended_faults at (SquareGuarding h g) next = atom_faults at (headed_names h) g next
 ended_faults at _ next = []
 
--- between sections: one comes again that is there already
+-- between sections: a section begins that occurred before
 abbrev pub repeats_at : Front → Option Piece → Option Piece → Bool
 repeats_at (Between ss) next behind = repeats ss next behind
 repeats_at _ next behind = false
 
--- what a front shows at the next token, with the one behind it
+-- the faults that a front shows at the next token, given the one behind it
 abbrev pub next_faults : ℕ → Front → Option Piece → Option Piece → FaultList
 next_faults at f next behind =
     fault_if (targets_again f next behind) Syntax at

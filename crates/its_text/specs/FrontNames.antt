@@ -1,4 +1,4 @@
--- What is known behind a front: the symbols and rules so far, and the variables of the rule that is being read.
+-- What is known at a front: the symbols and rules so far, and the variables of the rule that is being read.
 use Rattle.std.specs.Prelude.{List}
 use Rattle.expr_text.specs.model.Programs.{Name, Symbol}
 use Rattle.expr_text.specs.Trees.{Sum}

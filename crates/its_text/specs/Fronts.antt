@@ -1,4 +1,4 @@
--- The part of a program's text that has been read, as the tree so far.
+-- The state of parsing a program's text, as the tree so far.
 use Rattle.std.specs.Prelude.{List, [], ◌∷◌, codes, Option}
 use Rattle.expr_text.specs.model.Programs.{Name}
 use Rattle.expr_text.specs.Trees.{Sum}
@@ -20,7 +20,7 @@ pub record Led : Type 0 where
   pub left : LeftTerm
   pub cost : Option Sum
 
--- where a right term stands: within `Com_1(` and `)`, or alone
+-- the form of a rule's target: a right term inside `Com_1(` and `)`, or alone
 pub data Wrap : Type 0 where
   InCom : Wrap
   Alone : Wrap
@@ -44,25 +44,25 @@ pub data Front : Type 0 where
   Opened : List Section → Front
   -- `(GOAL`, `(GOAL COMPLEXITY`
   GoalNamed : List Section → Front
-  GoalSaid : List Section → Front
+  GoalRead : List Section → Front
   -- `(STARTTERM`, then `(`, then `FUNCTIONSYMBOLS`, then the symbol, then `)`
   StartNamed : List Section → Front
   StartOpened : List Section → Front
   StartListed : List Section → Front
-  StartSaid : List Section → Name → Front
-  StartShut : List Section → Name → Front
+  StartRead : List Section → Name → Front
+  StartClosed : List Section → Name → Front
   -- `(VAR` and names
   Listing : List Section → List Name → Front
   -- `(COMMENT`
   CommentNamed : List Section → Front
   -- `(RULES` and whole rules
-  Ruled : Ruling → Front
+  AfterRule : Ruling → Front
   -- a rule's source, its `(`, a left argument behind earlier ones, the comma behind it, the closing bracket
   SourceNamed : Ruling → Name → Front
   LeftOpened : Ruling → Name → Front
   LeftRead : Ruling → Name → Name → List Name → Front
   LeftParted : Ruling → Name → Name → List Name → Front
-  LeftShut : Ruling → LeftTerm → Front
+  SourceClosed : Ruling → LeftTerm → Front
   -- `-{` and some of a cost
   Costing : Ruling → LeftTerm → ExpressionFront → Front
   -- the arrow, then `Com_1`, then its `(`
@@ -73,7 +73,7 @@ pub data Front : Type 0 where
   TargetNamed : Aimed → Front
   RightOpened : Aimed → Front
   Arguing : Aimed → List Sum → ExpressionFront → Front
-  RightShut : Led → RightTerm → Front
+  TargetClosed : Led → RightTerm → Front
   -- the target, `:|:`, a name behind it that begins a rule or an atom, some of the atoms behind `:|:`
   Targeted : Headed → Front
   GuardMarked : Headed → Front
@@ -130,26 +130,26 @@ abbrev pub front_pieces : Front → List Piece
 front_pieces (Between ss) = pieces_behind ss
 front_pieces (Opened ss) = open_bracket ∷ pieces_behind ss
 front_pieces (GoalNamed ss) = word (codes "GOAL") ∷ open_bracket ∷ pieces_behind ss
-front_pieces (GoalSaid ss) = word (codes "COMPLEXITY") ∷ word (codes "GOAL") ∷ open_bracket ∷ pieces_behind ss
+front_pieces (GoalRead ss) = word (codes "COMPLEXITY") ∷ word (codes "GOAL") ∷ open_bracket ∷ pieces_behind ss
 front_pieces (StartNamed ss) = word (codes "STARTTERM") ∷ open_bracket ∷ pieces_behind ss
 front_pieces (StartOpened ss) = open_bracket ∷ word (codes "STARTTERM") ∷ open_bracket ∷ pieces_behind ss
 front_pieces (StartListed ss) =
     word (codes "FUNCTIONSYMBOLS") ∷ open_bracket ∷ word (codes "STARTTERM") ∷ open_bracket ∷ pieces_behind ss
-front_pieces (StartSaid ss name) =
+front_pieces (StartRead ss name) =
     word name ∷ word (codes "FUNCTIONSYMBOLS") ∷ open_bracket ∷ word (codes "STARTTERM") ∷ open_bracket
     ∷ pieces_behind ss
-front_pieces (StartShut ss name) =
+front_pieces (StartClosed ss name) =
     close_bracket ∷ word name ∷ word (codes "FUNCTIONSYMBOLS") ∷ open_bracket ∷ word (codes "STARTTERM") ∷ open_bracket
     ∷ pieces_behind ss
 front_pieces (Listing ss names) = words_behind names (word (codes "VAR") ∷ open_bracket ∷ pieces_behind ss)
 front_pieces (CommentNamed ss) = word (codes "COMMENT") ∷ open_bracket ∷ pieces_behind ss
-front_pieces (Ruled r) = ruling_pieces r
+front_pieces (AfterRule r) = ruling_pieces r
 front_pieces (SourceNamed r name) = word name ∷ ruling_pieces r
 front_pieces (LeftOpened r name) = open_bracket ∷ word name ∷ ruling_pieces r
 front_pieces (LeftRead r name a earlier) = names_behind (a ∷ earlier) (open_bracket ∷ word name ∷ ruling_pieces r)
 front_pieces (LeftParted r name a earlier) =
     Comma ∷ names_behind (a ∷ earlier) (open_bracket ∷ word name ∷ ruling_pieces r)
-front_pieces (LeftShut r t) = left_behind t (ruling_pieces r)
+front_pieces (SourceClosed r t) = left_behind t (ruling_pieces r)
 front_pieces (Costing r t e) = expression_behind In e (CostOpen ∷ left_behind t (ruling_pieces r))
 front_pieces (Arrowed l) = led_pieces l
 front_pieces (ComNamed l) = word (codes "Com_1") ∷ led_pieces l
@@ -157,7 +157,7 @@ front_pieces (ComOpened l) = com_pieces l
 front_pieces (TargetNamed a) = aimed_pieces a
 front_pieces (RightOpened a) = open_bracket ∷ aimed_pieces a
 front_pieces (Arguing a arguments e) = expression_behind In e (parted_behind arguments (open_bracket ∷ aimed_pieces a))
-front_pieces (RightShut l t) = right_behind t (com_pieces l)
+front_pieces (TargetClosed l t) = right_behind t (com_pieces l)
 front_pieces (Targeted h) = headed_pieces h
 front_pieces (GuardMarked h) = GuardMark ∷ headed_pieces h
 front_pieces (WordRead h name) = word name ∷ GuardMark ∷ headed_pieces h

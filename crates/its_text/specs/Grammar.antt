@@ -1,4 +1,4 @@
--- The reader of program texts, as trees with the pieces that they are written as.
+-- The reader of program texts: trees with the pieces that they are written as.
 use Rattle.std.specs.Prelude.{◌≡◌, codes, List, [], ◌∷◌, IsFalse, ⊤}
 use Rattle.expr_text.specs.text_core.Names.{is_same}
 use Rattle.expr_text.specs.text_core.Readers.{Reader, onto}

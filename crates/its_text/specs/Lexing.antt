@@ -1,5 +1,5 @@
--- The tokens of a program's text: the longest piece is taken, white space stands between pieces, and where a section
--- begins a comment is passed over up to the bracket that closes it.
+-- The tokens of a program's text: the lexer takes the longest piece; white space may separate pieces; and where a
+-- section begins with `COMMENT`, everything up to the matching bracket is one piece.
 use Rattle.std.specs.Prelude.{ℕ, zero, suc, ◌+◌, if◌then◌else◌, ◌==◌, ◌&&◌, nat_lt, List, [], ◌∷◌, length, codes}
 use Rattle.std.specs.Prelude.{Option, Some, None}
 use Rattle.std.specs.Char.{is_ascii_digit}
@@ -12,7 +12,7 @@ use Rattle.expr_text.specs.Pieces as inner
 use Rattle.its_text.specs.Pieces.{Piece, In, Comma, Arrow, CostOpen, CostClose, GuardMark, SquareOpen, SquareClose}
 use Rattle.its_text.specs.Pieces.{Disjoining, Remark, Wrong, Strange, word, digits, open_bracket, close_bracket}
 
--- a piece of so many bytes
+-- a piece of this many bytes
 abbrev pub lexeme : Piece → ℕ → Lexeme (Option Piece)
 lexeme p len = record { piece = Some p; len = len }
 
@@ -80,13 +80,13 @@ pub data Bend : Type 0 where
 abbrev pub bend_of : ℕ → Bend
 bend_of b = if b == 40 then Opening else if b == 41 then Closing else Neither
 
--- one byte more, where there are so many
+-- one more byte, if there are this many
 abbrev pub one_more : Option ℕ → Option ℕ
 one_more None = None
 one_more (Some n) = Some (suc n)
 
--- how many bytes there are up to the closing bracket, from a byte on that does something, with so many brackets open in
--- the comment
+-- how many bytes there are up to the closing bracket, from a byte on that does something, with this many brackets open
+-- in the comment
 abbrev pub closing_by : Bend → (ℕ → Option ℕ) → ℕ → Option ℕ
 closing_by Opening behind depth = one_more (behind (suc depth))
 closing_by Closing behind zero = Some 1
@@ -98,8 +98,8 @@ abbrev pub closing_at : List ℕ → ℕ → Option ℕ
 closing_at [] depth = None
 closing_at (b ∷ bytes) depth = closing_by (bend_of b) (closing_at bytes) depth
 
--- where the lexer stands: it is between sections, behind the bracket that opens one, within one with so many
--- brackets open in it, or behind the keyword of a comment
+-- the mode of the lexer: between sections, behind the bracket that opens one, inside one with this many open brackets,
+-- or behind the keyword of a comment
 pub data Mode : Type 0 where
   Outside : Mode
   AtKeyword : Mode
@@ -125,7 +125,7 @@ mode_behind (Within (suc depth)) (Some (In inner.Close)) = Within depth
 mode_behind (Within depth) (Some p) = Within depth
 mode_behind InComment (Some p) = Outside
 
--- so many elements from the front on
+-- this many elements from the front on
 abbrev pub take_front : ℕ → List ℕ → List ℕ
 take_front zero bytes = []
 take_front (suc n) [] = []

@@ -1,4 +1,4 @@
--- What a written program stands for: numbers in place of names.
+-- The program of a written one: numbers in place of names.
 use Rattle.std.specs.Prelude.{ℕ, Bool, nat_eq, List, [], ◌∷◌, ◌++◌, map, reverse, length, if◌then◌else◌, ◌&&◌, nat_lt}
 use Rattle.std.specs.Prelude.{codes, drop, ◌-◌, Option, Some, None}
 use Rattle.std.specs.List.{list_all, starts_with}
@@ -84,7 +84,7 @@ abbrev pub arrow_names : LeftTerm → Option Sum → List Name
 arrow_names t cost = with_cost (left_names t) cost
 
 -- the variables of a rule: the left ones, then the free ones in order of first occurrence in its text, where the cost
--- stands before the target
+-- precedes the target
 abbrev pub rule_names : WrittenRule → List Name
 rule_names r = with_guard (with_sums (arrow_names r.left r.cost) (term_in r.target).arguments) r.guard
 

@@ -3,7 +3,7 @@ use Rattle.std.specs.Prelude.{ℕ, List}
 use Rattle.expr_text.specs.model.Programs.{Name}
 use Rattle.expr_text.specs.Pieces as inner
 
--- a piece: one of an expression or a guard, a mark of its own (`-{` and `}>` stand round a cost), what a comment says
+-- a piece: one of an expression or a guard, a sign of its own (`-{` and `}>` enclose a cost), the contents of a comment
 -- with its closing bracket, bytes that begin no piece, or a byte over 127
 pub data Piece : Type 0 where
   In : inner.Piece → Piece

@@ -1,4 +1,4 @@
--- What a text spells, and the limits on texts.
+-- When a text spells a program, and the limits on texts.
 use Rattle.std.specs.Prelude.{◌≡◌, ℕ, suc, ◌+◌, ◌≤◌, Bool, if◌then◌else◌, List, [], ◌∷◌, length, Option, Some, None}
 use Rattle.std.specs.Prelude.{IsFalse}
 use Rattle.std.specs.Prelude.{⊤}
@@ -38,7 +38,8 @@ pub record StandOnce (sections : List Section) : Type 0 where
 abbrev pub HasArity : List Symbol → Name → ℕ → Type 0
 HasArity symbols name arity = arity_of symbols name ≡ arity
 
--- no left argument stands twice, the target's symbol isn't `Com_` and digits, and both symbols have their arities
+-- no left argument is repeated, the target's symbol isn't `Com_` and digits, and both terms have as many arguments as
+-- their symbols have places
 pub record IsRule (symbols : List Symbol) (r : WrittenRule) : Type 0 where
   pub left : AreDistinct r.left.arguments
   pub target : IsFalse (is_com (term_in r.target).name)
@@ -55,8 +56,8 @@ abbrev pub HaveRules : Option (List WrittenRule) → Type 0
 HaveRules None = ⊤
 HaveRules (Some rules) = AreRules (symbols_of rules) rules
 
--- the bytes spell the program: they are the text of sections that stand as they are to, and by numbers the program; the
--- start symbol is then the source of a rule
+-- the bytes spell the program: they are the text of sections in a permitted order and number, which are, by numbers,
+-- the program; the start symbol is then the source of a rule
 pub record Spells (bytes : List ℕ) (p : Program) : Type 0 where
   pub written : List Section
   pub text : Writes written (pieces (tokens_of bytes))

@@ -1,4 +1,4 @@
--- Where each piece of a program's text leads.
+-- The steps of parsing a program's text.
 use Rattle.std.specs.Prelude.{List, [], ◌∷◌, codes, if◌then◌else◌, Option, Some, None}
 use Rattle.expr_text.specs.model.Programs.{Name}
 use Rattle.expr_text.specs.text_core.Names.{is_same}
@@ -14,9 +14,9 @@ use Rattle.its_text.specs.Pieces.{Remark}
 use Rattle.its_text.specs.Written.{LeftTerm, RightTerm, Target, Marked, Bare, NoGuard, BehindMark, InSquares, Section}
 use Rattle.its_text.specs.Written.{Goal, Start, Variables, Comment}
 use Rattle.its_text.specs.Fronts.{Ruling, Led, Wrap, InCom, Alone, Aimed, Headed, Front, Between, Opened, GoalNamed}
-use Rattle.its_text.specs.Fronts.{GoalSaid, StartNamed, StartOpened, StartListed, StartSaid, StartShut, Listing}
-use Rattle.its_text.specs.Fronts.{CommentNamed, Ruled, SourceNamed, LeftOpened, LeftRead, LeftParted, LeftShut, Costing}
-use Rattle.its_text.specs.Fronts.{Arrowed, ComNamed, ComOpened, TargetNamed, RightOpened, Arguing, RightShut, Targeted}
+use Rattle.its_text.specs.Fronts.{GoalRead, StartNamed, StartOpened, StartListed, StartRead, StartClosed, Listing}
+use Rattle.its_text.specs.Fronts.{CommentNamed, AfterRule, SourceNamed, LeftOpened, LeftRead, LeftParted, SourceClosed, Costing}
+use Rattle.its_text.specs.Fronts.{Arrowed, ComNamed, ComOpened, TargetNamed, RightOpened, Arguing, TargetClosed, Targeted}
 use Rattle.its_text.specs.Fronts.{GuardMarked, WordRead, MarkGuarding, SquareOpened, SquareGuarding, ruling_with}
 use Rattle.its_text.specs.Fronts.{section_of}
 
@@ -26,13 +26,13 @@ section_named ss name =
     if is_same name (codes "GOAL") then Some (GoalNamed ss)
     else if is_same name (codes "STARTTERM") then Some (StartNamed ss)
     else if is_same name (codes "VAR") then Some (Listing ss [])
-    else if is_same name (codes "RULES") then Some (Ruled (record { sections = ss; rules = [] }))
+    else if is_same name (codes "RULES") then Some (AfterRule (record { sections = ss; rules = [] }))
     else if is_same name (codes "COMMENT") then Some (CommentNamed ss)
     else None
 
 -- the left term ends
 abbrev pub left_shut : Ruling → Name → List Name → Front
-left_shut r name arguments = LeftShut r (record { name = name; arguments = arguments })
+left_shut r name arguments = SourceClosed r (record { name = name; arguments = arguments })
 
 -- the arrow is read behind a left term, with a cost or none
 abbrev pub behind_left : Ruling → LeftTerm → Option Sum → Front
@@ -48,7 +48,7 @@ abbrev pub cost_ended : Ruling → LeftTerm → Option Sum → Option Front
 cost_ended r t None = None
 cost_ended r t (Some c) = Some (behind_left r t (Some c))
 
--- a right term's name, by where it stands
+-- the front behind a right term's name, inside `Com_1(..)` or alone
 abbrev pub behind_target_name : Led → Wrap → Name → Front
 behind_target_name l wrap name = TargetNamed (record { led = l; wrap = wrap; name = name })
 
@@ -60,9 +60,9 @@ behind_arrow l name = if is_same name (codes "Com_1") then ComNamed l else behin
 abbrev pub behind_target : Led → Target → Front
 behind_target l target = Targeted (record { led = l; target = target })
 
--- the right term ends, by where it stands
+-- the front behind the end of a right term, inside `Com_1(..)` or alone
 abbrev pub shut_by : Led → Wrap → RightTerm → Front
-shut_by l InCom t = RightShut l t
+shut_by l InCom t = TargetClosed l t
 shut_by l Alone t = behind_target l (Bare t)
 
 abbrev pub right_shut : Aimed → List Sum → Front
@@ -106,7 +106,7 @@ square_guard_step h (Some g) = Some (SquareGuarding h g)
 -- atoms in square brackets end, where they can
 abbrev pub square_ended : Headed → Option Atoms → Option Front
 square_ended h None = None
-square_ended h (Some atoms) = Some (Ruled (ruling_with h (InSquares (Some atoms))))
+square_ended h (Some atoms) = Some (AfterRule (ruling_with h (InSquares (Some atoms))))
 
 -- a guard that begins with a name
 abbrev pub guard_named : Name → guards.GuardFront
@@ -132,25 +132,25 @@ behind_open a p = argument_step a [] expression.beginning (expression_steps.step
 abbrev pub step : Front → Piece → Option Front
 step (Between ss) (In inner.Open) = Some (Opened ss)
 step (Opened ss) (In (inner.Word name)) = section_named ss name
-step (GoalNamed ss) (In (inner.Word name)) = when (is_same name (codes "COMPLEXITY")) (GoalSaid ss)
-step (GoalSaid ss) (In inner.Close) = Some (Between (Goal ∷ ss))
+step (GoalNamed ss) (In (inner.Word name)) = when (is_same name (codes "COMPLEXITY")) (GoalRead ss)
+step (GoalRead ss) (In inner.Close) = Some (Between (Goal ∷ ss))
 step (StartNamed ss) (In inner.Open) = Some (StartOpened ss)
 step (StartOpened ss) (In (inner.Word name)) = when (is_same name (codes "FUNCTIONSYMBOLS")) (StartListed ss)
-step (StartListed ss) (In (inner.Word name)) = Some (StartSaid ss name)
-step (StartSaid ss name) (In inner.Close) = Some (StartShut ss name)
-step (StartShut ss name) (In inner.Close) = Some (Between (Start name ∷ ss))
+step (StartListed ss) (In (inner.Word name)) = Some (StartRead ss name)
+step (StartRead ss name) (In inner.Close) = Some (StartClosed ss name)
+step (StartClosed ss name) (In inner.Close) = Some (Between (Start name ∷ ss))
 step (Listing ss names) (In (inner.Word name)) = Some (Listing ss (name ∷ names))
 step (Listing ss names) (In inner.Close) = Some (Between (Variables names ∷ ss))
 step (CommentNamed ss) (Remark bytes) = Some (Between (Comment bytes ∷ ss))
-step (Ruled r) (In p) = behind_rule r p
+step (AfterRule r) (In p) = behind_rule r p
 step (SourceNamed r name) (In inner.Open) = Some (LeftOpened r name)
 step (LeftOpened r name) (In (inner.Word a)) = Some (LeftRead r name a [])
 step (LeftOpened r name) (In inner.Close) = Some (left_shut r name [])
 step (LeftRead r name a earlier) Comma = Some (LeftParted r name a earlier)
 step (LeftRead r name a earlier) (In inner.Close) = Some (left_shut r name (a ∷ earlier))
 step (LeftParted r name a earlier) (In (inner.Word b)) = Some (LeftRead r name b (a ∷ earlier))
-step (LeftShut r t) Arrow = Some (behind_left r t None)
-step (LeftShut r t) CostOpen = Some (Costing r t expression.beginning)
+step (SourceClosed r t) Arrow = Some (behind_left r t None)
+step (SourceClosed r t) CostOpen = Some (Costing r t expression.beginning)
 step (Costing r t e) (In p) = cost_step r t (expression_steps.step e p)
 step (Costing r t e) CostClose = cost_ended r t (expression_steps.finish e)
 step (Arrowed l) (In (inner.Word name)) = Some (behind_arrow l name)
@@ -160,7 +160,7 @@ step (TargetNamed a) (In inner.Open) = Some (RightOpened a)
 step (RightOpened a) (In p) = behind_open a p
 step (Arguing a arguments e) (In p) = argument_step a arguments e (expression_steps.step e p) p
 step (Arguing a arguments e) Comma = behind_comma a arguments (expression_steps.finish e)
-step (RightShut l t) (In inner.Close) = Some (behind_target l (Marked t))
+step (TargetClosed l t) (In inner.Close) = Some (behind_target l (Marked t))
 step (Targeted h) (In p) = behind_rule (ruling_with h NoGuard) p
 step (Targeted h) GuardMark = Some (GuardMarked h)
 step (Targeted h) SquareOpen = Some (SquareOpened h)
@@ -168,7 +168,7 @@ step (GuardMarked h) (In p) = behind_mark h p
 step (WordRead h name) (In p) = behind_word h name p
 step (MarkGuarding h g) (In p) = mark_guard_step h g (guards.step g p) p
 step (SquareOpened h) (In p) = square_guard_step h (guards.step guards.no_atoms p)
-step (SquareOpened h) SquareClose = Some (Ruled (ruling_with h (InSquares None)))
+step (SquareOpened h) SquareClose = Some (AfterRule (ruling_with h (InSquares None)))
 step (SquareGuarding h g) (In p) = square_guard_step h (guards.step g p)
 step (SquareGuarding h g) SquareClose = square_ended h (guards.finish g)
 step f p = None

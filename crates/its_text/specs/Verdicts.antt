@@ -1,4 +1,4 @@
--- What the verdict on a text says.
+-- The meaning of the verdict on a text.
 use Rattle.std.specs.Prelude.{◌≡◌, ◌↔◌, ℕ, ◌⊎◌, List, length, Some}
 use Rattle.expr_text.specs.model.Programs.{Program}
 use Rattle.expr_text.specs.text_core.Tokens.{pieces}
@@ -13,18 +13,19 @@ use Rattle.its_text.specs.Grammar.{Writes, programs}
 use Rattle.its_text.specs.Answers.{whole, verdict}
 use Rattle.its_text.specs.Spelling.{Spells, SpellsWithin}
 
--- the bytes are the text of sections, and nothing stands against it
+-- the bytes are the text of these sections, and have no fault
 pub record IsFaultless (bytes : List ℕ) (written : List Section) : Type 0 where
   pub text : Writes written (pieces (tokens_of bytes))
   pub faultless : (x : Fault Kind) → ¬ FaultAt programs (length bytes) (tokens_of bytes) x
 
--- so it is with sections that are this program by numbers
+-- the bytes are, without a fault, the text of sections that are this program by numbers
 pub record IsTextOf (bytes : List ℕ) (p : Program) : Type 0 where
   pub written : List Section
   pub stands : IsFaultless bytes written
   pub numbered : program_numbered written ≡ Some p
 
--- so it is with sections that lack one that has to be there, or a rule that leaves the start symbol
+-- the bytes are, without another fault, the text of sections that lack a required one, or have no rule whose source is
+-- the start symbol
 pub record LacksPart (bytes : List ℕ) (x : Fault Kind) : Type 0 where
   pub written : List Section
   pub stands : IsFaultless bytes written

@@ -1,4 +1,4 @@
--- What was worked out by hand of the texts of programs.
+-- Worked values of the texts of programs.
 use Rattle.std.specs.Prelude.{◌≡◌, ℕ, ◌++◌, List, [], ◌∷◌, length, codes, pos, Option, Some, None}
 use Rattle.expr_text.specs.model.Terms.{Term, Literal, Variable, Negation, Addition, Subtraction, Multiplication}
 use Rattle.expr_text.specs.model.Terms.{Exponentiation}
@@ -19,7 +19,7 @@ RefusedAt bytes at kind = verdict bytes ≡ Refused (record { kind = kind; at = 
 abbrev pub with_rules : List ℕ → List ℕ
 with_rules rules = codes "(STARTTERM (FUNCTIONSYMBOLS l0))(RULES " ++ rules ++ codes ")"
 
--- what stands first against texts, and where
+-- the first faults of texts, and their positions
 pub record FirstFaults : Type 0 where
   -- two targets
   pub many_targets : RefusedAt (with_rules (codes "l0(A) -> Com_2(l1(A),l2(A))")) 48 ManyTargets
@@ -41,7 +41,7 @@ pub record FirstFaults : Type 0 where
   -- a literal that is too large directly behind `:|:`, before a bracket that can't follow
   pub literal_before_bracket : RefusedAt (with_rules
       (codes "l0(A) -> Com_1(l1(A)) :|: 9223372036854775808 (")) 65 NumberTooLarge
-  -- an argument has ended where the next token can't follow, and stands before it
+  -- an argument ends where the next token can't follow, and its fault comes before that token
   pub ended_argument : RefusedAt (with_rules (codes "l0(A) -> Com_1(l1(A^9 l2")) 59 (Limit HighDegree)
   -- one that goes on hasn't
   pub open_argument : RefusedAt (with_rules (codes "l0(A) -> Com_1(l1(A^9+))")) 61 Syntax
@@ -78,7 +78,7 @@ pub record FirstFaults : Type 0 where
   -- a cost is one expression: not two, nor none
   pub two_costs : RefusedAt (with_rules (codes "l0(A) -{A,1}> Com_1(l1(A))")) 48 Syntax
   pub no_cost : RefusedAt (with_rules (codes "l0(A) -{}> Com_1(l1(A))")) 47 Syntax
-  -- nor a comparison; `}>` doesn't stand before the bracket that closes
+  -- nor a comparison; `}>` doesn't come before the bracket that closes
   pub compared_cost : RefusedAt (with_rules (codes "l0(A) -{A>1}> Com_1(l1(A))")) 48 Syntax
   pub open_cost : RefusedAt (with_rules (codes "l0(A) -{(A}> Com_1(l1(A))")) 49 Syntax
   pub bars_in_cost : RefusedAt (with_rules (codes "l0(A) -{A||1}> Com_1(l1(A))")) 48 Disjunction
@@ -90,11 +90,11 @@ pub record FirstFaults : Type 0 where
   pub going_cost : RefusedAt (with_rules (codes "l0(A) -{A^9+}> Com_1(l1(A))")) 51 Syntax
   -- a literal that is too large in a cost
   pub literal_in_cost : RefusedAt (with_rules (codes "l0(A) -{9223372036854775808}> Com_1(l1(A))")) 47 NumberTooLarge
-  -- behind a cost stands a target, as behind `->`
+  -- a cost is followed by a target, as `->` is
   pub two_arrows : RefusedAt (with_rules (codes "l0(A) -{A}> -> l1(A)")) 51 Syntax
   pub two_targets_at_cost : RefusedAt (with_rules (codes "l0(A) -{A}> Com_2(l1(A),l2(A))")) 51 ManyTargets
   pub arity_at_cost : RefusedAt (with_rules (codes "l0(A) -{A}> l0(A,A)")) 57 ArityDiffers
-  -- `-{` is one token, which stands between a rule's terms alone; so is `}>`
+  -- `-{` is one token, which occurs only between the terms of a rule; so is `}>`
   pub brace : RefusedAt (with_rules (codes "l0(A) -> Com_1(l1(A -{")) 59 Syntax
   pub cost_behind_arrow : RefusedAt (with_rules (codes "l0(A) -> -{A}> l1(A)")) 48 Syntax
   pub cost_unopened : RefusedAt (with_rules (codes "l0(A) }> Com_1(l1(A))")) 45 Syntax
@@ -194,7 +194,7 @@ pub record Programs : Type 0 where
   pub costing_more : IsReadAs (with_rules (codes "l0(A)-{ 2*A+(1) }>l1(A) l0(A)->l1(1)")) (started (symbols 1 1)
       (from_l0_costing (Some (Addition (Multiplication (Literal (pos 2)) (Variable 0)) (Literal (pos 1)))) []
       (Variable 0 ∷ []) [] ∷ from_l0 [] (Literal (pos 1) ∷ []) [] ∷ []))
-  -- in the text the cost stands before the target
+  -- in the text the cost comes before the target
   pub free_in_cost : IsReadAs (with_rules (codes "l0(A) -{D*C}> l1(B,C) :|: B == E")) (started (symbols 1 2)
       (from_l0_costing (Some (Multiplication (Variable 1) (Variable 2))) (name 68 ∷ name 67 ∷ name 66 ∷ name 69 ∷ [])
       (Variable 3 ∷ Variable 2 ∷ []) (Compare (Variable 3) EqualTo (Variable 4) ∷ []) ∷ []))

@@ -1,4 +1,4 @@
--- What was worked out by hand of texts at the limits and just past them.
+-- Worked values of texts at the limits and just past them.
 use Rattle.std.specs.Prelude.{ℕ, zero, suc, ◌+◌, ◌/◌, ◌%◌, List, [], ◌∷◌, ◌++◌, codes, replicate, ⊤}
 use Rattle.expr_text.specs.model.Programs.{Program}
 use Rattle.expr_text.specs.text_core.Reading.{Answer, Stands, Refused}
@@ -15,7 +15,7 @@ IsProgram (Refused x) = ⊥
 abbrev pub IsRead : List ℕ → Type 0
 IsRead bytes = IsProgram (verdict bytes)
 
--- so many texts with a separator between each two, the first one with a number
+-- this many texts with a separator between each two, the first one with a number
 abbrev pub joined : (ℕ → List ℕ) → List ℕ → ℕ → ℕ → List ℕ
 joined text separator from zero = []
 joined text separator from (suc zero) = text from
@@ -25,7 +25,7 @@ joined text separator from (suc (suc n)) = text from ++ (separator ++ joined tex
 abbrev pub variable : ℕ → List ℕ
 variable i = 86 ∷ (48 + i / 10) ∷ (48 + i % 10) ∷ []
 
--- rules with so many left arguments, right arguments, variables in one argument, atoms, bytes of a name, and `-`
+-- rules with this many left arguments, right arguments, variables in one argument, atoms, bytes of a name, and `-`
 abbrev pub left_arguments : ℕ → List ℕ
 left_arguments n = with_rules (codes "l0(" ++ (joined variable (codes ",") 0 n ++ codes ")->l1()"))
 
@@ -44,7 +44,7 @@ name_bytes n = with_rules (codes "l0()->" ++ (replicate n 118 ++ codes "()"))
 abbrev pub minuses : ℕ → List ℕ
 minuses n = codes "(STARTTERM (FUNCTIONSYMBOLS l0))(RULES l0()->l1(" ++ replicate n 45
 
--- rules with so many variables in a cost, atoms beside one, and `-` in one
+-- rules with this many variables in a cost, atoms beside one, and `-` in one
 abbrev pub variables_in_cost : ℕ → List ℕ
 variables_in_cost n = with_rules (codes "l0()-{" ++ (joined variable (codes "*0*") 0 n ++ codes "}>l1()"))
 
@@ -54,7 +54,7 @@ atoms_beside_cost n = with_rules (codes "l0()-{0}>l1():|:" ++ joined (λ i. code
 abbrev pub minuses_in_cost : ℕ → List ℕ
 minuses_in_cost n = codes "(STARTTERM (FUNCTIONSYMBOLS l0))(RULES l0()-{" ++ replicate n 45
 
--- a product of a sum of 8 variables and one of so many others
+-- a product of a sum of 8 variables and one of this many others
 abbrev pub products : ℕ → List ℕ
 products n = with_rules (codes "l0()->l1((" ++ (joined variable (codes "+") 0 8
     ++ (codes ")*(" ++ (joined variable (codes "+") 10 n ++ codes "))"))))
@@ -88,7 +88,7 @@ pub record LimitsAreWorkedOut : Type 0 where
   -- more at that token
   pub tokens_full : RefusedAt (minuses 1024) 1072 Syntax
   pub tokens_passed : RefusedAt (minuses 1025) 1072 (Limit TooManyTokens)
-  -- so is a cost
+  -- the same for a cost
   pub cost_tokens_full : RefusedAt (minuses_in_cost 1024) 1069 Syntax
   pub cost_tokens_passed : RefusedAt (minuses_in_cost 1025) 1069 (Limit TooManyTokens)
   -- 64 terms; one of more is refused at its last byte

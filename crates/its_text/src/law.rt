@@ -1,4 +1,4 @@
-//! What holds of the texts of programs.
+//! Laws of the texts of programs.
 
 ghost use Rattle.expr_text.specs.text_core.Laws.{AnswersAll, OneFirst};
 ghost use Rattle.its_text.specs.Grammar.{programs};
@@ -7,24 +7,24 @@ ghost use Rattle.its_text.specs.Verdicts.{VerdictsAreRight, VerdictsAreSpelled};
 ghost use Rattle.its_text.specs.Worked.{WorkedValues};
 ghost use Rattle.its_text.specs.WorkedLimits.{LimitsAreWorkedOut};
 
-/// What small texts stand for, and what stands first against others and where, is what was worked out by hand. It has
+/// Worked values: the programs of small texts, and the first faults of others, with their positions. The function has
 /// no code: its contract is the law.
 pub fn worked_values_hold()
     ensures { WorkedValues }
 {}
 
-/// A text spells one program at most.
+/// A text spells at most one program.
 pub fn one_program()
     ensures { OneProgram }
 {}
 
-/// Reading tokens in order comes to the sections that they write, which nothing then stands against and which are the
-/// only ones, or to their first fault.
+/// Reading tokens in order gives the sections that they write, which then have no fault and are the only ones, or gives
+/// the first fault.
 pub fn texts_have_one_answer()
     ensures { AnswersAll programs }
 {}
 
-/// Two first faults of a text are one.
+/// A text has at most one first fault.
 pub fn texts_have_one_first_fault()
     ensures { OneFirst programs }
 {}
@@ -34,20 +34,20 @@ pub fn spelled_programs_are_valid()
     ensures { SpelledIsValid }
 {}
 
-/// Texts at a limit are read, and past it refused where what is one too many begins, as was worked out by hand.
+/// Worked values: texts at a limit are read, and past it they are refused where the first thing over the limit begins.
 pub fn worked_limits_hold()
     ensures { LimitsAreWorkedOut }
 {}
 
-/// The verdict on a text is the program by numbers of the sections that it writes, where nothing stands against it, or
-/// its first fault, or what is lacking where nothing else stands; no other verdict is right. A text that spells a
-/// program is read as that one, or has a first fault.
+/// The verdict on a text is the program, by numbers, of the sections that it writes, if it has no fault; or its first
+/// fault; or, if there is no other fault, the missing section or start rule. No other verdict is right. A text that
+/// spells a program is read as that program, or has a first fault.
 pub fn verdicts_are_right()
     ensures { VerdictsAreRight }
 {}
 
-/// A text is read as a program exactly where it spells that program within the limits: what is read keeps each limit,
-/// and nothing stands against what keeps them all.
+/// A text is read as a program exactly where it spells that program within the limits: a program that is read keeps
+/// every limit, and a text whose program keeps all of them has no fault.
 pub fn verdicts_are_spelled()
     ensures { VerdictsAreSpelled }
 {}

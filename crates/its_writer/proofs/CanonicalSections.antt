@@ -48,7 +48,7 @@ expression_written names (Multiplication d e) =
 expression_written names (Exponentiation e n) =
     Alone (Single (Raised (operand_written names e (expression_written names e)) (numeral n)))
 
--- the expressions of arguments, behind others; the last one stands first
+-- the expressions of arguments, behind others; the last one comes first
 abbrev pub arguments_written : List Name → List Sum → List Term → List Sum
 arguments_written names done [] = done
 arguments_written names done (e ∷ es) = arguments_written names (expression_written names e ∷ done) es

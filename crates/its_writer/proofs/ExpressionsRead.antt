@@ -33,7 +33,7 @@ IsWritable names (Subtraction d e) = IsWritable names d × IsWritable names e
 IsWritable names (Multiplication d e) = IsWritable names d × IsWritable names e
 IsWritable names (Exponentiation e n) = IsWritable names e
 
--- brackets round a text
+-- brackets around a text
 pub bracketed_read : (d : ℕ) (text : List ℕ → List ℕ) (s : Sum) → IsRead (suc d) text (sum_behind In s)
     → IsRead d (bracketed_then true text) (base_behind In (Bracketed s))
 bracketed_read d text s h = record {

@@ -74,7 +74,7 @@ all_at P [] i is h = absurd (omega (arith, h))
 all_at P (n ∷ names) zero is h = is.0
 all_at P (n ∷ names) (suc i) is h = all_at P names i is.1 (omega (arith, h))
 
--- so many locations, each with two places
+-- this many locations, each with two places
 pub locations_count : (m : ℕ) → length (locations m) ≡ m
 locations_count zero = refl
 locations_count (suc m) = let e = length-append (locations m) (location m ∷ []) in let k = locations_count m in omega (arith, e, k)

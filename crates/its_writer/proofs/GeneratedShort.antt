@@ -36,7 +36,7 @@ leaving_short symbols i s t = record {
   each = λ rest. line_length (name_at symbols i) (name_at symbols (suc i)) (codes "(B,B))\n") rest s t (omega arith);
 }
 
--- so are the lines of rules together
+-- the same for the lines of rules together
 lines_short : (symbols : List Name) (rules : List Rule) (rest : List ℕ) → AllByRecursion (IsShortLine symbols) rules
     → length (each_then (rule_then symbols) rules rest) ≤ 700 * length rules + length rest
 lines_short symbols [] rest s = omega arith
@@ -45,7 +45,7 @@ lines_short symbols (r ∷ rules) rest s =
     let b = lines_short symbols rules rest s.1 in
     omega (arith, a, b)
 
--- what stands before them is short
+-- the text before them is short
 sections_length : (start behind lines : List ℕ) → IsShortName start → behind ≡ codes " A B)\n(RULES\n" ++ lines
     → length (codes "(GOAL COMPLEXITY)\n(STARTTERM (FUNCTIONSYMBOLS " ++ (start ++ (codes "))\n(VAR" ++ behind))) ≤ 500 + length lines
 sections_length start behind lines s e =

@@ -1,4 +1,4 @@
--- The pieces of the parts of a text, one behind the other.
+-- The pieces of the parts of a text, one after the other.
 use Rattle.std.proofs.Common.{◌≡◌, ℕ, suc, ◌+◌, true, false, List, [], ◌∷◌, ◌++◌, length}
 use Rattle.std.proofs.Common.{drop, Some, refl, ap, ◌∙◌, arith}
 use Rattle.std.specs.Prelude.{◌==◌}
@@ -22,7 +22,7 @@ use Rattle.its_writer.proofs.Numerals.{IsNumeral, numeral_is}
 abbrev pub lexed : Mode → List ℕ → List Piece
 lexed mode bytes = pieces (tokens_in lexer mode 0 0 bytes)
 
--- they are the same wherever the bytes stand
+-- the lexemes of bytes don't depend on the position at which the bytes begin
 pub moved : (mode : Mode) (at : ℕ) (bytes : List ℕ) → pieces (tokens_in lexer mode at 0 bytes) ≡ lexed mode bytes
 moved mode at bytes = pieces_in lexer bytes mode 0 at 0
 

@@ -49,7 +49,7 @@ among_first (m ∷ names) (suc n) (suc i) d h =
     ∙ among_first names n i d.1 within
     ∙ (let e : nat_lt i n ≡ nat_lt (suc i) (suc n) = grind (arith, nat_tests) in e)
 
--- so many first names and the next one
+-- this many first names and the next one
 pub first_next : (names : List Name) (n : ℕ) → n < length names → take n names ++ name_at names n ∷ [] ≡ take (suc n) names
 first_next [] n h = absurd (omega (arith, h))
 first_next (m ∷ names) zero h = refl

@@ -43,7 +43,7 @@ onto_count : {X : Type 0} (xs rest : List X) → length (onto xs rest) ≡ lengt
 onto_count [] rest = let e : length rest ≡ 0 + length rest = omega arith in e
 onto_count (x ∷ xs) rest = let e = onto_count xs (x ∷ rest) in omega (arith, e)
 
--- so many first names are names and differ, where all are and do
+-- this many first names are names and differ, where all are and do
 none_taken : (m : Name) (names : List Name) (n : ℕ) → is_among m names ≡ false → is_among m (take n names) ≡ false
 none_taken m [] zero e = refl
 none_taken m [] (suc n) e = refl

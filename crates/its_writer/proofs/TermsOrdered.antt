@@ -37,7 +37,7 @@ known_below n i h = let e : nat_lt i n ≡ true = grind (arith, nat_tests) in ap
 pub known_next : (n : ℕ) → known_with n n ≡ suc n
 known_next n = let e : nat_lt n n ≡ false = grind (arith, nat_tests) in ap (λ (v : Bool). if v then n else suc n) e
 
--- a new name stands behind the others
+-- a new name is at the end of the list
 position_new : (n : Name) (names : List Name) → is_among n names ≡ false → position_of n (names ++ n ∷ []) ≡ length names
 position_new n [] e = ap (λ (v : Bool). cond (not v) (1 + position_of n []) 0) (is_same_self n)
 position_new n (m ∷ names) e =

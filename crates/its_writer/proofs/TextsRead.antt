@@ -54,7 +54,7 @@ pub record IsWritableProgram (p : Program) : Type 0 where
   pub variables : AllByRecursion IsName (variables_of p)
   pub rules : AllByRecursion (IsWritableRule (symbol_names p)) p.rules
 
--- what stands before the start symbol
+-- the pieces before the start symbol
 abbrev before_start : List Piece
 before_start = word (codes "FUNCTIONSYMBOLS") ∷ open_bracket ∷ word (codes "STARTTERM") ∷ open_bracket ∷ pieces_behind (Goal ∷ [])
 

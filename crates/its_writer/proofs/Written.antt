@@ -45,7 +45,7 @@ module _ {X Y : Type 0} (view : X → Y) (text : Y → List ℕ → List ℕ) wh
   pub written_end : (xs : List X) (i : ℕ) (old new : List ℕ) (all : List ℕ → List ℕ) → length xs ≤ i → Writes old new all (each_then text (map view (drop i xs))) → WritesAll old new all
   written_end xs i old new all h a = record { each = λ rest. ap (λ (ys : List X). new ++ each_then text (map view ys) rest) (sym (drop_all i xs h)) ∙ a.each rest }
 
--- so many elements at most, as they are read
+-- this many elements at most, as they are read
 pub taken : {X Y : Type 0} (view : X → Y) (xs : List X) (n : ℕ) → map view (take (min (length xs) n) xs) ≡ take n (map view xs)
 taken view [] zero = refl
 taken view [] (suc n) = ap (λ k. map view (take k [])) (let e : min (length {A = ℕ} []) (suc n) ≡ 0 = omega arith in e)
@@ -103,7 +103,7 @@ names_whole names i old new all h a = record {
   each = λ rest. ap (λ (ns : List Name). new ++ each_then (led_by (codes " ") name_then) ns rest) (sym (drop_all i names h)) ∙ a.each rest;
 }
 
--- the sections of a program, one behind the other
+-- the sections of a program, one after the other
 pub program_written : (p : Program) (known : List Name) (t0 t1 t2 t3 t4 t5 t6 t7 : List ℕ) (r : Result (Unit {0}) AllocError) → known ≡ variables_of p
     → WritesAll t0 t1 (λ rest. codes "(GOAL COMPLEXITY)\n(STARTTERM (FUNCTIONSYMBOLS " ++ rest) → WritesAll t1 t2 (λ rest. name_at (symbol_names p) p.start ++ rest) → WritesAll t2 t3 (λ rest. codes "))\n(VAR" ++ rest)
     → WritesAll t3 t4 (each_then (led_by (codes " ") name_then) known) → WritesAll t4 t5 (λ rest. codes ")\n(RULES\n" ++ rest) → WritesAll t5 t6 (each_then (rule_then (symbol_names p)) p.rules)
@@ -119,7 +119,7 @@ program_written p known t0 t1 t2 t3 t4 t5 t6 t7 (Ok u) same a b c d f g h = reco
       ++ each_then (led_by (codes " ") name_then) ns (codes ")\n(RULES\n" ++ rules))))) same;
 }
 
--- the whole text, where nothing stood before it
+-- the whole text, where the buffer was empty
 pub whole_text : (old new : List ℕ) (text : List ℕ → List ℕ) → old ≡ [] → WritesAll old new text → new ≡ text []
 whole_text old new text empty a = sym (append-nil new) ∙ a.each [] ∙ ap (λ (bs : List ℕ). bs ++ text []) empty
 

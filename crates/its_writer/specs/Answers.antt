@@ -1,4 +1,4 @@
--- What the canonical text of a program is to it.
+-- The relation of a program to its canonical text.
 use Rattle.std.specs.Prelude.{◌≡◌, ◌≤◌, ℕ, List, length}
 use Rattle.its_text.specs.expr_text.model.Programs.{Program}
 use Rattle.its_text.specs.expr_text.its_model.Valid.{IsValid}

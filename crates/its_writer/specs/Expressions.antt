@@ -14,7 +14,7 @@ name_at names i = slice_index_or names i []
 abbrev pub name_then : Name → List ℕ → List ℕ
 name_then name rest = name ++ rest
 
--- whether an expression is an operation, and so stands in brackets where it is an operand
+-- whether an expression is an operation, which is put in brackets where it is an operand
 abbrev pub is_operation : Term → Bool
 is_operation (Literal z) = false
 is_operation (Variable i) = false
@@ -24,7 +24,7 @@ is_operation (Subtraction d e) = true
 is_operation (Multiplication d e) = true
 is_operation (Exponentiation e n) = true
 
--- an expression over variables with these names; operators stand without blanks
+-- an expression over variables with these names; there are no blanks around operators
 abbrev pub expression_then : List Name → Term → List ℕ → List ℕ
 expression_then names (Literal z) rest = integer_then z rest
 expression_then names (Variable i) rest = name_at names i ++ rest

@@ -1,4 +1,4 @@
--- How the parts of a text stand one behind the other. A text is told with the rest that stands behind it.
+-- How the parts of a text follow each other. The text of a part is defined together with the rest that follows it.
 use Rattle.std.specs.Prelude.{ℕ, zero, suc, ◌+◌, Bool, true, false, List, [], ◌∷◌, ◌++◌, map, ℤ, pos, negsuc, codes}
 use Rattle.std.specs.Int.Digits.{digits_of}
 
@@ -18,7 +18,7 @@ bracketed_then true text rest = codes "(" ++ text (codes ")" ++ rest)
 bracketed_then false text rest = text rest
 
 module _ {X : Type 0} where
-  -- the text of each, one behind the other
+  -- the text of each, one after the other
   abbrev pub each_then : (X → List ℕ → List ℕ) → List X → List ℕ → List ℕ
   each_then text [] rest = rest
   each_then text (x ∷ xs) rest = text x (each_then text xs rest)

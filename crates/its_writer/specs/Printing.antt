@@ -1,4 +1,4 @@
--- What was written behind a text.
+-- What was appended to a text.
 use Rattle.std.specs.Prelude.{◌≡◌, ℕ, List, ◌++◌}
 
 -- from the old bytes to the new ones that was written which, with `left` behind it, is `text`

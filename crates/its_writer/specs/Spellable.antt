@@ -1,4 +1,4 @@
--- Which programs a text spells: names, numbers and literals are as reading gives them.
+-- Which programs have a text: their names, numbers and literals are as reading gives them.
 use Rattle.std.specs.Prelude.{◌≡◌, ℕ, suc, ◌+◌, ◌≤◌, ◌<◌, nat_lt, nat_eq, if◌then◌else◌, List, [], ◌∷◌, length, ℤ}
 use Rattle.std.specs.Prelude.{◌++◌, pos, negsuc, Option, Some, None, IsFalse, ⊤}
 use Rattle.std.specs.List.{AllByRecursion}

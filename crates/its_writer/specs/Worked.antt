@@ -1,4 +1,4 @@
--- What was worked out by hand of canonical texts, and of which programs a text spells.
+-- Worked values of canonical texts, and of which programs have a text.
 use Rattle.std.specs.Prelude.{◌≡◌, ℕ, List, [], ◌∷◌, ◌++◌, codes, pos, negsuc, Some, None}
 use Rattle.its_text.specs.expr_text.model.Programs.{Name, AtLeast, MoreThan, AtMost, LessThan, EqualTo}
 use Rattle.its_text.specs.expr_text.model.Programs.{Atom, Always, Compare, Rule, Program}
@@ -67,7 +67,7 @@ negative = over_f_g (costly (Variable 0 ∷ Variable 1 ∷ []) [] ∷ back_rule 
 abbrev pub opposite : Program
 opposite = over_f_g (costly (Variable 0 ∷ Variable 1 ∷ []) [] ∷ back_rule (Negation (Literal (pos 7))) ∷ [])
 
--- a rule whose three free variables stand in the cost, on the right and in the guard
+-- a rule whose three free variables occur in the cost, on the right and in the guard
 abbrev pub scattered : ℕ → ℕ → ℕ → Rule
 scattered in_cost in_update in_guard = record {
   source = 0;
@@ -109,7 +109,7 @@ other_start = record {
   rules = sample.rules;
 }
 
--- a rule with a free variable that stands nowhere
+-- a rule with a free variable that occurs nowhere
 abbrev pub idle : Rule
 idle = record {
   source = 0;
@@ -184,7 +184,7 @@ pub record WorkedPrograms : Type 0 where
   pub same_name : ¬ IsSpellable (with_second (codes "f"))
   -- the start names are those of the rule that leaves the start symbol
   pub other_names : ¬ IsSpellable other_start
-  -- each free variable stands somewhere
+  -- each free variable has to occur somewhere
   pub unused : ¬ IsSpellable (over_f_g (idle ∷ back_rule (Literal (pos 0)) ∷ []))
 
 -- all of it

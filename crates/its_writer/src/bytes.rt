@@ -1,4 +1,4 @@
-//! Bytes, names and integers behind a text.
+//! Appends bytes, names and integers to a text.
 
 ghost use Rattle.std.specs.Prelude.{◌++◌, map, pos, OnOk};
 ghost use Rattle.its_text.specs.expr_text.text_core.Names.{name_of};
@@ -10,22 +10,22 @@ use itoa::Buffer;
 use its_model::Name;
 use poly_terms::Memory;
 
-/// Bytes as they are.
+/// Writes bytes as they are.
 ///
 /// # Errors
 ///
-/// `Memory` where an allocation fails; what stands in `text` is then open.
+/// `Memory` where an allocation fails; the contents of `text` are then unspecified.
 pub(crate) fn write_bytes(text: &mut Vec<u8>, bytes: &[u8]) -> Result<(), Memory>
     ensures { OnOk result (WritesAll text.old.items text.new.items (λ rest. bytes.now ++ rest)) }
 {
     text.extend_from_slice(bytes)
 }
 
-/// The name with a number, where there is one.
+/// Writes the name with a number, if there is one.
 ///
 /// # Errors
 ///
-/// `Memory` where an allocation fails; what stands in `text` is then open.
+/// `Memory` where an allocation fails; the contents of `text` are then unspecified.
 pub(crate) fn write_name(text: &mut Vec<u8>, names: &[Name], number: u32) -> Result<(), Memory>
     ensures { OnOk result (WritesAll text.old.items text.new.items
         (λ rest. name_at (map name_of names.now) number ++ rest)) }
@@ -36,22 +36,22 @@ pub(crate) fn write_name(text: &mut Vec<u8>, names: &[Name], number: u32) -> Res
     }
 }
 
-/// An integer in decimal digits, behind `-` where it is negative.
+/// Writes an integer in decimal digits, with a `-` before them if it is negative.
 ///
 /// # Errors
 ///
-/// `Memory` where an allocation fails; what stands in `text` is then open.
+/// `Memory` where an allocation fails; the contents of `text` are then unspecified.
 pub(crate) fn write_integer(text: &mut Vec<u8>, z: i128) -> Result<(), Memory>
     ensures { OnOk result (WritesAll text.old.items text.new.items (integer_then z)) }
 {
     write_bytes(text, Buffer::new().format(z).as_bytes())
 }
 
-/// A number in decimal digits.
+/// Writes a number in decimal digits.
 ///
 /// # Errors
 ///
-/// `Memory` where an allocation fails; what stands in `text` is then open.
+/// `Memory` where an allocation fails; the contents of `text` are then unspecified.
 pub(crate) fn write_number(text: &mut Vec<u8>, number: u32) -> Result<(), Memory>
     ensures { OnOk result (WritesAll text.old.items text.new.items (integer_then (pos number))) }
 {

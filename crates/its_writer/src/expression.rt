@@ -1,4 +1,4 @@
-//! From expressions and guards to their text.
+//! Prints expressions and guards.
 
 ghost use Rattle.std.specs.Prelude.{◌≡◌, ◌++◌, codes, map, OnOk};
 ghost use Rattle.its_model.specs.poly_terms.Views.{term_of};
@@ -20,11 +20,11 @@ fn is_operation(e: &Expr) -> bool
     !matches!(e, Expr::Num(_) | Expr::Var(_))
 }
 
-/// An expression over variables with these names. It is of any depth: the call goes as deep as the expression.
+/// Writes an expression over variables with these names. The recursion is as deep as the expression.
 ///
 /// # Errors
 ///
-/// `Memory` where an allocation fails; what stands in `text` is then open.
+/// `Memory` where an allocation fails; the contents of `text` are then unspecified.
 #[cycle(write)]
 pub(crate) fn write_expression(text: &mut Vec<u8>, names: &[Name], e: &Expr) -> Result<(), Memory>
     ensures { OnOk result (WritesAll text.old.items text.new.items
@@ -103,11 +103,11 @@ fn write_atom(text: &mut Vec<u8>, names: &[Name], atom: &Atom) -> Result<(), Mem
     }
 }
 
-/// A guard: nothing where it has no atoms.
+/// Writes a guard: nothing if it has no atoms.
 ///
 /// # Errors
 ///
-/// `Memory` where an allocation fails; what stands in `text` is then open.
+/// `Memory` where an allocation fails; the contents of `text` are then unspecified.
 pub(crate) fn write_guard(text: &mut Vec<u8>, names: &[Name], guard: &[Atom]) -> Result<(), Memory>
     ensures { OnOk result (WritesAll text.old.items text.new.items
         (guard_then (map name_of names.now) (map atom_of guard.now))) }

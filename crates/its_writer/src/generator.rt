@@ -1,4 +1,4 @@
-//! The programs that a number makes.
+//! Generates the program of a number.
 
 ghost use Rattle.std.specs.Prelude.{◌≡◌, ◌≤◌, [], ◌∷◌, map, IfOk};
 ghost use Rattle.its_text.specs.expr_text.text_core.Names.{name_of};

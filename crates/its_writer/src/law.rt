@@ -1,16 +1,16 @@
-//! What holds of canonical texts.
+//! Laws of canonical texts.
 
 ghost use Rattle.its_writer.specs.Answers.{GeneratedAreSpelled, SpelledPrograms};
 ghost use Rattle.its_writer.specs.Worked.{WorkedValues};
 
-/// Canonical texts, and which programs a text spells, are what was worked out by hand. It has no code: its contract is
-/// the law.
+/// Worked values of canonical texts, and of which programs have a text. The function has no code: its contract is the
+/// law.
 pub fn worked_values_hold()
     ensures { WorkedValues }
 {}
 
-/// A text spells a program only where its names, numbers and literals are as reading gives them, and where they are,
-/// its canonical text spells it.
+/// A text spells a program only if its names, numbers and literals are as reading gives them; and if they are, its
+/// canonical text spells it.
 pub fn spelled_programs_are_spellable()
     ensures { SpelledPrograms }
 {}

@@ -54,11 +54,11 @@ fn write_variable(text: &mut Vec<u8>, known: &Variables<'_>, number: usize) -> R
     }
 }
 
-/// Names, each behind a blank.
+/// Writes names, each behind a blank.
 ///
 /// # Errors
 ///
-/// `Memory` where an allocation fails; what stands in `text` is then open.
+/// `Memory` where an allocation fails; the contents of `text` are then unspecified.
 pub(crate) fn write_variables(text: &mut Vec<u8>, known: &Variables<'_>) -> Result<(), Memory>
     ensures { OnOk result (WritesAll text.old.items text.new.items
         (each_then (led_by (codes " ") name_then) (names_in known.now))) }

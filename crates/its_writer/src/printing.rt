@@ -1,4 +1,4 @@
-//! From a program to its canonical text.
+//! Prints a program as its canonical text.
 
 ghost use Rattle.std.specs.Prelude.{◌≡◌, map, IfOk, OnOk};
 ghost use Rattle.its_model.specs.Views.{symbol_of, rule_of, program_of};
@@ -14,9 +14,9 @@ use its_model::{Program, Rule, Symbol};
 use poly_terms::Memory;
 use std::alloc::Global;
 
-/// The canonical text of a program, of any depth of its expressions: the call goes as deep as they do. It spells the
-/// program, where any text does. A number that has no name or symbol is left out, and a negative literal has its sign
-/// and no brackets, so the text then spells another program, which may have other values: `-7^2` is `-(7^2)`.
+/// The canonical text of a program. The recursion is as deep as its expressions. The text spells the program, if any
+/// text does. A number that has no name or symbol is left out, and a negative literal has its sign and no brackets, so
+/// the text of such a program spells another program, which may have other values: `-7^2` is `-(7^2)`.
 ///
 /// # Errors
 ///

@@ -1,4 +1,4 @@
-//! From a rule to its line.
+//! Prints a rule as a line.
 
 ghost use Rattle.std.specs.Prelude.{◌++◌, codes, map, option_map, OnOk};
 ghost use Rattle.its_model.specs.poly_terms.Views.{term_of};
@@ -14,11 +14,11 @@ use crate::expression::{write_expression, write_guard};
 use its_model::{Name, Rule, Symbol};
 use poly_terms::{Expr, Memory};
 
-/// The name of the symbol with a number, where there is one.
+/// Writes the name of the symbol with a number, if there is one.
 ///
 /// # Errors
 ///
-/// `Memory` where an allocation fails; what stands in `text` is then open.
+/// `Memory` where an allocation fails; the contents of `text` are then unspecified.
 pub(crate) fn write_symbol(
     text: &mut Vec<u8>,
     symbols: &[Symbol],
@@ -89,11 +89,11 @@ fn write_updates(text: &mut Vec<u8>, names: &[Name], updates: &[Expr]) -> Result
     Ok(())
 }
 
-/// A rule in a line of its own.
+/// Writes a rule on a line of its own.
 ///
 /// # Errors
 ///
-/// `Memory` where an allocation fails; what stands in `text` is then open.
+/// `Memory` where an allocation fails; the contents of `text` are then unspecified.
 pub(crate) fn write_rule(text: &mut Vec<u8>, symbols: &[Symbol], rule: &Rule) -> Result<(), Memory>
     ensures { OnOk result (WritesAll text.old.items text.new.items
         (rule_then (map (λ s. s.name) (map symbol_of symbols.now)) (rule_of rule.now))) }

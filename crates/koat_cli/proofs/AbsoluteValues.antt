@@ -1,4 +1,4 @@
--- The absolute values of a list, as a loop tells them: what is told and what is left make the whole.
+-- The absolute values of a list, as a loop computes them: those that are done and those that are left make the whole.
 use Rattle.std.proofs.Common.{◌≡◌, ℕ, ◌+◌, ◌<◌, ◌≤◌, List, [], ◌∷◌, ◌++◌, length, map, drop, get_or, ℤ, nat_abs, sym, ◌∙◌, ap}
 use Rattle.std.proofs.Common.{append_assoc}
 use Rattle.std.proofs.lemmas.List.{append-nil, at_drop_more}

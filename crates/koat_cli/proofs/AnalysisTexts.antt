@@ -1,4 +1,4 @@
--- The report of an analysis is printable where its numbers fit their types, and so its text tells it alone.
+-- The report of an analysis is printable where its numbers fit their types, and so it is determined by its text.
 use Rattle.std.proofs.Common.{◌≡◌, ℕ, zero, suc, ◌+◌, ◌<◌, ◌≤◌, List, [], ◌∷◌, length, map, Option, Some, None, refl}
 use Rattle.std.proofs.Common.{sym, ◌∙◌, ap, subst, arith}
 use Rattle.std.specs.Prelude.{ℤ, slice_get}
@@ -15,10 +15,10 @@ use Rattle.its_model.specs.linear_forms.QuestionLaws.{after}
 use Rattle.its_model.specs.linear_forms.RuleQuestions.{RankedSet, rank_question, symbols_of_set, coefficients}
 use Rattle.its_model.specs.linear_forms.RuleQuestions.{move_group}
 use Rattle.its_model.specs.linear_forms.RuleQuestions.{floor_group}
-use Rattle.outcome.specs.proof_nodes.Gaps.{SymbolPlace, Gap}
-use Rattle.outcome.specs.proof_nodes.Nodes.{RankNode}
-use Rattle.outcome.specs.proof_setting.Setting.{setting_of}
-use Rattle.outcome.specs.proof_tree.declared.answer.EmptyAnswer.{EmptyAnswer}
+use Rattle.outcome.specs.cert_rules.Gaps.{SymbolPlace, Gap}
+use Rattle.outcome.specs.cert_rules.Nodes.{RankNode}
+use Rattle.outcome.specs.cert_program.Setting.{setting_of}
+use Rattle.outcome.specs.cert_types.declared.answer.GuardFeasibility.{GuardFeasibility}
 use Rattle.time_bounds.specs.rank_search.declared.answer.RankAnswer.{RankAnswer}
 use Rattle.time_bounds.specs.rank_search.declared.answer.RankAnswer.TheVariants as ranks
 use Rattle.time_bounds.specs.rule_questions.ProgramQuestions.{ranked_set}
@@ -26,13 +26,13 @@ use Rattle.time_bounds.specs.rule_questions.RuleAnswers.{answer_for, point_in}
 use Rattle.time_bounds.specs.rank_search.RankAnswers.{points_of, IsReadOff, IsRankAnswer}
 use Rattle.outcome.specs.Reports.{NoTime, NoFunction, TimeTripped, TimeLarge, Time, Timed, Untimed}
 use Rattle.outcome.specs.Reports.{Size, Sized, Unsized, Report}
-use Rattle.time_bounds.specs.bound_rounds.Answers.{Target, TimeOf, SizesOf, Lacks, Tells, TellsTime, TellsRanking}
-use Rattle.time_bounds.specs.bound_rounds.Finds.{Find, bounds_of}
-use Rattle.time_bounds.specs.bound_rounds.Keys.{Bounds}
-use Rattle.time_bounds.specs.bound_rounds.Rounds.{IsAskedFor, IsNoBound}
-use Rattle.time_bounds.specs.bound_rounds.Searches.{OfTime}
-use Rattle.time_bounds.specs.bound_rounds.Searches.{Ranking, Ranked, Unranked, RankTripped}
-use Rattle.time_bounds.specs.bound_rounds.Sets.{AreShutOf}
+use Rattle.time_bounds.specs.bound_fixpoint.Answers.{Target, TimeOf, SizesOf, Lacks, Tells, TellsTime, TellsRanking}
+use Rattle.time_bounds.specs.bound_fixpoint.Derivations.{Derivation, bounds_of}
+use Rattle.time_bounds.specs.bound_fixpoint.Keys.{Bounds}
+use Rattle.time_bounds.specs.bound_fixpoint.Rounds.{IsAskedFor, IsNoBound}
+use Rattle.time_bounds.specs.bound_fixpoint.Searches.{OfTime}
+use Rattle.time_bounds.specs.bound_fixpoint.Searches.{Ranking, Ranked, Unranked, RankTripped}
+use Rattle.time_bounds.specs.bound_fixpoint.Sets.{AreShutOf}
 use Rattle.report_text.specs.bound_text.Texts.{FitsTypes}
 use Rattle.report_text.specs.Printable as texts
 use Rattle.report_text.specs.Printable.{IsShort, IsPrintablePlace, IsPrintableGap, IsPrintableNoTime, IsPrintableTime}
@@ -85,7 +85,7 @@ groups_many b =
     ∙ ap (λ (n : ℕ). n + 1) (length-map b.set (move_group b cs))
 
 -- a gap that is read off has a move and a kept point for each rule of its set
-module _ (b : RankedSet) (shut : List SymbolPlace) (pivots : ℕ) (empties : List EmptyAnswer) (g : Gap)
+module _ (b : RankedSet) (shut : List SymbolPlace) (pivots : ℕ) (empties : List GuardFeasibility) (g : Gap)
     (read : IsReadOff b shut pivots empties g) where
   moves_many : length g.moves ≤ length g.set
   moves_many =
@@ -103,7 +103,7 @@ module _ (b : RankedSet) (shut : List SymbolPlace) (pivots : ℕ) (empties : Lis
 
 -- and it shuts places of symbols of the program
 gap_fits : (p : Program) (pivots : ℕ) (b : Bounds) (t : ℕ) (set : List ℕ) (shut : List SymbolPlace)
-    (empties : List EmptyAnswer) (g : Gap) → IsValid p → AreShutOf p b set shut
+    (empties : List GuardFeasibility) (g : Gap) → IsValid p → AreShutOf p b set shut
     → IsReadOff (ranked_set p set t shut) shut pivots empties g → HasShortNumbers g
     → IsPrintableGap (length p.symbols) g
 gap_fits p pivots b t set shut empties g valid are read short = record {
@@ -124,7 +124,7 @@ gap_fits p pivots b t set shut empties g valid are read short = record {
         target_few p valid is.entry s.symbol is.leads
 
 -- the gap of an answer is read off
-gap_read : (b : RankedSet) (shut : List SymbolPlace) (pivots : ℕ) (empties : List EmptyAnswer) (f : Gap)
+gap_read : (b : RankedSet) (shut : List SymbolPlace) (pivots : ℕ) (empties : List GuardFeasibility) (f : Gap)
     (a : RankAnswer) → ranking_of a ≡ Unranked f → IsRankAnswer b shut pivots empties a
     → IsReadOff b shut pivots empties f
 gap_read b shut pivots empties f (ranks.Ranked node) e r = absurd (apart _ e)
@@ -135,12 +135,12 @@ gap_read b shut pivots empties f (ranks.NoRank gap) e r = subst (IsReadOff b shu
   where
     same : (h : Gap) → Unranked h ≡ Unranked f → h ≡ f
     same h x = cc
-gap_read b shut pivots empties f (ranks.Tripped x) e r = absurd (apart e)
+gap_read b shut pivots empties f (ranks.OutOfLimits x) e r = absurd (apart e)
   where
     apart : RankTripped x ≡ Unranked f → ⊥
     apart y = cc
 
-module _ (p : Program) (pivots : ℕ) (valid : IsValid p) (fs : List Find)
+module _ (p : Program) (pivots : ℕ) (valid : IsValid p) (fs : List Derivation)
     (good : ArePrintableBounds (length p.start_names) (bounds_of p fs)) where
   -- the gap that an answer to the question of a set gives as the reason
   answer_fits : (t : ℕ) (g : Gap) (set : List ℕ) (shut : List SymbolPlace) → AreShutOf p (bounds_of p fs) set shut
@@ -163,7 +163,7 @@ module _ (p : Program) (pivots : ℕ) (valid : IsValid p) (fs : List Find)
       apart : Lacks (OfTime (NoFunction g)) ≡ Lacks (OfTime (TimeTripped x)) → ⊥
       apart y = cc
 
-  -- what the answer about a rule tells
+  -- the result of the answer about a rule
   told_fits : (t : ℕ) (g : Gap) → HasShortNumbers g
       → TellsTime (searches_of_program p pivots) (setting_of p) (bounds_of p fs) t (Lacks (OfTime (NoFunction g)))
       → IsPrintableGap (length p.symbols) g
@@ -232,18 +232,18 @@ analysis_fits : (p : Program) (pivots : ℕ) (r : Report) → IsValid p → IsAn
 analysis_fits p pivots r valid h fits = record {
   times = times;
   total = total_fits p r.times r.total times h.total fits.total;
-  sizes = rows_fit p pivots valid h.finds good 1 r.sizes h.sizes fits.sizes;
+  sizes = rows_fit p pivots valid h.derivations good 1 r.sizes h.sizes fits.sizes;
 }
   where
-    good : ArePrintableBounds (length p.start_names) (bounds_of p h.finds)
-    good = found_printable.finds p pivots h.finds valid h.last.made
+    good : ArePrintableBounds (length p.start_names) (bounds_of p h.derivations)
+    good = found_printable.derivations p pivots h.derivations valid h.last.made
 
     times : AllByRecursion (IsPrintableTime p) r.times
-    times = times_fit p pivots valid h.finds good 1 r.times h.times fits.times
+    times = times_fit p pivots valid h.derivations good 1 r.times h.times fits.times
 
--- so its text tells it
-pub reports_are_told : AnalysisTextsStateOneReport
-reports_are_told = record {
+-- so it is determined by its text
+pub reports_are_determined : AnalysisTextsStateOneReport
+reports_are_determined = record {
   printable = analysis_fits;
   no_other = λ p pivots text r q valid h fits printable x y.
       one_report.each p text r q valid (analysis_fits p pivots r valid h fits) printable x y;

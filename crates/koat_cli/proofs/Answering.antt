@@ -16,8 +16,8 @@ use Rattle.its_reader.specs.its_text.Answers.{verdict}
 use Rattle.outcome.specs.Reports.{Report, is_timed}
 use Rattle.outcome.specs.Views.{report_of}
 use Rattle.time_bounds.specs.Analysis.{IsAnalysis}
-use Rattle.asks.specs.Lines.{Word}
-use Rattle.asks.specs.Requests.{Request, Analyse, Prove, Facts}
+use Rattle.command_line.specs.Lines.{Word}
+use Rattle.command_line.specs.Requests.{Request, Analyse, Prove, Facts}
 use Rattle.location_facts.specs.declared.fact.LocFact.{LocFact}
 use Rattle.location_facts.specs.Strengthening.{strengthened}
 use Rattle.koat_cli.specs.declared.status.Status.{Status}
@@ -94,7 +94,7 @@ pub data Timing (A B : Type 0) : Status → Type 0 where
   AllTimed : A → Timing A B Done
   SomeUntimed : B → Timing A B Unknown
 
--- so it is of a program's analysis
+-- the same for a program's analysis
 abbrev pub TimingOf : Program → ℕ → Status → Type 0
 TimingOf p pivots s = Timing (FindsAllTimes p pivots) (MissesTimes p pivots) s
 
@@ -113,7 +113,7 @@ timing_apart laws p pivots a b =
     (subst (λ (r : Report). IsTrue (list_all is_timed r.times)) (laws.reports.each p pivots a.report b.report a.found b.found) a.all_timed)
     b.some_untimed
 
--- so it is of a program with facts
+-- the same for a program with facts
 facts_timing : (p : Program) (pivots : ℕ) (s : Status) (x : List ℕ) → IsFactsReportOf p pivots s x
     → Timing (FindsAllWithFacts p pivots) (MissesWithFacts p pivots) s
 facts_timing p pivots s x h =
@@ -130,7 +130,7 @@ facts_apart laws p pivots a b =
     timing_apart laws (strengthened b.facts p) pivots
     (subst (λ (fs : List LocFact). FindsAllTimes (strengthened fs p) pivots) same a.holds) b.holds
 
--- what a status says of the bytes, by what is so of the program that they spell
+-- what a status says of the bytes, by what is true of the program that they spell
 pub data Answered (bytes : List ℕ) (A B : Program → Type 0) : Status → Type 0 where
   IsDone : SpellsOne bytes A → Answered bytes A B Done
   IsUnknown : SpellsOne bytes B → Answered bytes A B Unknown
@@ -168,7 +168,7 @@ module _ (laws : Determined) (bytes : List ℕ) (A B : Program → Type 0) (apar
       ((λ e. absurd (let no_way : ⊥ = cc in no_way)), (λ h. absurd (program_apart bytes B a h)))
   only_refused s (IsRefused a) = ((λ e. a), (λ h. refl))
 
-  -- a program of which something was said says it with its status
+  -- the answer about a program has its status
   of_timing : (s : Status) (p : Program) → length bytes ≤ program_limit → SpellsWithin bytes p → Timing (A p) (B p) s
       → Answered bytes A B s
   of_timing s p within spelled (AllTimed h) = IsDone (record { within = within; program = p; spelled = spelled; holds = h })
@@ -187,7 +187,7 @@ module _ (laws : Determined) (bytes : List ℕ) (A B : Program → Type 0) (apar
         of_timing s a.program (subst (λ (b : List ℕ). length b ≤ program_limit) same a.given.fetched.within)
         (subst (λ (b : List ℕ). SpellsWithin b a.program) same a.given.spelled) (out_timing a.program s x a.said)
 
-    -- so does a status that isn't that of a fault or of want of memory
+    -- the same for a status that isn't that of a fault or of running out of memory
     answered : (s : Status) → Ends s call put → s ≢ Memory → Answered bytes A B s
     answered s ends memory =
         let wrote = ends.wrote (λ e. h.no_write_fault (ends.write_fault e).fault) memory in
@@ -213,7 +213,7 @@ module _ (laws : Determined) (bytes : List ℕ) (A B : Program → Type 0) (apar
     few RunRefused ends = few_answered RunRefused (answered RunRefused ends (λ e. let no_way : ⊥ = cc in no_way))
     few NotARun ends = few_answered NotARun (answered NotARun ends (λ e. let no_way : ⊥ = cc in no_way))
 
--- so calls are answered that ask for something of a program, where what is answered tells of two things that exclude each
+-- so calls with a request about a program are answered, where the answer distinguishes two facts that exclude each
 -- other
 are_answered : Determined → (A B : Program → Type 0) → ((p : Program) → A p → B p → ⊥) → (request : Word → Request)
     → (Out : Program → Status → List ℕ → Type 0) → ((p : Program) (s : Status) (x : List ℕ) → Out p s x → Timing (A p) (B p) s)

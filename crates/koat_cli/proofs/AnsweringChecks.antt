@@ -1,9 +1,9 @@
 -- How calls end that ask for the check of a proof, both files being held.
 use Rattle.std.proofs.Common.{◌≡◌, ◌≢◌, ◌⊎◌, ℕ, List, refl, sym, subst, inl, inr}
-use Rattle.asks.specs.Requests.{Check}
+use Rattle.command_line.specs.Requests.{Check}
 use Rattle.model.specs.Programs.{Program}
-use Rattle.proof_tree.specs.proof_nodes.Gaps.{ProofFile}
-use Rattle.proof_tree.specs.proof_setting.Laws.{AcceptsFileFor}
+use Rattle.cert_types.specs.cert_rules.Gaps.{ProofFile}
+use Rattle.cert_types.specs.cert_program.Laws.{AcceptsFileFor}
 use Rattle.koat_cli.specs.declared.status.Status.{Status}
 use Rattle.koat_cli.specs.declared.status.Status.TheVariants.{Done, Unknown, Usage, ReadFault, WriteFault, Memory}
 use Rattle.koat_cli.specs.declared.status.Status.TheVariants.{ProgramRefused, ProofRefused, No, RunRefused, NotARun}
@@ -49,18 +49,18 @@ checking = record {
 }
 
 -- the four statuses are statuses of a check
-few_told : (A B C D : Type 0) (s : Status) → IsOneOf No ProofRefused A B C D s → IsStatusOfCheck s
-few_told A B C D s (IsDone is a) = subst IsStatusOfCheck (sym is) tt
-few_told A B C D s (IsBad is a) = subst IsStatusOfCheck (sym is) tt
-few_told A B C D s (IsNoText is a) = subst IsStatusOfCheck (sym is) tt
-few_told A B C D s (IsRefused is a) = subst IsStatusOfCheck (sym is) tt
+status_is_one : (A B C D : Type 0) (s : Status) → IsOneOf No ProofRefused A B C D s → IsStatusOfCheck s
+status_is_one A B C D s (IsDone is a) = subst IsStatusOfCheck (sym is) tt
+status_is_one A B C D s (IsBad is a) = subst IsStatusOfCheck (sym is) tt
+status_is_one A B C D s (IsNoText is a) = subst IsStatusOfCheck (sym is) tt
+status_is_one A B C D s (IsRefused is a) = subst IsStatusOfCheck (sym is) tt
 
 module _ (laws : Determined) (bytes proof_bytes : List ℕ) (call : Call) (put : Put)
     (h : AsksOfTwo call put Check bytes proof_bytes) where
-  -- so a status that isn't that of a fault or of want of memory is one of them
+  -- so a status that isn't that of a fault or of running out of memory is one of them
   few_tell : (s : Status) → Ends s call put → s ≢ Memory → IsStatusOfCheck s
   few_tell s ends memory =
-      few_told _ _ _ _ s
+      status_is_one _ _ _ _ s
       (tells Check proofs IsCheckOf AcceptsFileFor IsNotAccepted No ProofRefused checking laws bytes proof_bytes call put h s ends memory)
 
   -- and the call ends with one of five

@@ -1,6 +1,6 @@
 -- How calls end that ask for the replay of a run, both files being held.
 use Rattle.std.proofs.Common.{◌≡◌, ◌≢◌, ◌⊎◌, ℕ, List, refl, sym, subst, inl, inr}
-use Rattle.asks.specs.Requests.{Replay}
+use Rattle.command_line.specs.Requests.{Replay}
 use Rattle.model.specs.Programs.{Program}
 use Rattle.run_replay.specs.ReplayAnswers.{last_first}
 use Rattle.run_replay.specs.Runs.{Run}
@@ -49,17 +49,17 @@ replaying laws = record {
 }
 
 -- the four statuses are statuses of a replay
-few_told : (A B C D : Type 0) (s : Status) → IsOneOf NotARun RunRefused A B C D s → IsStatusOfReplay s
-few_told A B C D s (IsDone is a) = subst IsStatusOfReplay (sym is) tt
-few_told A B C D s (IsBad is a) = subst IsStatusOfReplay (sym is) tt
-few_told A B C D s (IsNoText is a) = subst IsStatusOfReplay (sym is) tt
-few_told A B C D s (IsRefused is a) = subst IsStatusOfReplay (sym is) tt
+status_is_one : (A B C D : Type 0) (s : Status) → IsOneOf NotARun RunRefused A B C D s → IsStatusOfReplay s
+status_is_one A B C D s (IsDone is a) = subst IsStatusOfReplay (sym is) tt
+status_is_one A B C D s (IsBad is a) = subst IsStatusOfReplay (sym is) tt
+status_is_one A B C D s (IsNoText is a) = subst IsStatusOfReplay (sym is) tt
+status_is_one A B C D s (IsRefused is a) = subst IsStatusOfReplay (sym is) tt
 
 module _ (laws : Determined) (bytes run_bytes : List ℕ) (call : Call) (put : Put) (h : AsksOfTwo call put Replay bytes run_bytes) where
-  -- so a status that isn't that of a fault or of want of memory is one of them
+  -- so a status that isn't that of a fault or of running out of memory is one of them
   few_tell : (s : Status) → Ends s call put → s ≢ Memory → IsStatusOfReplay s
   few_tell s ends memory =
-      few_told _ _ _ _ s
+      status_is_one _ _ _ _ s
       (tells Replay runs IsReplayOf IsInRange HasBadStep NotARun RunRefused (replaying laws) laws bytes run_bytes call put h s ends memory)
 
   -- and the call ends with one of five

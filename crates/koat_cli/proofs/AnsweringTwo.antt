@@ -3,8 +3,8 @@
 use Rattle.std.proofs.Common.{◌≡◌, ◌≢◌, ◌⊎◌, ◌↔◌, ℕ, ◌<◌, ◌≤◌, List, length, refl, sym, ◌∙◌, subst, inl, inr, arith}
 use Rattle.outside_io.specs.Fetching.{MayFail}
 use Rattle.outside_io.specs.Files.{IsHeld}
-use Rattle.asks.specs.Lines.{Word}
-use Rattle.asks.specs.Requests.{Request}
+use Rattle.command_line.specs.Lines.{Word}
+use Rattle.command_line.specs.Requests.{Request}
 use Rattle.its_reader.specs.its_text.Spelling.{SpellsWithin}
 use Rattle.model.specs.Programs.{Program}
 use Rattle.koat_cli.specs.declared.status.Status.{Status}
@@ -160,9 +160,9 @@ module _ {T : Type 0} (request : Word → Word → Request) (kind : Program → 
   Tells s = IsOneOf bad refused (SpellsOne bytes HasGood) (SpellsOne bytes HasBad) (SpellsOne bytes HasNone) (SpellsNone bytes) s
 
   module _ (call : Call) (put : Put) (h : AsksOfTwo call put request bytes second) where
-    -- what is said of a program that the bytes spell is said of them
+    -- what holds of a program that the bytes spell is answered of them
     module _ (p : Program) (is : SpellsWithin bytes p) (spelled : (A : Program → Type 0) → A p → SpellsOne bytes A) where
-      -- by what is said of the thing
+      -- by the answer about the text's subject
       of_thing : (s : Status) (t : T) → length second ≤ (kind p).limit → (kind p).StandsFor second t
           → ((s ≡ Done) × Good p t) ⊎ ((s ≡ bad) × Bad p t) → Tells s
       of_thing s t within stands (inl good) =
@@ -170,7 +170,7 @@ module _ {T : Type 0} (request : Word → Word → Request) (kind : Program → 
       of_thing s t within stands (inr wrong) =
           IsBad wrong.0 (spelled HasBad (record { within = within; thing = t; stands = stands; holds = wrong.1 }))
 
-      -- and by what the second file comes to
+      -- and by the result for the second file
       of_text : (s : Status) (x : List ℕ) → OnText (kind p) call.shelf h.second (Out p) s x → Tells s
       of_text s x (NoText (Unread a)) = absurd (may_not a.fault)
         where
@@ -208,7 +208,7 @@ module _ {T : Type 0} (request : Word → Word → Request) (kind : Program → 
           holds = holds;
         }) s x a.said
 
-    -- so does a status that isn't that of a fault or of want of memory
+    -- the same for a status that isn't that of a fault or of running out of memory
     pub tells : (s : Status) → Ends s call put → s ≢ Memory → Tells s
     tells s ends memory =
         let wrote = ends.wrote (λ e. h.no_write_fault (ends.write_fault e).fault) memory in

@@ -2,10 +2,10 @@
 use Rattle.std.proofs.Common.{◌≡◌, ◌⊎◌, inl, inr, ℕ, List, refl, sym, subst}
 use Rattle.outside_io.specs.Fetching.{MayFail}
 use Rattle.model.specs.Programs.{Program}
-use Rattle.asks.specs.Lines.{Word}
-use Rattle.asks.specs.Requests.{Check}
+use Rattle.command_line.specs.Lines.{Word}
+use Rattle.command_line.specs.Requests.{Check}
 use Rattle.check_text.specs.Verdicts.{IsAcceptance, IsRefusal}
-use Rattle.proof_tree.specs.proof_nodes.Gaps.{ProofFile}
+use Rattle.cert_types.specs.cert_rules.Gaps.{ProofFile}
 use Rattle.koat_cli.specs.declared.status.Status.{Status}
 use Rattle.koat_cli.specs.declared.status.Status.TheVariants.{Done, Unknown, Usage, ReadFault, WriteFault, Memory}
 use Rattle.koat_cli.specs.declared.status.Status.TheVariants.{ProgramRefused, ProofRefused, No, RunRefused, NotARun}
@@ -44,13 +44,13 @@ module _ (seen : Seen) (f q : Word) where
   proof_tells s x p proof given (Refuses h) =
       subst (λ (t : Status). Tells t x) (sym h.ends) (p, (proof, given, h.refused))
 
-  -- so does what the second file is answered with
+  -- the same for what the second file is answered with
   second_tells : (s : Status) (x : List ℕ) (p : Program) → GaveProgram seen f p → OnText (proofs p) seen q (IsCheckOf p) s x
       → Tells s x
   second_tells s x p given (NoText (Unread h)) =
       subst (λ (t : Status). Tells t x) (sym h.ends) (q, inr refl, inr (record { file = f; first = refl; program = p; gave = given }), h.fault)
   second_tells s x p given (NoText (OverLimit h)) =
-      subst (λ (t : Status). Tells t x) (sym h.ends) (p, given, inl (record { over = h.over; told = h.told; ends = refl }))
+      subst (λ (t : Status). Tells t x) (sym h.ends) (p, given, inl (record { over = h.over; result_is = h.result_is; ends = refl }))
   second_tells s x p given (NoText (RefusedText h)) =
       subst (λ (t : Status). Tells t x) (sym h.ends)
       (p, given, inr (record { bytes = h.bytes; fetched = h.fetched; refused = h.refused; ends = refl }))
@@ -64,7 +64,7 @@ module _ (seen : Seen) (f q : Word) where
       subst (λ (t : Status). Tells t x) (sym h.ends) (f, inl refl, inl refl, h.fault)
   check_tells s x (NoProgram (files.TooLong h)) =
       subst (λ (t : Status). Tells t x) (sym h.ends)
-      (inl (record { too_long = h.too_long; told = h.told; ends = refl }))
+      (inl (record { too_long = h.too_long; result_is = h.result_is; ends = refl }))
   check_tells s x (NoProgram (files.Refused h)) =
       subst (λ (t : Status). Tells t x) (sym h.ends) (inr (record {
         bytes = h.bytes;
@@ -72,7 +72,7 @@ module _ (seen : Seen) (f q : Word) where
         fault = h.fault;
         refused = h.refused;
         first = h.first;
-        told = h.told;
+        result_is = h.result_is;
         ends = refl;
       }))
   check_tells s x (Behind h) = second_tells s x h.program h.given h.said

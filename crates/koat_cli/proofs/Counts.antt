@@ -23,7 +23,7 @@ sum_seen f g view same (x ∷ xs) =
 abbrev pub one_where : Bool → ℕ
 one_where b = cond b 1 0
 
--- so is a count
+-- the same for a count
 count_seen : {X Y : Type 0} (p : X → Bool) (q : Y → Bool) (view : X → Y) → ((x : X) → p x ≡ q (view x)) → (xs : List X)
     → count_by p xs ≡ count_by q (map view xs)
 count_seen p q view same xs = sum_seen (λ x. one_where (p x)) (λ y. one_where (q y)) view (λ x. ap one_where (same x)) xs
@@ -31,10 +31,10 @@ count_seen p q view same xs = sum_seen (λ x. one_where (p x)) (λ y. one_where 
 -- an entry is known exactly where its size is one
 known_is_sized : (e : SizeEntry) → is_known_size e ≡ is_sized (size_of e)
 known_is_sized (sizes.Known s) = refl
-known_is_sized (sizes.Loose l) = refl
-known_is_sized (sizes.Tripped t) = refl
+known_is_sized (sizes.UnboundedSide l) = refl
+known_is_sized (sizes.OutOfLimits t) = refl
 known_is_sized (sizes.Missing s) = refl
-known_is_sized (sizes.Bent s) = refl
+known_is_sized (sizes.Nonlinear s) = refl
 known_is_sized (sizes.Untimed rule) = refl
 known_is_sized (sizes.Large nodes) = refl
 
@@ -57,7 +57,7 @@ places_counted items rows =
 abbrev pub Adds : {X : Type 0} → (X → ℕ) → List X → ℕ → ℕ → Type 0
 Adds f xs i n = (n ≡ sum_by f (take i xs)) × (n ≤ i * 18446744073709551616)
 
--- so it is with one more
+-- the same with one more
 pub adds_more : {X : Type 0} (f : X → ℕ) (xs : List X) (i n m : ℕ) (x : X) → i < length xs → Adds f xs i n → x ≡ get_or xs i x
     → m ≡ f x → m < 18446744073709551616 → Adds f xs (i + 1) (n + m)
 adds_more f xs i n m x lt h e is small =

@@ -5,7 +5,7 @@ use Rattle.time_bounds.proofs.OneAnalysis.{analysis_one}
 use Rattle.time_bounds.proofs.OneOutcome.{outcome_one}
 use Rattle.time_bounds.proofs.OneProgram.{program_searches_one}
 use Rattle.location_facts.proofs.Next.{kept-one}
-use Rattle.facts_report.proofs.OneFind.{one_find_each}
+use Rattle.facts_report.proofs.OneDerivation.{one_derivation_each}
 use Rattle.run_replay.specs.ReplayLaws.{ReplaysAreDecided}
 use Rattle.koat_cli.proofs.Exclusions.{Determined}
 
@@ -20,6 +20,6 @@ determined replays = record {
     outcomes = λ p pivots x y h l k m. outcome_one p pivots (program_searches_one.each p pivots) x y h l k m;
   };
   facts = kept-one;
-  finds = one_find_each;
+  derivations = one_derivation_each;
   replays = replays;
 }

@@ -18,7 +18,7 @@ ended_without_memory call put = record {
   shelf_fault = λ fault. tt;
 }
 
--- no text is said with the status of a fault of the sink or of want of memory
+-- no text comes with the status of a fault of the sink or of running out of memory
 pub not_write_fault : (call : Call) (s : Status) (x : List ℕ) → Says call s x → s ≢ WriteFault
 not_write_fault call s x said e = never_write_fault call x (subst (λ (t : Status). Says call t x) e said)
 

@@ -1,3 +1,4 @@
+-- laws of the top call: what each status means, that a call has one answer, and which; worked values
 pub mod Counts
 pub mod ReplayStatuses
 pub mod CheckStatuses

@@ -7,7 +7,7 @@ use Rattle.outcome.specs.declared.entry.TimeEntry.{TimeEntry}
 use Rattle.outcome.specs.declared.entry.TimeEntry.TheVariants as times
 use Rattle.outcome.specs.declared.entry.SizeEntry.{SizeEntry}
 use Rattle.outcome.specs.Views.{time_of, size_of}
-use Rattle.outcome.specs.proof_tree.declared.gap.Gap as code
+use Rattle.outcome.specs.cert_types.declared.gap.Gap as code
 use Rattle.koat_cli.specs.ReplayTexts.{lines_beside, count_line, greatest_line, greatest_lines, time_value, size_value}
 use Rattle.koat_cli.specs.Steps.{entry_value, place_lines}
 
@@ -69,7 +69,7 @@ beside_same f g u v same n (x ∷ xs) (y ∷ ys) =
 entry_is_time : (at : List ℕ) (gaps : List code.Gap) (e : TimeEntry) → entry_value at e ≡ time_value at (time_of gaps e)
 entry_is_time at gaps (times.Known s) = refl
 entry_is_time at gaps (times.Gap g) = refl
-entry_is_time at gaps (times.Tripped t) = refl
+entry_is_time at gaps (times.OutOfLimits t) = refl
 entry_is_time at gaps (times.Large nodes) = refl
 
 -- a list as it is
@@ -96,7 +96,7 @@ places_beside at rule numbers entries =
     ∙ ap (λ (ns : List ℕ). lines_beside (λ place n s. greatest_line rule place n (size_value at s)) 1 ns (map size_of entries))
     (same_list numbers)
 
--- so are those of all rules
+-- the same for those of all rules
 pub rows_beside : {R S : Type 0} (items : R → List ℕ) (entries : S → List SizeEntry) (at : List ℕ) (rows : List R) (sizes : List S)
     → lines_beside (λ rule r s. place_lines at rule 1 (items r) (entries s)) 1 rows sizes
     ≡ lines_beside (greatest_lines at) 1 (map items rows) (map (λ s. map size_of (entries s)) sizes)

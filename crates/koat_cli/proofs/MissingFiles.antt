@@ -10,9 +10,9 @@ use Rattle.outside_io.specs.Fetching.{IsTooLong, MayFail}
 use Rattle.model.specs.Programs.{Program}
 use Rattle.its_model.specs.text_core.Reading.{Answer, Stands, Refused}
 use Rattle.its_reader.specs.its_text.Kinds.{Kind}
-use Rattle.asks.specs.Lines.{Word}
-use Rattle.asks.specs.Requests.{Request, Check, Replay}
-use Rattle.proof_tree.specs.proof_setting.Laws.{AcceptsFileFor}
+use Rattle.command_line.specs.Lines.{Word}
+use Rattle.command_line.specs.Requests.{Request, Check, Replay}
+use Rattle.cert_types.specs.cert_program.Laws.{AcceptsFileFor}
 use Rattle.koat_cli.specs.declared.status.Status.{Status}
 use Rattle.koat_cli.specs.declared.status.Status.TheVariants.{Done, ReadFault, Memory, ProgramRefused}
 use Rattle.koat_cli.specs.declared.status.Status.TheVariants.{ProofRefused, No, RunRefused, NotARun}
@@ -29,7 +29,7 @@ use Rattle.koat_cli.specs.Ends.{Ends}
 use Rattle.koat_cli.specs.Answering.{SpellsOne, SpellsNone}
 use Rattle.koat_cli.specs.AnsweringChecks.{IsNotAccepted}
 use Rattle.koat_cli.specs.AnsweringReplays.{IsInRange, HasBadStep}
-use Rattle.koat_cli.specs.MissingFiles.{AsksOnShelf, MissesFile, GivesNoProgram, TellsMissing, MissingFilesAreTold}
+use Rattle.koat_cli.specs.MissingFiles.{AsksOnShelf, MissesFile, GivesNoProgram, TellsMissing, MissingFilesAreReported}
 use Rattle.koat_cli.proofs.Answering.{same_held, refused_for_none, program_apart}
 use Rattle.koat_cli.proofs.AnsweringChecks.{checking}
 use Rattle.koat_cli.proofs.AnsweringReplays.{replaying}
@@ -132,7 +132,7 @@ module _ {T : Type 0} (request : Word → Word → Request) (kind : Program → 
   text_missed s x p none (OfText a) =
       absurd (not_given seen shelf file second tells steady second a.given.bytes none a.given.fetched.held)
 
-  -- so is a program
+  -- the same for a program
   pub program_missed : (s : Status) (x : List ℕ) → get shelf file ≡ None → Says s x → s ≡ ReadFault
   program_missed s x none (NoProgram (files.Unread a)) = a.ends
   program_missed s x none (NoProgram (files.TooLong a)) =
@@ -198,11 +198,11 @@ module _ {T : Type 0} (request : Word → Word → Request) (kind : Program → 
   refused_of s x (Behind a) e = absurd (second_other s x a.program a.said e)
 
   -- and what is there and spells none is refused so
-  pub told_refused : (s : Status) (x bytes : List ℕ) → get shelf file ≡ Some bytes → SpellsNone bytes → Says s x
+  pub refused_is_program : (s : Status) (x bytes : List ℕ) → get shelf file ≡ Some bytes → SpellsNone bytes → Says s x
       → s ≡ ProgramRefused
-  told_refused s x bytes is none (NoProgram a) =
+  refused_is_program s x bytes is none (NoProgram a) =
       (refused_for_none laws seen file bytes s x (held_some seen shelf file second tells steady file bytes is) steady a).0
-  told_refused s x bytes is none (Behind a) =
+  refused_is_program s x bytes is none (Behind a) =
       let same : a.given.bytes ≡ bytes =
       same_held seen.held file bytes a.given.bytes (held_some seen shelf file second tells steady file bytes is) a.given.held in
       let spelled : SpellsOne bytes (λ p. p ≡ a.program) =
@@ -227,13 +227,13 @@ tells_missing request kind Out Good Bad bad refused command laws = record {
       let answer = command.answers call.shelf file second s wrote.text
       (answer_of call (request file second) s wrote.text h.asked wrote.says) in (
         refused_of request kind Out Good Bad bad refused command laws call.shelf shelf file second h.held h.no_read_fault s wrote.text answer,
-        (λ m. told_refused request kind Out Good Bad bad refused command laws call.shelf shelf file second h.held h.no_read_fault s wrote.text m.0 m.1.0 m.1.1 answer),
+        (λ m. refused_is_program request kind Out Good Bad bad refused command laws call.shelf shelf file second h.held h.no_read_fault s wrote.text m.0 m.1.0 m.1.1 answer),
       );
 }
 
 -- the law
-pub missing_files_told : Determined → MissingFilesAreTold
-missing_files_told laws = record {
+pub missing_files_reported : Determined → MissingFilesAreReported
+missing_files_reported laws = record {
   checks = tells_missing Check proofs IsCheckOf AcceptsFileFor IsNotAccepted No ProofRefused checking laws;
   replays = tells_missing Replay runs IsReplayOf IsInRange HasBadStep NotARun RunRefused (replaying laws) laws;
 }

@@ -1,7 +1,7 @@
 -- How calls end that ask for nothing, or for something by a number.
 use Rattle.std.proofs.Common.{◌≡◌, ◌⊎◌, ◌↔◌, ℕ, List, refl, subst, inl, inr}
 use Rattle.its_writer.specs.Generated.{generated}
-use Rattle.asks.specs.Requests.{Generate, Selfrun, Asks, default_pivots}
+use Rattle.command_line.specs.Requests.{Generate, Selfrun, Asks, default_pivots}
 use Rattle.outcome.specs.Views.{report_of}
 use Rattle.koat_cli.specs.declared.status.Status.{Status}
 use Rattle.koat_cli.specs.declared.status.Status.TheVariants.{Done, Unknown, Usage}
@@ -17,7 +17,7 @@ use Rattle.koat_cli.proofs.Answering.{TimingOf, AllTimed, SomeUntimed, timing_of
 wrote : (call : Call) (put : Put) (s : Status) → EndsWell s call put → WroteWhole s call put
 wrote call put s h = h.ends.wrote h.no_write_fault h.memory
 
--- where nothing is asked for, the usage text comes
+-- where there is no request, the usage text comes
 nothing_gets_usage : (call : Call) (s : Status) (x : List ℕ) → AsksForNothing call.words → Says call s x → s ≡ Usage
 nothing_gets_usage call s x none (ToNothing nothing h) = h.ends
 nothing_gets_usage call s x none (ToRequest r asked h) = absurd (none r asked)

@@ -4,9 +4,9 @@ use Rattle.std.proofs.Common.{subst}
 use Rattle.std.specs.List.{list_all}
 use Rattle.std.specs.Io.KnownBytes.{Appends}
 use Rattle.outside_io.specs.Fetching.{MayFail}
-use Rattle.asks.specs.Lines.{Word}
-use Rattle.asks.specs.Requests.{Request, Analyse, Prove, Check, Replay, Generate, Selfrun, Facts, Asks}
-use Rattle.asks.proofs.OneWay.{read_in_one_way}
+use Rattle.command_line.specs.Lines.{Word}
+use Rattle.command_line.specs.Requests.{Request, Analyse, Prove, Check, Replay, Generate, Selfrun, Facts, Asks}
+use Rattle.command_line.proofs.OneWay.{read_in_one_way}
 use Rattle.outcome.specs.Reports.{Report, is_timed}
 use Rattle.outcome.specs.Views.{report_of}
 use Rattle.koat_cli.specs.declared.status.Status.{Status}
@@ -95,13 +95,13 @@ never_usage_of seen (Selfrun n) x h = never_usage (report_of h.outcome) h.ends
 never_usage_of seen (Facts n f) x (Without h) = no_usage seen f x h
 never_usage_of seen (Facts n f) x (Of h) = never_usage h.said.report h.said.ends
 
--- where a call answers with the status of the usage text, nothing is asked for
+-- where a call answers with the status of the usage text, there is no request
 pub usage_for_nothing : (call : Call) (x : List ℕ) → Says call Usage x → AsksForNothing call.words
 usage_for_nothing call x said r asked = never_usage_of call.shelf r x (answer_of call r Usage x asked said)
 
 -- and the text is the usage text
 pub usage_says : (call : Call) (x : List ℕ) → Says call Usage x → x ≡ usage_text
-usage_says call x (ToNothing none h) = h.told
+usage_says call x (ToNothing none h) = h.result_is
 usage_says call x (ToRequest r asked h) = absurd (never_usage_of call.shelf r x h)
 
 -- a time that is unknown is one of a program that is analysed
@@ -150,11 +150,11 @@ fault_of call (Prove n f) x asked (Without h) = (
 )
 fault_of call (Prove n f) x asked (Of h) = absurd (never_read_fault (report_of h.said.outcome) h.said.ends)
 fault_of call (Check f q) x asked h =
-    let told : CheckTells call.shelf f q ReadFault x = check_tells call.shelf f q ReadFault x h in
-    (told.0, record { request = Check f q; asked = asked; named = told.1; fetched = told.2; fault = told.3 })
+    let result_is : CheckTells call.shelf f q ReadFault x = check_tells call.shelf f q ReadFault x h in
+    (result_is.0, record { request = Check f q; asked = asked; named = result_is.1; fetched = result_is.2; fault = result_is.3 })
 fault_of call (Replay f q) x asked h =
-    let told : Tells call.shelf f q ReadFault x = replay_tells call.shelf f q ReadFault x h in
-    (told.0, record { request = Replay f q; asked = asked; named = told.1; fetched = told.2; fault = told.3 })
+    let result_is : Tells call.shelf f q ReadFault x = replay_tells call.shelf f q ReadFault x h in
+    (result_is.0, record { request = Replay f q; asked = asked; named = result_is.1; fetched = result_is.2; fault = result_is.3 })
 fault_of call (Generate n) x asked h = absurd (let e : ReadFault ≡ Done = h.ends in let no_way : ⊥ = cc in no_way)
 fault_of call (Selfrun n) x asked h = absurd (never_read_fault (report_of h.outcome) h.ends)
 fault_of call (Facts n f) x asked (Without h) = (

@@ -1,14 +1,14 @@
--- What is prepared is said: of the request that words ask for, and of a generated program.
+-- What is prepared is the answer: to the request of words, and about a generated program.
 use Rattle.std.proofs.Common.{◌≡◌, ℕ, ◌≤◌, ◌<◌, arith, List, length, Option, Some, Result, Ok, Err, IfOk, MatchOption, subst, sym, ◌∙◌, ap, refl}
 use Rattle.std.proofs.lemmas.Result.{IfOk-weaker}
 use Rattle.model.specs.Programs.{Program}
 use Rattle.its_reader.specs.its_text.Spelling.{SpellsWithin}
 use Rattle.its_writer.specs.Generated.{generated}
 use Rattle.its_writer.specs.Texts.{canonical_text}
-use Rattle.asks.specs.Lines.{Words}
-use Rattle.asks.specs.Requests.{Request, Asks, default_pivots}
-use Rattle.asks.specs.Views.{request_of}
-use Rattle.asks.specs.declared.request.Request as declared
+use Rattle.command_line.specs.Lines.{Words}
+use Rattle.command_line.specs.Requests.{Request, Asks, default_pivots}
+use Rattle.command_line.specs.Views.{request_of}
+use Rattle.command_line.specs.declared.request.Request as declared
 use Rattle.outcome.specs.declared.outcome_of.Outcome.{Outcome}
 use Rattle.outcome.specs.Holding.{ReportHolds}
 use Rattle.outcome.specs.Views.{report_of}
@@ -20,7 +20,7 @@ use Rattle.koat_cli.specs.declared.status.Status.TheVariants.{Done}
 use Rattle.koat_cli.specs.declared.status_text.StatusText.{StatusText}
 use Rattle.outside_io.specs.Files.{Files}
 use Rattle.outside_io.specs.declared.shelf.Shelf as shelf
-use Rattle.asks.specs.Lines.{Word}
+use Rattle.command_line.specs.Lines.{Word}
 use Rattle.koat_cli.specs.Calls.{Seen, Call, seen_of}
 use Rattle.koat_cli.specs.OnFiles.{GivesProgram}
 use Rattle.koat_cli.specs.OnTexts.{OnProgramFirst, Behind}
@@ -34,7 +34,7 @@ asked : (words : Words) (o : Option declared.Request) (r : declared.Request) →
 asked words o r e h =
     subst (λ (p : Option declared.Request). MatchOption p ((q : Request) → ¬ (Asks words q)) (λ q. Asks words (request_of q))) e h
 
--- what is answered of it is said
+-- the prepared answer is the answer of the call
 pub said_of : {E : Type 0} (call : Call) (o : Option declared.Request) (r : declared.Request) (given : Result StatusText E) → o ≡ Some r
     → MatchOption o ((q : Request) → ¬ (Asks call.words q)) (λ q. Asks call.words (request_of q))
     → IfOk given (λ said. Answers call.shelf (request_of r) said.status said.text.items)
@@ -46,10 +46,10 @@ said_of call o r given e h answered =
 -- the text of a program that is the generated one
 pub generated_text : (n : ℕ) (p : Program) (x : List ℕ) → p ≡ generated n → x ≡ canonical_text p
     → SpellsWithin (canonical_text p) p → IsGenerated n Done x
-generated_text n p x e told spelled =
-    let is : x ≡ canonical_text (generated n) = told ∙ ap canonical_text e in
+generated_text n p x e result_is spelled =
+    let is : x ≡ canonical_text (generated n) = result_is ∙ ap canonical_text e in
     record {
-      told = is;
+      result_is = is;
       spelled = subst (λ (t : List ℕ). SpellsWithin t (generated n)) (sym is)
           (subst (λ (q : Program). SpellsWithin (canonical_text q) q) e spelled);
       ends = refl;
@@ -59,12 +59,12 @@ generated_text n p x e told spelled =
 pub summary_of : (p q : Program) (o : Outcome) (s : Status) (x : List ℕ) → p ≡ q → IsAnalysis p default_pivots (report_of o)
     → ReportHolds p (report_of o) → ReasonsAreTrue p default_pivots (report_of o) → HasLemmas p default_pivots o
     → x ≡ text_of_figures p (report_of o) (length o.lemmas.items) → s ≡ status_of (report_of o) → IsSummaryOf q s x
-summary_of p q o s x e found holds reasons lemmas told ends =
+summary_of p q o s x e found holds reasons lemmas result_is ends =
     subst (λ (r : Program). IsSummaryOf r s x) e record {
       outcome = o;
       found = record { found = found; true_on_all_runs = holds; reasons = reasons };
       lemmas = lemmas;
-      told = told;
+      result_is = result_is;
       ends = ends;
     }
 

@@ -12,21 +12,21 @@ use Rattle.text_grammar.specs.text_core.Reading.{Answer, Answers as ReadAnswers,
 use Rattle.text_grammar.specs.Texts.{reader}
 use Rattle.text_grammar.proofs.text_core.FirstFaults.{answer_is, one_first_each}
 use Rattle.text_grammar.proofs.ReaderLaws.{reader_laws}
-use Rattle.proof_tree.specs.proof_nodes.GapChecks.{GapFault}
-use Rattle.proof_tree.specs.proof_nodes.Gaps.{ProofFile}
-use Rattle.proof_tree.specs.proof_nodes.Reasons.{Reason}
-use Rattle.proof_tree.specs.proof_setting.Laws.{AcceptsFileFor}
-use Rattle.proof_tree.specs.proof_setting.RankedSets.{forms_at}
-use Rattle.proof_tree.specs.proof_setting.Setting.{setting_of}
-use Rattle.proof_tree.proofs.proof_nodes.FilesInLine.{file-refusals-in-line}
-use Rattle.proof_tree.proofs.proof_nodes.Refusals.{refusals-in-line}
-use Rattle.proof_text.specs.Reading.{proofs_of}
-use Rattle.proof_text.specs.Spelled.{IsTextWithin}
-use Rattle.proof_text.specs.proof_pieces.declared.kind.ProofKind.{ProofKind}
-use Rattle.proof_text.specs.proof_pieces.Lexing.{tokens}
-use Rattle.proof_text.proofs.FileTexts.{text_stands}
-use Rattle.proof_text.proofs.Lawful.{lawful}
-use Rattle.proof_text.proofs.States.{sure_of}
+use Rattle.cert_types.specs.cert_rules.GapChecks.{GapFault}
+use Rattle.cert_types.specs.cert_rules.Gaps.{ProofFile}
+use Rattle.cert_types.specs.cert_rules.Reasons.{Reason}
+use Rattle.cert_types.specs.cert_program.Laws.{AcceptsFileFor}
+use Rattle.cert_types.specs.cert_program.RankedSets.{forms_at}
+use Rattle.cert_types.specs.cert_program.Setting.{setting_of}
+use Rattle.cert_types.proofs.cert_rules.FilesInLine.{file-refusals-in-line}
+use Rattle.cert_types.proofs.cert_rules.Refusals.{refusals-in-line}
+use Rattle.cert_text.specs.Reading.{proofs_of}
+use Rattle.cert_text.specs.Spelled.{IsTextWithin}
+use Rattle.cert_text.specs.cert_lexer.declared.kind.ProofKind.{ProofKind}
+use Rattle.cert_text.specs.cert_lexer.Lexing.{tokens}
+use Rattle.cert_text.proofs.FileTexts.{text_stands}
+use Rattle.cert_text.proofs.Lawful.{lawful}
+use Rattle.cert_text.proofs.States.{sure_of}
 use Rattle.check_text.specs.Texts.{accepted_text, no_lemma_text, no_gap_text, proof_refusal_text}
 use Rattle.check_text.specs.Verdicts.{IsAcceptance, IsRefusal, AtNode, AtGap}
 use Rattle.koat_cli.specs.declared.status.Status.{Status}
@@ -42,7 +42,7 @@ one_proof_fault : (p : Program) (bytes : List ℕ) (x y : Fault ProofKind)
 one_proof_fault p bytes x y =
     (one_first_each (reader (proofs_of p)) (reader_laws (proofs_of p) (lawful p))).each (length bytes) (tokens p bytes) x y
 
--- nothing stands against the text of a proof file within the limits, which is a text of no other one
+-- the text of a proof file within the limits has no fault, and is the text of no other one
 text_is_read : (p : Program) (bytes : List ℕ) (f : ProofFile) → IsValid p → length p.symbols < 2 ^ 32 → IsTextWithin p bytes f
     → IsTree (reader (proofs_of p)) (length bytes) (tokens p bytes) f
 text_is_read p bytes f valid few h =
@@ -61,7 +61,7 @@ pub proof_texts_decided : (spelling : List ℕ) (p : Program) → SpellsWithin s
 proof_texts_decided spelling p spelled = record {
   one = λ bytes a b h k. (text_read spelling p spelled bytes b k).only a (text_read spelling p spelled bytes a h).written;
   one_refusal = λ bytes x y a b.
-      a.told ∙ (ap (λ (f : Fault ProofKind). proof_refusal_text f) (one_proof_fault p bytes a.fault b.fault a.first b.first) ∙ sym b.told);
+      a.result_is ∙ (ap (λ (f : Fault ProofKind). proof_refusal_text f) (one_proof_fault p bytes a.fault b.fault a.first b.first) ∙ sym b.result_is);
   apart = λ bytes f x stands refused. (text_read spelling p spelled bytes f stands).faultless refused.fault refused.first.is;
 }
 
@@ -76,23 +76,23 @@ refused_not_accepted p f x (AtGap b) accepts =
 one_refusal : (p : Program) (f : ProofFile) (x y : List ℕ) → IsRefusal p f x → IsRefusal p f y → x ≡ y
 one_refusal p f x y (AtNode a) (AtNode b) =
     let one = refusals-in-line.one (setting_of p) f.lemmas a.lemma b.lemma a.node b.node a.reason b.reason a.refused b.refused in
-    a.told
+    a.result_is
     ∙ (ap (λ (n : ℕ). no_lemma_text n a.node a.reason) one.0
     ∙ (ap (λ (n : ℕ). no_lemma_text b.lemma n a.reason) one.1
-    ∙ (ap (λ (r : Reason). no_lemma_text b.lemma b.node r) one.2 ∙ sym b.told)))
+    ∙ (ap (λ (r : Reason). no_lemma_text b.lemma b.node r) one.2 ∙ sym b.result_is)))
 one_refusal p f x y (AtNode a) (AtGap b) =
     absurd (file-refusals-in-line.not_both (setting_of p) (forms_at p) f a.lemma a.node b.gap a.reason b.fault a.refused b.refused)
 one_refusal p f x y (AtGap a) (AtNode b) =
     absurd (file-refusals-in-line.not_both (setting_of p) (forms_at p) f b.lemma b.node a.gap b.reason a.fault b.refused a.refused)
 one_refusal p f x y (AtGap a) (AtGap b) =
     let one = file-refusals-in-line.one (setting_of p) (forms_at p) f a.gap b.gap a.fault b.fault a.refused b.refused in
-    a.told ∙ (ap (λ (n : ℕ). no_gap_text p n a.fault) one.0 ∙ (ap (λ (r : GapFault). no_gap_text p b.gap r) one.1 ∙ sym b.told))
+    a.result_is ∙ (ap (λ (n : ℕ). no_gap_text p n a.fault) one.0 ∙ (ap (λ (r : GapFault). no_gap_text p b.gap r) one.1 ∙ sym b.result_is))
 
 -- and it is accepted with one text
 one_acceptance : (p : Program) (f : ProofFile) (x y : List ℕ) → IsAcceptance p f x → IsAcceptance p f y → x ≡ y
 one_acceptance p f x y a b =
-    let same : a.facts ≡ b.facts = a.accepted.told ∙ sym b.accepted.told in
-    a.told ∙ (ap (λ (facts : List Fact). accepted_text p facts f.gaps) same ∙ sym b.told)
+    let same : a.facts ≡ b.facts = a.accepted.result_is ∙ sym b.accepted.result_is in
+    a.result_is ∙ (ap (λ (facts : List Fact). accepted_text p facts f.gaps) same ∙ sym b.result_is)
 
 -- a proof file has one check
 pub one_check : (p : Program) (f : ProofFile) (s t : Status) (x y : List ℕ) → IsCheckOf p f s x → IsCheckOf p f t y

@@ -5,9 +5,9 @@ use Rattle.model.specs.Programs.{Program}
 use Rattle.outcome.specs.Holding.{ReportHolds}
 use Rattle.outcome.specs.Views.{report_of}
 use Rattle.outcome.specs.declared.outcome_of.Outcome.{Outcome}
-use Rattle.proof_text.specs.Texts.{text_of}
-use Rattle.proved_files.specs.ProvedFiles.{IsOutcomeOf, file_of_outcome}
-use Rattle.proved_files.proofs.ProvedFiles.{proved-accepted}
+use Rattle.cert_text.specs.Texts.{text_of}
+use Rattle.analysis_certs.specs.ProvedFiles.{IsOutcomeOf, file_of_outcome}
+use Rattle.analysis_certs.proofs.ProvedFiles.{proved-accepted}
 use Rattle.time_bounds.specs.Analysis.{IsAnalysis}
 use Rattle.time_bounds.specs.AnalysisLemmas.{HasLemmas}
 use Rattle.time_bounds.specs.Whys.{ReasonsAreTrue}
@@ -19,7 +19,7 @@ use Rattle.koat_cli.specs.Outputs.{status_of}
 pub proof_said : (p : Program) (pivots : ℕ) (o : Outcome) (s : Status) (x : List ℕ) → IsValid p
     → IsAnalysis p pivots (report_of o) → ReportHolds p (report_of o) → ReasonsAreTrue p pivots (report_of o)
     → HasLemmas p pivots o → s ≡ status_of (report_of o) → x ≡ text_of p (file_of_outcome o) → IsProofOf p pivots s x
-proof_said p pivots o s x valid found holds reasons lemmas ends told =
+proof_said p pivots o s x valid found holds reasons lemmas ends result_is =
     let is : IsOutcomeOf p pivots o = record { found = found; lemmas = lemmas } in
     record {
       outcome = o;
@@ -27,7 +27,7 @@ proof_said p pivots o s x valid found holds reasons lemmas ends told =
         found = record { found = found; true_on_all_runs = holds; reasons = reasons };
         lemmas = lemmas;
         accepted = proved-accepted.accepted p pivots o valid is;
-        told = record { text = sym told; within = proved-accepted.within p pivots o valid is };
+        result_is = record { text = sym result_is; within = proved-accepted.within p pivots o valid is };
       };
       ends = ends;
     }

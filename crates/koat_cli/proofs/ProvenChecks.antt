@@ -3,12 +3,12 @@ use Rattle.std.proofs.Common.{◌≡◌, ◌≢◌, ◌⊎◌, ℕ, ◌^◌, ◌
 use Rattle.std.proofs.Common.{◌∙◌, subst, inl, inr, true, false}
 use Rattle.std.proofs.lemmas.List.{append_cancel_left}
 use Rattle.std.specs.Io.KnownBytes.{Appends}
-use Rattle.asks.specs.Requests.{Prove, Check}
+use Rattle.command_line.specs.Requests.{Prove, Check}
 use Rattle.its_reader.specs.its_text.Spelling.{SpellsWithin}
 use Rattle.model.specs.Programs.{Program}
-use Rattle.proof_tree.specs.proof_setting.Laws.{AcceptsFileFor}
-use Rattle.proof_text.specs.Spelled.{IsTextWithin}
-use Rattle.proved_files.specs.ProvedFiles.{file_of_outcome}
+use Rattle.cert_types.specs.cert_program.Laws.{AcceptsFileFor}
+use Rattle.cert_text.specs.Spelled.{IsTextWithin}
+use Rattle.analysis_certs.specs.ProvedFiles.{file_of_outcome}
 use Rattle.koat_cli.specs.declared.status.Status.{Status}
 use Rattle.koat_cli.specs.declared.status.Status.TheVariants.{Done, Unknown, WriteFault, Memory}
 use Rattle.koat_cli.specs.Calls.{Call, Put}
@@ -24,17 +24,17 @@ use Rattle.koat_cli.proofs.AnsweringChecks.{checks_answered}
 use Rattle.koat_cli.proofs.Exclusions.{Determined}
 use Rattle.koat_cli.proofs.OneRequest.{answer_of, no_done, no_unknown}
 
--- what was appended where it is told is one text
+-- what was appended to disclosed bytes is one text
 one_appended : (before after : Option (List ℕ)) (x y : List ℕ) → IsSome before → Appends before after x → Appends before after y
     → x ≡ y
-one_appended None after x y told a b = absurd (different told)
+one_appended None after x y result_is a b = absurd (different result_is)
   where
     different : false ≡ true → ⊥
     different e = cc
-one_appended (Some old) None x y told a b = absurd a
-one_appended (Some old) (Some new) x y told a b = append_cancel_left old x y (sym a ∙ b)
+one_appended (Some old) None x y result_is a b = absurd a
+one_appended (Some old) (Some new) x y result_is a b = append_cancel_left old x y (sym a ∙ b)
 
--- a status with which something is proved isn't that of a fault or of want of memory
+-- a status with which something is proved isn't that of a fault or of running out of memory
 module _ (s : Status) where
   no_fault : (s ≡ Done) ⊎ (s ≡ Unknown) → s ≢ WriteFault
   no_fault (inl e) fault = apart (sym e ∙ fault)
@@ -75,7 +75,7 @@ module _ (bytes text : List ℕ) (w : WroteProofText bytes text) (short : length
       let same : h.given.bytes ≡ bytes =
       same_held w.call.shelf.held w.asked.file bytes h.given.bytes w.asked.held h.given.fetched.held in
       let spelled : SpellsWithin bytes p = subst (λ (b : List ℕ). SpellsWithin b p) same h.given.spelled in
-      let told : IsTextWithin p text f = subst (λ (t : List ℕ). IsTextWithin p t f) is h.said.proved.told in
+      let result_is : IsTextWithin p text f = subst (λ (t : List ℕ). IsTextWithin p t f) is h.said.proved.result_is in
       record {
         within = subst (λ (b : List ℕ). length b ≤ program_limit) same h.given.fetched.within;
         program = p;
@@ -83,7 +83,7 @@ module _ (bytes text : List ℕ) (w : WroteProofText bytes text) (short : length
         holds = record {
           within = short;
           thing = f;
-          stands = told;
+          stands = result_is;
           holds = h.said.proved.accepted;
         };
       }

@@ -1,4 +1,4 @@
--- What is read, refused and said.
+-- What is read, refused and answered.
 use Rattle.std.proofs.Common.{◌≡◌, ◌≢◌, ℕ, Bool, true, false, if◌then◌else◌, List, Option, Some, None, Ok, Err}
 use Rattle.std.proofs.Common.{IfSome, refl, sym, ◌∙◌, ap, subst}
 use Rattle.std.specs.List.{list_all}
@@ -21,8 +21,8 @@ use Rattle.its_reader.specs.declared.error.ReadError.TheVariants as errors
 use Rattle.koat_cli.specs.declared.status.Status.{Status}
 use Rattle.koat_cli.specs.declared.status.Status.TheVariants.{Done, Unknown, Usage, ReadFault, WriteFault, Memory}
 use Rattle.koat_cli.specs.declared.status.Status.TheVariants.{ProgramRefused, ProofRefused, No, RunRefused, NotARun}
-use Rattle.asks.specs.Lines.{Word}
-use Rattle.asks.specs.Requests.{Request, Analyse, Prove, Check, Replay, Generate, Selfrun, Facts}
+use Rattle.command_line.specs.Lines.{Word}
+use Rattle.command_line.specs.Requests.{Request, Analyse, Prove, Check, Replay, Generate, Selfrun, Facts}
 use Rattle.koat_cli.specs.Calls.{Seen, Call}
 use Rattle.koat_cli.specs.Report.{refusal_text}
 use Rattle.koat_cli.specs.Outputs.{status_of}
@@ -73,13 +73,13 @@ pub has_fault : (o : Option (Fault Kind)) → (o ≡ None → ⊥) → (x : Faul
 has_fault None h = absurd (h refl)
 has_fault (Some x) h = (x, refl)
 
--- bytes against which something stands are refused for what stands first
+-- bytes with a fault are refused for the first one
 pub refused_first : (seen : Seen) (file : Word) (bytes : List ℕ) (e : ReadError) (text : List ℕ) → reader.Says (verdict bytes) (Err e)
     → IfSome (reader.fault_in e) (λ x. text ≡ refusal_text x) → (reader.fault_in e ≡ None → ⊥)
     → Fetches seen file program_limit bytes → IsNoProgram seen file ProgramRefused text
-refused_first seen file bytes e text says told given fetched =
+refused_first seen file bytes e text says result_is given fetched =
     let fault = has_fault (reader.fault_in e) given in
-    let text_is : text ≡ refusal_text fault.0 = subst (λ (o : Option (Fault Kind)). IfSome o (λ x. text ≡ refusal_text x)) fault.1 told in
+    let text_is : text ≡ refusal_text fault.0 = subst (λ (o : Option (Fault Kind)). IfSome o (λ x. text ≡ refusal_text x)) fault.1 result_is in
     let refused : verdict bytes ≡ Refused fault.0 = read_refused (verdict bytes) e fault.0 fault.1 says in
     files.Refused (record {
       bytes = bytes;
@@ -87,7 +87,7 @@ refused_first seen file bytes e text says told given fetched =
       fault = fault.0;
       refused = refused;
       first = subst (λ (a : Answer Program Kind). IsVerdict bytes a) refused (verdicts_are_right.each bytes);
-      told = text_is;
+      result_is = text_is;
       ends = refl;
     })
 
@@ -157,7 +157,7 @@ module _ (Holds : Status → Type 0) (done : Holds Done) (unknown : Holds Unknow
   of_check proof_refused no_proof seen f q RunRefused x h = absurd h
   of_check proof_refused no_proof seen f q NotARun x h = absurd h
 
-  -- so of each with which another request is answered than one for a replay
+  -- the same for each with which another request is answered than one for a replay
   pub of_no_replay : Holds ProofRefused → Holds No → (seen : Seen) (r : Request) (s : Status) (x : List ℕ)
       → ((f q : Word) → r ≢ Replay f q) → Answers seen r s x → Holds s
   of_no_replay proof_refused no_proof seen (Check f q) s x other h =
@@ -194,16 +194,16 @@ module _ (Holds : Status → Type 0) (done : Holds Done) (unknown : Holds Unknow
     of_answer seen (Selfrun n) s x h = of_single seen (Selfrun n) s x (λ g q e. cc) (λ g q e. cc) h
     of_answer seen (Facts n f) s x h = of_single seen (Facts n f) s x (λ g q e. cc) (λ g q e. cc) h
 
-    -- so of each with which a call answers
+    -- the same for each with which a call answers
     of_says : (call : Call) (s : Status) (x : List ℕ) → Says call s x → Holds s
     of_says call s x (ToNothing none h) = subst Holds (sym h.ends) usage
     of_says call s x (ToRequest r asked h) = of_answer call.shelf r s x h
 
--- a call answers neither with the status of a fault of the sink nor with that of want of memory
+-- a call answers neither with the status of a fault of the sink nor with that of running out of memory
 pub says_said : (call : Call) (s : Status) (x : List ℕ) → Says call s x → IsSaid s
 says_said = of_says IsSaid tt tt tt tt tt tt tt tt tt
 
--- what is said with a status that no call answers with
+-- a text with a status that no call answers with
 pub never_write_fault : (call : Call) (x : List ℕ) → ¬ (Says call WriteFault x)
 never_write_fault call x h = says_said call WriteFault x h
 

@@ -1,4 +1,4 @@
--- One answer fits a file with a text that belongs to a program, where the shelf tells what it holds.
+-- A file with a text that belongs to a program has one answer, where the shelf discloses its contents.
 use Rattle.std.proofs.Common.{◌≡◌, ℕ, ◌≤◌, ◌<◌, List, length, Option, Some, None, sym, ◌∙◌, ap, subst, inl, inr, arith}
 use Rattle.std.proofs.Common.{true, false, Bool, nat_lt, ◌⊎◌}
 use Rattle.std.proofs.lemmas.Bool.Decides.{nat_tests}
@@ -6,7 +6,7 @@ use Rattle.std.specs.Prelude.{IsSomeAnd}
 use Rattle.std.specs.FinMap.{get}
 use Rattle.outside_io.specs.Fetching.{MayFail}
 use Rattle.outside_io.specs.Files.{Files, Lacks}
-use Rattle.asks.specs.Lines.{Word}
+use Rattle.command_line.specs.Lines.{Word}
 use Rattle.model.specs.Programs.{Program}
 use Rattle.koat_cli.proofs.RunAnswers.{one_run_of, no_first_fault, one_first_fault}
 use Rattle.run_replay.specs.text_core.Readers.{Fault}
@@ -30,7 +30,7 @@ pub run_texts_decided : (p : Program) → IsDecided (runs p)
 run_texts_decided p = record {
   one = one_run_of p;
   one_refusal = λ bytes x y a b.
-      a.told ∙ (ap (λ (f : Fault RunKind). run_refusal_text f) (one_first_fault p bytes a.fault b.fault a.first b.first) ∙ sym b.told);
+      a.result_is ∙ (ap (λ (f : Fault RunKind). run_refusal_text f) (one_first_fault p bytes a.fault b.fault a.first b.first) ∙ sym b.result_is);
   apart = λ bytes r x stands refused. no_first_fault p bytes r refused.fault stands refused.first;
 }
 
@@ -60,14 +60,14 @@ module _ {T : Type 0} (kind : TextKind T) (Out : T → Status → List ℕ → T
       let short : nat_lt kind.limit (length b) ≡ false = grind (arith, nat_tests) in
       subst (λ (p : Option (List ℕ)). TellsFile p) (sym e) (subst (λ (v : Bool). TellsBytes b v) (sym short) t)
 
-  -- so what is answered of a file is told by what is held of it
+  -- so the answer about a file is determined by its bytes
   text_tells : (seen : Seen) (files : Files) (f : Word) → seen.held ≡ Some files
       → (s ≡ ReadFault → MayFail seen.held f seen.faults_before seen.faults_after → Lacks seen.held f)
       → OnText kind seen f Out s x → TellsFile (get files f)
   text_tells seen files f e lacking (NoText (Unread h)) =
-      subst (λ (o : Option (List ℕ)). TellsFile o) (sym (given_none seen.held files f e (lacking h.ends h.fault))) (h.ends, h.told)
+      subst (λ (o : Option (List ℕ)). TellsFile o) (sym (given_none seen.held files f e (lacking h.ends h.fault))) (h.ends, h.result_is)
   text_tells seen files f e lacking (NoText (OverLimit h)) =
-      of_long (get files f) (given_more seen.held files f kind.limit seen.taken e h.over) h.ends h.told
+      of_long (get files f) (given_more seen.held files f kind.limit seen.taken e h.over) h.ends h.result_is
   text_tells seen files f e lacking (NoText (RefusedText h)) =
       of_short (get files f) h.bytes (given seen.held files f h.bytes e h.fetched.held) h.fetched.within (inl (h.ends, h.refused))
   text_tells seen files f e lacking (OfText h) =

@@ -6,7 +6,7 @@ use Rattle.std.proofs.lemmas.List.{length-map}
 use Rattle.std.specs.List.{AllByRecursion, range_with_len}
 use Rattle.its_model.specs.Valid.{IsValidRule, IsValid}
 use Rattle.model.specs.Bounds.{Bound, val}
-use Rattle.model.specs.Facts.{HoldsTotal}
+use Rattle.model.specs.Facts.{HoldsLength}
 use Rattle.model.specs.Programs.{Rule, Program, arity_of, rule_at}
 use Rattle.model.specs.Runs.{Step, IsRun, count, sizes_of_start}
 use Rattle.outcome.specs.Reports.{Time, Timed, Untimed, Size, Sized, Unsized, Report}
@@ -16,7 +16,7 @@ use Rattle.run_replay.specs.Replays.{IsRunInRange, IsSizeAfter, greatest_size, g
 use Rattle.run_replay.specs.Replays.{tally_along}
 use Rattle.koat_cli.specs.WithinBounds.{AreBeside, IsWithinTime, IsWithinSize, IsWithinTotal, IsWithinBounds}
 
--- what stands beside each number from k on, as many as there are, stands beside all of them
+-- if each number from k on has its partner, as many as there are, all of them do
 beside_numbers : {X Y : Type 0} (Beside : X → Y → Type 0) (f : ℕ → X) (k n : ℕ) (ys : List Y) → length ys ≡ n
     → ((j m : ℕ) (y : Y) → m ≡ k + j → slice_get ys j ≡ Some y → Beside (f m) y)
     → AreBeside Beside (map f (range_with_len k n)) ys
@@ -68,7 +68,7 @@ module _ (law : ReplaysAreDecided) (p : Program) (r : Report) (valid : IsValid p
       subst (λ (k : ℕ). IsWithinTime (sizes_of_start start) (count k steps) t) next (count_within j t is))
 
   -- how many steps there are
-  total_within : (o : Option Bound) → ((b : Bound) → o ≡ Some b → HoldsTotal p b)
+  total_within : (o : Option Bound) → ((b : Bound) → o ≡ Some b → HoldsLength p b)
       → IsWithinTotal (sizes_of_start start) (length steps) o
   total_within None h = tt
   total_within (Some b) h = (h b refl).each start steps in_range.0 run

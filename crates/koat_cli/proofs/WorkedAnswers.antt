@@ -4,11 +4,11 @@ use Rattle.std.specs.Fmt.{digits}
 use Rattle.its_writer.specs.Generated.{generated}
 use Rattle.its_writer.specs.Texts.{canonical_text}
 use Rattle.its_writer.proofs.GeneratedWithin.{generated_spelled}
-use Rattle.asks.specs.Lines.{Words, Positional}
-use Rattle.asks.specs.Numerals.{IsNumber}
-use Rattle.asks.specs.Requests.{Analyse, Prove, Check, Replay, Generate, Selfrun, Facts, Asks}
-use Rattle.asks.proofs.Firsts.{gives_of}
-use Rattle.asks.proofs.WorkedLines.{command_lines}
+use Rattle.command_line.specs.Lines.{Words, Positional}
+use Rattle.command_line.specs.Numerals.{IsNumber}
+use Rattle.command_line.specs.Requests.{Analyse, Prove, Check, Replay, Generate, Selfrun, Facts, Asks}
+use Rattle.command_line.proofs.Firsts.{gives_of}
+use Rattle.command_line.proofs.WorkedLines.{command_lines}
 use Rattle.outcome.specs.Views.{report_of}
 use Rattle.koat_cli.specs.declared.status.Status.{Status}
 use Rattle.koat_cli.specs.declared.status.Status.TheVariants.{Done, Unknown, Usage, ReadFault, No, RunRefused}
@@ -55,7 +55,7 @@ abbrev call_with : Words → Seen → Call
 call_with words seen = record { words = words; shelf = seen }
 
 generate : (seen : Seen) → Answered (codes "generate" ∷ codes "0" ∷ []) seen Done (canonical_text (generated 0))
-generate seen = ToRequest (Generate 0) generate_asked (record { told = refl; spelled = generated_spelled 0 (omega arith); ends = refl })
+generate seen = ToRequest (Generate 0) generate_asked (record { result_is = refl; spelled = generated_spelled 0 (omega arith); ends = refl })
 
 generate_known : (seen : Seen) (text : List ℕ) → ¬ (Answered (codes "generate" ∷ codes "0" ∷ []) seen Unknown text)
 generate_known seen text said =
@@ -67,7 +67,7 @@ generate_known seen text said =
 generate_its_text : (seen : Seen) (status : Status) → ¬ (Answered (codes "generate" ∷ codes "0" ∷ []) seen status usage_text)
 generate_its_text seen status said =
     let answer = answer_of (call_with (codes "generate" ∷ codes "0" ∷ []) seen) (Generate 0) status usage_text generate_asked said in
-    let e : usage_text ≡ canonical_text (generated 0) = answer.told in
+    let e : usage_text ≡ canonical_text (generated 0) = answer.result_is in
     let bracket : 117 ≡ 40 = ap (λ (w : List ℕ). get_or w 0 0) e in
     omega (arith, bracket)
 

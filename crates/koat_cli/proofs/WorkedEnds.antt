@@ -6,7 +6,7 @@ use Rattle.outside_io.specs.Counts.{Rose}
 use Rattle.outside_io.specs.Putting.{AppendsPrefix}
 use Rattle.koat_cli.specs.declared.status.Status.{Status}
 use Rattle.koat_cli.specs.declared.status.Status.TheVariants.{Usage, ReadFault}
-use Rattle.asks.specs.Requests.{Request, Asks}
+use Rattle.command_line.specs.Requests.{Request, Asks}
 use Rattle.koat_cli.specs.Report.{usage_text}
 use Rattle.koat_cli.specs.Answers.{Says, ToNothing, ToRequest}
 use Rattle.koat_cli.specs.Ends.{WroteInPart}
@@ -18,11 +18,11 @@ none_asks request h = omega (arith, ap length h.command)
 
 -- so they get the usage text
 usage : Says without_words Usage usage_text
-usage = ToNothing none_asks (record { told = refl; ends = refl })
+usage = ToNothing none_asks (record { result_is = refl; ends = refl })
 
 -- and no other
 only_text : (status : Status) (text : List ℕ) → Says without_words status text → text ≡ usage_text
-only_text status text (ToNothing none h) = h.told
+only_text status text (ToNothing none h) = h.result_is
 only_text status text (ToRequest request asked h) = absurd (none_asks request asked)
 
 -- what is left of the usage text

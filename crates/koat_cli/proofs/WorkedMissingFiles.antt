@@ -11,9 +11,9 @@ use Rattle.its_model.specs.text_core.Reading.{Answer, Stands, Refused}
 use Rattle.its_reader.specs.its_text.Kinds.{Kind, MissingSection}
 use Rattle.its_reader.specs.its_text.Answers.{verdict}
 use Rattle.its_reader.proofs.its_text.VerdictLaws.{verdicts_are_right}
-use Rattle.asks.specs.Lines.{Word}
-use Rattle.asks.specs.Requests.{Check, Replay}
-use Rattle.asks.proofs.WorkedLines.{command_lines}
+use Rattle.command_line.specs.Lines.{Word}
+use Rattle.command_line.specs.Requests.{Check, Replay}
+use Rattle.command_line.proofs.WorkedLines.{command_lines}
 use Rattle.koat_cli.specs.declared.status.Status.{Status}
 use Rattle.koat_cli.specs.declared.status.Status.TheVariants.{ReadFault, ProgramRefused, ProofRefused, No}
 use Rattle.koat_cli.specs.declared.status.Status.TheVariants.{RunRefused, NotARun}
@@ -28,14 +28,14 @@ use Rattle.koat_cli.specs.AnsweringChecks.{IsNotAccepted}
 use Rattle.koat_cli.specs.AnsweringReplays.{IsInRange, HasBadStep}
 use Rattle.koat_cli.specs.Checks.{IsCheckOf}
 use Rattle.koat_cli.specs.ProofTexts.{proofs}
-use Rattle.proof_tree.specs.proof_setting.Laws.{AcceptsFileFor}
+use Rattle.cert_types.specs.cert_program.Laws.{AcceptsFileFor}
 use Rattle.koat_cli.specs.Outputs.{IsReplayOf}
 use Rattle.koat_cli.specs.RunTexts.{runs}
 use Rattle.koat_cli.proofs.AnsweringChecks.{checking}
 use Rattle.koat_cli.proofs.AnsweringReplays.{replaying}
 use Rattle.koat_cli.specs.WorkedMissingFiles.{holding, Replayed, Checked, FilesAreReadInOrder}
 use Rattle.koat_cli.proofs.Exclusions.{Determined}
-use Rattle.koat_cli.proofs.MissingFiles.{program_missed, told_refused}
+use Rattle.koat_cli.proofs.MissingFiles.{program_missed, refused_is_program}
 use Rattle.koat_cli.proofs.OneRequest.{answer_of}
 
 -- the files of such a shelf
@@ -47,7 +47,7 @@ steady : ¬ (Rose 0 0)
 steady (inl more) = omega (arith, more)
 steady (inr most) = omega (arith, most)
 
--- what it tells of names
+-- the files that it holds, by name
 lacks_program : get (one_file (codes "-q")) (codes "p") ≡ None
 lacks_program = get-insert nat_list_cmp_total empty (codes "-q") [] (codes "p") ∙ get-empty (slice_cmp nat_cmp) (codes "p")
 
@@ -86,12 +86,12 @@ of_check seen status text said =
 no_program : Replayed (holding (codes "-q")) ReadFault read_fault_text
 no_program =
     ToRequest (Replay (codes "p") (codes "-q")) command_lines.replay
-    (NoProgram (files.Unread (record { fault = inr lacks_program; told = refl; ends = refl })))
+    (NoProgram (files.Unread (record { fault = inr lacks_program; result_is = refl; ends = refl })))
 
 no_checked : Checked (holding (codes "q")) ReadFault read_fault_text
 no_checked =
     ToRequest (Check (codes "p") (codes "q")) command_lines.check
-    (NoProgram (files.Unread (record { fault = inr lacks_checked; told = refl; ends = refl })))
+    (NoProgram (files.Unread (record { fault = inr lacks_checked; result_is = refl; ends = refl })))
 
 -- one without bytes
 no_bytes : IsNoProgram (holding (codes "p")) (codes "p") ProgramRefused (codes "program refused at 0: MissingSection\n")
@@ -103,7 +103,7 @@ no_bytes =
       fault = record { kind = MissingSection; at = 0 };
       refused = refl;
       first = verdicts_are_right.each [];
-      told = refl;
+      result_is = refl;
       ends = refl;
     })
 
@@ -122,7 +122,7 @@ files_read_in_order laws = record {
       (of_replay (holding (codes "-q")) status text said);
   no_run = no_run;
   no_run_alone = λ status text said.
-      told_refused Replay runs IsReplayOf IsInRange HasBadStep NotARun RunRefused (replaying laws) laws (holding (codes "p"))
+      refused_is_program Replay runs IsReplayOf IsInRange HasBadStep NotARun RunRefused (replaying laws) laws (holding (codes "p"))
       (one_file (codes "p")) (codes "p") (codes "-q") refl steady status text [] has_program (no_bytes_spell_none laws)
       (of_replay (holding (codes "p")) status text said);
   no_checked = no_checked;
@@ -132,7 +132,7 @@ files_read_in_order laws = record {
       (of_check (holding (codes "q")) status text said);
   no_proof = no_proof;
   no_proof_alone = λ status text said.
-      told_refused Check proofs IsCheckOf AcceptsFileFor IsNotAccepted No ProofRefused checking laws (holding (codes "p"))
+      refused_is_program Check proofs IsCheckOf AcceptsFileFor IsNotAccepted No ProofRefused checking laws (holding (codes "p"))
       (one_file (codes "p")) (codes "p") (codes "q") refl steady status text [] has_program (no_bytes_spell_none laws)
       (of_check (holding (codes "p")) status text said);
 }

@@ -28,7 +28,7 @@ replays_texts = record {
   most_bytes = refl;
 }
 
--- so do tallies that are within bounds
+-- the same for tallies that are within bounds
 pub tallies_bounded : TalliesAreBounded
 tallies_bounded = record {
   whole = record {

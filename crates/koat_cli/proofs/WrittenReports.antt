@@ -2,7 +2,7 @@
 use Rattle.std.proofs.Common.{ℕ, List, IsTrue, IsFalse}
 use Rattle.std.specs.List.{list_all}
 use Rattle.std.specs.Io.KnownBytes.{Appends}
-use Rattle.asks.specs.Lines.{Word}
+use Rattle.command_line.specs.Lines.{Word}
 use Rattle.outcome.specs.Reports.{Report, is_timed}
 use Rattle.outcome.specs.Views.{report_of}
 use Rattle.koat_cli.specs.declared.status.Status.{Status}
@@ -52,7 +52,7 @@ facts_written call put n f s x h a = record {
   facts = h.said.facts;
   found = h.said.found;
   text = x;
-  told = h.said.told;
+  result_is = h.said.result_is;
   appended = a;
 }
 

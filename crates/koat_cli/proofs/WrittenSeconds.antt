@@ -2,8 +2,8 @@
 use Rattle.std.proofs.Common.{◌≡◌, ◌≢◌, ℕ, List}
 use Rattle.std.specs.Prelude.{⊤}
 use Rattle.std.specs.Io.KnownBytes.{Appends}
-use Rattle.asks.specs.Lines.{Word}
-use Rattle.asks.specs.Requests.{Request, Analyse, Prove, Check, Replay, Generate, Selfrun, Facts, Asks}
+use Rattle.command_line.specs.Lines.{Word}
+use Rattle.command_line.specs.Requests.{Request, Analyse, Prove, Check, Replay, Generate, Selfrun, Facts, Asks}
 use Rattle.run_replay.specs.ReplayAnswers.{last_first}
 use Rattle.run_replay.specs.ReplayLaws.{ReplaysAreDecided}
 use Rattle.koat_cli.specs.declared.status.Status.{Status}
@@ -38,7 +38,7 @@ no_run : (seen : Seen) (r : Request) (s : Status) (x : List ℕ) → ((f q : Wor
     → IsNotOfRuns s
 no_run = of_no_replay IsNotOfRuns tt tt tt tt tt tt tt
 
--- so what they say is said of a replay
+-- so their answers are those of a replay
 runs_of : (call : Call) (r : Request) (s : Status) (x : List ℕ) → (IsNotOfRuns s → ⊥) → Asks call.words r
     → Answers call.shelf r s x → (f : Word) × ((q : Word) × Asks call.words (Replay f q) × Tells call.shelf f q s x)
 runs_of call (Analyse n f) s x run asked h = absurd (run (no_run call.shelf (Analyse n f) s x (λ g q e. cc) h))
@@ -58,12 +58,12 @@ runs_said call s x other run (ToRequest r asked h) = runs_of call r s x run aske
 pub run_refused_wrote : (call : Call) (put : Put) (x : List ℕ) → Says call RunRefused x → Appends put.written_before put.written_after x
     → (f : Word) × ((q : Word) × Asks call.words (Replay f q) × WroteRunRefusal call put f q)
 run_refused_wrote call put x said a =
-    let told = runs_said call RunRefused x (λ e. let no_way : ⊥ = cc in no_way) (λ h. h) said in
-    let parts : Tells call.shelf told.0 told.1.0 RunRefused x = told.1.2 in (
-      told.0,
+    let result_is = runs_said call RunRefused x (λ e. let no_way : ⊥ = cc in no_way) (λ h. h) said in
+    let parts : Tells call.shelf result_is.0 result_is.1.0 RunRefused x = result_is.1.2 in (
+      result_is.0,
       (
-        told.1.0,
-        told.1.1,
+        result_is.1.0,
+        result_is.1.1,
         record {
           program = parts.0;
           program_given = parts.1;
@@ -77,18 +77,18 @@ run_refused_wrote call put x said a =
 pub bad_step_wrote : (call : Call) (put : Put) (x : List ℕ) → Says call NotARun x → Appends put.written_before put.written_after x
     → (f : Word) × ((q : Word) × Asks call.words (Replay f q) × WroteBadStep call put f q)
 bad_step_wrote call put x said a =
-    let told = runs_said call NotARun x (λ e. let no_way : ⊥ = cc in no_way) (λ h. h) said in
-    let parts : Tells call.shelf told.0 told.1.0 NotARun x = told.1.2 in (
-      told.0,
+    let result_is = runs_said call NotARun x (λ e. let no_way : ⊥ = cc in no_way) (λ h. h) said in
+    let parts : Tells call.shelf result_is.0 result_is.1.0 NotARun x = result_is.1.2 in (
+      result_is.0,
       (
-        told.1.0,
-        told.1.1,
+        result_is.1.0,
+        result_is.1.1,
         record {
           program = parts.0;
           run = parts.1.0;
           given = parts.1.1;
           text = x;
-          told = parts.1.2;
+          result_is = parts.1.2;
           appended = a;
         },
       ),
@@ -112,7 +112,7 @@ not_checked : (seen : Seen) (r : Request) (s : Status) (x : List ℕ) → ((f q 
     → IsNotOfChecks s
 not_checked = of_no_check IsNotOfChecks tt tt tt tt tt tt tt
 
--- so what they say is said of a check
+-- so their answers are those of a check
 checks_of : (call : Call) (r : Request) (s : Status) (x : List ℕ) → (IsNotOfChecks s → ⊥) → Asks call.words r
     → Answers call.shelf r s x → (f : Word) × ((q : Word) × Asks call.words (Check f q) × CheckTells call.shelf f q s x)
 checks_of call (Analyse n f) s x check asked h = absurd (check (not_checked call.shelf (Analyse n f) s x (λ g q e. cc) h))
@@ -133,12 +133,12 @@ pub proof_refused_wrote : (call : Call) (put : Put) (x : List ℕ) → Says call
     → Appends put.written_before put.written_after x
     → (f : Word) × ((q : Word) × Asks call.words (Check f q) × WroteProofRefusal call put f q)
 proof_refused_wrote call put x said a =
-    let told = checks_said call ProofRefused x (λ e. let no_way : ⊥ = cc in no_way) (λ h. h) said in
-    let parts : CheckTells call.shelf told.0 told.1.0 ProofRefused x = told.1.2 in (
-      told.0,
+    let result_is = checks_said call ProofRefused x (λ e. let no_way : ⊥ = cc in no_way) (λ h. h) said in
+    let parts : CheckTells call.shelf result_is.0 result_is.1.0 ProofRefused x = result_is.1.2 in (
+      result_is.0,
       (
-        told.1.0,
-        told.1.1,
+        result_is.1.0,
+        result_is.1.1,
         record {
           program = parts.0;
           program_given = parts.1;
@@ -152,12 +152,12 @@ proof_refused_wrote call put x said a =
 pub no_wrote : (call : Call) (put : Put) (x : List ℕ) → Says call No x → Appends put.written_before put.written_after x
     → (f : Word) × ((q : Word) × Asks call.words (Check f q) × WroteNo call put f q)
 no_wrote call put x said a =
-    let told = checks_said call No x (λ e. let no_way : ⊥ = cc in no_way) (λ h. h) said in
-    let parts : CheckTells call.shelf told.0 told.1.0 No x = told.1.2 in (
-      told.0,
+    let result_is = checks_said call No x (λ e. let no_way : ⊥ = cc in no_way) (λ h. h) said in
+    let parts : CheckTells call.shelf result_is.0 result_is.1.0 No x = result_is.1.2 in (
+      result_is.0,
       (
-        told.1.0,
-        told.1.1,
+        result_is.1.0,
+        result_is.1.1,
         record {
           program = parts.0;
           proof = parts.1.0;
@@ -173,13 +173,13 @@ no_wrote call put x said a =
 pub acceptance_wrote : (call : Call) (put : Put) (f q : Word) (x : List ℕ) → Answers call.shelf (Check f q) Done x
     → Appends put.written_before put.written_after x → WroteAcceptance call put f q
 acceptance_wrote call put f q x h a =
-    let told : CheckTells call.shelf f q Done x = check_tells call.shelf f q Done x h in
+    let result_is : CheckTells call.shelf f q Done x = check_tells call.shelf f q Done x h in
     record {
-      program = told.0;
-      proof = told.1.0;
-      given = told.1.1;
+      program = result_is.0;
+      proof = result_is.1.0;
+      given = result_is.1.1;
       text = x;
-      accepted = told.1.2;
+      accepted = result_is.1.2;
       appended = a;
     }
 
@@ -187,17 +187,17 @@ acceptance_wrote call put f q x h a =
 pub tally_wrote : ReplaysAreDecided → (call : Call) (put : Put) (f q : Word) (x : List ℕ) → Answers call.shelf (Replay f q) Done x
     → Appends put.written_before put.written_after x → WroteTally call put f q
 tally_wrote law call put f q x h a =
-    let told : Tells call.shelf f q Done x = replay_tells call.shelf f q Done x h in
-    let tally = told.1.2 in
-    let run = told.1.0 in
-    let gave = told.1.1.program_given in
+    let result_is : Tells call.shelf f q Done x = replay_tells call.shelf f q Done x h in
+    let tally = result_is.1.2 in
+    let run = result_is.1.0 in
+    let gave = result_is.1.1.program_given in
     record {
-      program = told.0;
+      program = result_is.0;
       run = run;
-      given = told.1.1;
+      given = result_is.1.1;
       text = x;
-      told = tally;
-      within_bounds = tally_within law told.0 tally.report run.start (last_first run)
-          (spelled_valid gave.bytes told.0 gave.spelled) tally.on_program tally.found.true_on_all_runs tally.in_range;
+      result_is = tally;
+      within_bounds = tally_within law result_is.0 tally.report run.start (last_first run)
+          (spelled_valid gave.bytes result_is.0 gave.spelled) tally.on_program tally.found.true_on_all_runs tally.in_range;
       appended = a;
     }

@@ -4,11 +4,11 @@ use Rattle.std.specs.List.{AllByRecursion}
 use Rattle.model.specs.Programs.{Program}
 use Rattle.model.specs.Bounds.{Bound}
 use Rattle.its_model.specs.Valid.{IsValid}
-use Rattle.outcome.specs.proof_nodes.Gaps.{Gap}
+use Rattle.outcome.specs.cert_rules.Gaps.{Gap}
 use Rattle.outcome.specs.Reports.{NoTime, NoFunction, TimeTripped, TimeLarge, Time, Timed, Untimed}
 use Rattle.outcome.specs.Reports.{Size, Sized, Unsized, Report}
 use Rattle.report_text.specs.bound_text.Texts.{FitsTypes}
-use Rattle.report_text.specs.Printable.{IsShort, IsPrintablePoint, IsPrintableTrip, IsPrintableNoSize}
+use Rattle.report_text.specs.Printable.{IsShort, IsPrintablePoint, IsPrintableLimitHit, IsPrintableNoSize}
 use Rattle.report_text.specs.Printable.{IsPrintableReport}
 use Rattle.report_text.specs.States.{States}
 use Rattle.time_bounds.specs.Analysis.{IsAnalysis}
@@ -22,10 +22,10 @@ pub record HasShortNumbers (g : Gap) : Type 0 where
   pub floor : IsPrintablePoint g.floor
   pub kept : AllByRecursion IsPrintablePoint g.kept
 
--- so have those of a reason why a time is missing
+-- the numbers of a reason why a time is missing fit
 abbrev pub ReasonFits : NoTime → Type 0
 ReasonFits (NoFunction g) = HasShortNumbers g
-ReasonFits (TimeTripped t) = IsPrintableTrip t
+ReasonFits (TimeTripped t) = IsPrintableLimitHit t
 ReasonFits (TimeLarge nodes) = IsShort nodes
 
 -- the numbers of a time, of a size and of the total fit the types that hold them: those of a bound, or of a reason

@@ -1,4 +1,4 @@
--- With which status a call ends, by what is asked for.
+-- The status with which a call ends, by its request.
 use Rattle.std.specs.Prelude.{◌≡◌, ◌≢◌, ◌⊎◌, ◌↔◌, ℕ, ◌<◌, ◌≤◌, List, length, Some, IsSomeAnd, IsTrue, IsFalse, ⊤}
 use Rattle.std.specs.List.{list_all}
 use Rattle.std.specs.FinMap.{get}
@@ -6,8 +6,8 @@ use Rattle.outside_io.specs.Counts.{Rose}
 use Rattle.model.specs.Programs.{Program}
 use Rattle.its_reader.specs.its_text.Spelling.{SpellsWithin}
 use Rattle.its_writer.specs.Generated.{generated}
-use Rattle.asks.specs.Lines.{Word}
-use Rattle.asks.specs.Requests.{Request, Analyse, Prove, Generate, Selfrun, Facts, Asks, default_pivots}
+use Rattle.command_line.specs.Lines.{Word}
+use Rattle.command_line.specs.Requests.{Request, Analyse, Prove, Generate, Selfrun, Facts, Asks, default_pivots}
 use Rattle.location_facts.specs.declared.fact.LocFact.{LocFact}
 use Rattle.location_facts.specs.Kept.{AreKept}
 use Rattle.location_facts.specs.Strengthening.{strengthened}
@@ -21,8 +21,8 @@ use Rattle.koat_cli.specs.OnFiles.{program_limit}
 use Rattle.koat_cli.specs.Answers.{AsksForNothing}
 use Rattle.koat_cli.specs.Ends.{Ends}
 
--- the words ask so of a file, the shelf tells that it holds the file, with these bytes, and neither the shelf's nor the
--- sink's count of faults rises
+-- the words make this request about a file, the shelf discloses that it holds the file, with these bytes, and neither
+-- the shelf's nor the sink's count of faults rises
 pub record AsksOfHeld (call : Call) (put : Put) (bytes : List ℕ) (request : Word → Request) : Type 0 where
   pub file : Word
   pub asked : Asks call.words (request file)
@@ -42,7 +42,7 @@ pub record MissesTimes (program : Program) (pivots : ℕ) : Type 0 where
   pub found : IsAnalysis program pivots report
   pub some_untimed : IsFalse (list_all is_timed report.times)
 
--- of the program that its kept facts strengthen this is so
+-- this holds of the program that its kept facts strengthen
 pub record WithKeptFacts (Holds : Program → Type 0) (program : Program) (pivots : ℕ) : Type 0 where
   pub facts : List LocFact
   pub kept : AreKept program pivots facts
@@ -80,7 +80,7 @@ IsStatusOfHeld No = ⊥
 IsStatusOfHeld RunRefused = ⊥
 IsStatusOfHeld NotARun = ⊥
 
--- however a call ends that asks so of a file that is held, it ends with one of four statuses; and want of memory aside,
+-- however a call ends that asks so of a file that is held, it ends with one of four statuses; and if memory suffices,
 -- the status is `Done` exactly where the file spells a program that finds all times, `Unknown` exactly where it spells
 -- one that misses some, and `ProgramRefused` exactly where it spells none
 pub record AreAnswered (request : Word → Request) (FindsAll Misses : Program → Type 0) : Type 0 where
@@ -93,9 +93,9 @@ pub record AreAnswered (request : Word → Request) (FindsAll Misses : Program �
   pub refused : (call : Call) (put : Put) (bytes : List ℕ) (s : Status) → AsksOfHeld call put bytes request
       → Ends s call put → s ≢ Memory → (s ≡ ProgramRefused) ↔ SpellsNone bytes
 
--- so it is of calls that ask for the analysis of a file, or for its proof file, by the times that the program's
--- analysis finds; and of those that ask for it with the facts at locations, by the times that are found of the program
--- that its kept facts strengthen
+-- the same for calls that request the analysis of a file, or its proof file, by the times that the program's analysis
+-- finds; and for those that request it with the facts at locations, by the times that are found of the program
+-- strengthened by its kept facts
 pub record HeldFilesAreAnswered : Type 0 where
   pub analyses : (pivots : ℕ)
       → AreAnswered (Analyse pivots) (λ p. FindsAllTimes p pivots) (λ p. MissesTimes p pivots)
@@ -104,16 +104,16 @@ pub record HeldFilesAreAnswered : Type 0 where
   pub with_facts : (pivots : ℕ)
       → AreAnswered (Facts pivots) (λ p. FindsAllWithFacts p pivots) (λ p. MissesWithFacts p pivots)
 
--- a call ends so, neither with the status of a fault of the sink nor for want of memory
+-- a call ends so, neither with the status of a fault of the sink nor because memory ran out
 pub record EndsWell (status : Status) (call : Call) (put : Put) : Type 0 where
   pub no_write_fault : status ≢ WriteFault
   pub ends : Ends status call put
   pub memory : status ≢ Memory
 
--- the status of a fault of the sink and that of want of memory aside, a call ends with `Usage` exactly where its words
--- ask for nothing; one that asks for a generated program ends with `Done`; and one that asks for the
--- figures of its analysis ends with `Done` exactly where this has a time for every rule, with `Unknown` exactly where
--- it has none for some, and with no other status
+-- the status of a fault of the sink and that of running out of memory aside, a call ends with `Usage` exactly where its
+-- words ask for nothing; one that asks for a generated program ends with `Done`; and one that asks for the figures of
+-- its analysis ends with `Done` exactly where this has a time for every rule, with `Unknown` exactly where it has none
+-- for some, and with no other status
 pub record NumbersAreAnswered : Type 0 where
   pub usage : (call : Call) (put : Put) (s : Status) → EndsWell s call put
       → (s ≡ Usage) ↔ AsksForNothing call.words

@@ -1,9 +1,9 @@
--- With which status a call ends that asks for the check of a proof.
+-- The status with which a call ends that requests the check of a proof.
 use Rattle.std.specs.Prelude.{◌≡◌, ◌≢◌, ◌↔◌, ℕ, List, ⊤}
 use Rattle.model.specs.Programs.{Program}
-use Rattle.asks.specs.Requests.{Check}
-use Rattle.proof_tree.specs.proof_nodes.Gaps.{ProofFile}
-use Rattle.proof_tree.specs.proof_setting.Laws.{AcceptsFileFor}
+use Rattle.command_line.specs.Requests.{Check}
+use Rattle.cert_types.specs.cert_rules.Gaps.{ProofFile}
+use Rattle.cert_types.specs.cert_program.Laws.{AcceptsFileFor}
 use Rattle.koat_cli.specs.declared.status.Status.{Status}
 use Rattle.koat_cli.specs.declared.status.Status.TheVariants.{Done, Unknown, Usage, ReadFault, WriteFault, Memory}
 use Rattle.koat_cli.specs.declared.status.Status.TheVariants.{ProgramRefused, ProofRefused, No, RunRefused, NotARun}
@@ -32,7 +32,7 @@ IsStatusOfCheck RunRefused = ⊥
 IsStatusOfCheck NotARun = ⊥
 
 -- however a call ends that asks for the check of a proof, both files being held, it ends with one of five statuses; and
--- want of memory aside, the status is `ProgramRefused` exactly where the first file spells no program within the limits
+-- if memory suffices, the status is `ProgramRefused` exactly where the first file spells no program within the limits
 -- or is too long, `ProofRefused` exactly where it spells one and the second file is the text of no proof file of it
 -- within the limits or is too long, `Done` exactly where it is that of one that is accepted, and `No` exactly where it
 -- is that of one that isn't

@@ -1,7 +1,7 @@
--- With which status a call ends that asks for the replay of a run.
+-- The status with which a call ends that requests the replay of a run.
 use Rattle.std.specs.Prelude.{◌≡◌, ◌≢◌, ◌↔◌, ℕ, List, ⊤}
 use Rattle.model.specs.Programs.{Program}
-use Rattle.asks.specs.Requests.{Replay}
+use Rattle.command_line.specs.Requests.{Replay}
 use Rattle.run_replay.specs.ReplayAnswers.{last_first}
 use Rattle.run_replay.specs.Replays.{IsRunInRange, BadStep, IsFirstBadStep}
 use Rattle.run_replay.specs.Runs.{Run}
@@ -14,7 +14,7 @@ use Rattle.koat_cli.specs.Ends.{Ends}
 use Rattle.koat_cli.specs.Answering.{SpellsOne, SpellsNone}
 use Rattle.koat_cli.specs.AnsweringTwo.{AsksOfTwo, HasText, HasNoText}
 
--- the steps are a run of the program, and no value passes 128 bits on the way
+-- the steps are a run of the program, and no value exceeds 128 bits on the way
 abbrev pub IsInRange : Program → Run → Type 0
 IsInRange program r = IsRunInRange program r.start (last_first r)
 
@@ -37,7 +37,7 @@ IsStatusOfReplay RunRefused = ⊤
 IsStatusOfReplay NotARun = ⊤
 
 -- however a call ends that asks for the replay of a run, both files being held, it ends with one of five statuses; and
--- want of memory aside, the status is `ProgramRefused` exactly where the first file spells no program, `RunRefused`
+-- if memory suffices, the status is `ProgramRefused` exactly where the first file spells no program, `RunRefused`
 -- exactly where it spells one and the second file is the text of no run of it, `Done` exactly where it is that of one
 -- in range, and `NotARun` exactly where it is that of one with a bad step
 pub record ReplaysAreAnswered : Type 0 where

@@ -1,8 +1,8 @@
--- What is answered of each request, a line each: with which status, and with which text.
+-- The answer to each request, a line each: its status, and its text.
 use Rattle.std.specs.Prelude.{List, ℕ, ⊤}
 use Rattle.its_writer.specs.Generated.{generated}
-use Rattle.asks.specs.Lines.{Words}
-use Rattle.asks.specs.Requests.{Request, Analyse, Prove, Check, Replay, Generate, Selfrun, Facts, Asks}
+use Rattle.command_line.specs.Lines.{Words}
+use Rattle.command_line.specs.Requests.{Request, Analyse, Prove, Check, Replay, Generate, Selfrun, Facts, Asks}
 use Rattle.koat_cli.specs.declared.status.Status.{Status}
 use Rattle.koat_cli.specs.Calls.{Seen, Call}
 use Rattle.koat_cli.specs.OnFiles.{OnProgram}

@@ -1,14 +1,14 @@
--- What a call of the program was given and saw, and what it did to the sink.
+-- The data of a call: what it was given and saw, and what it did to the sink.
 use Rattle.std.specs.Prelude.{ℕ, List, Option, map, string_bytes}
 use Rattle.std.specs.declared.alloc.Global.{Global}
 use Rattle.std.specs.declared.string.String.{String}
 use Rattle.outside_io.specs.Files.{Files}
 use Rattle.outside_io.specs.declared.shelf.Shelf as shelf
 use Rattle.outside_io.specs.declared.sink.Sink as sink
-use Rattle.asks.specs.Lines.{Words}
+use Rattle.command_line.specs.Lines.{Words}
 
--- what a call saw of the shelf: what it tells that it holds, its count of faults before and after, and how many bytes
--- its last fetch took
+-- what a call saw of the shelf: its contents, if disclosed, its count of faults before and after, and how many bytes
+-- its last fetch read
 pub record Seen : Type 0 where
   pub held : Option Files
   pub faults_before : ℕ
@@ -33,7 +33,7 @@ pub record Call : Type 0 where
 abbrev pub call_of : {F : Type 0} → shelf.Ghosts F → List (String Global) → F → F → Call
 call_of means words before after = record { words = map string_bytes words; shelf = seen_of means before after }
 
--- the sink's count of faults, and what it tells that was written, before and after
+-- the sink's count of faults, and the written bytes, if disclosed, before and after
 pub record Put : Type 0 where
   pub faults_before : ℕ
   pub faults_after : ℕ

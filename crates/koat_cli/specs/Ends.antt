@@ -7,8 +7,8 @@ use Rattle.outside_io.specs.Fetching.{MayFail}
 use Rattle.outside_io.specs.Putting.{AppendsPrefix}
 use Rattle.model.specs.Programs.{Program}
 use Rattle.model.specs.Runs.{sizes_of_start}
-use Rattle.asks.specs.Lines.{Word}
-use Rattle.asks.specs.Requests.{Request, Analyse, Prove, Check, Replay, Generate, Selfrun, Facts, Asks}
+use Rattle.command_line.specs.Lines.{Word}
+use Rattle.command_line.specs.Requests.{Request, Analyse, Prove, Check, Replay, Generate, Selfrun, Facts, Asks}
 use Rattle.outcome.specs.Reports.{Report, is_timed}
 use Rattle.outcome.specs.Views.{report_of}
 use Rattle.outcome.specs.declared.outcome_of.Outcome.{Outcome}
@@ -48,7 +48,7 @@ pub record WroteInPart (call : Call) (put : Put) : Type 0 where
   pub says : Says call status text
   pub appended : AppendsPrefix put.written_before put.written_after text
 
--- the statuses of faults and of want of memory
+-- the statuses of faults and of running out of memory
 abbrev pub IsStatusOfFault : Status → Type 0
 IsStatusOfFault Done = ⊥
 IsStatusOfFault Unknown = ⊥
@@ -62,9 +62,9 @@ IsStatusOfFault No = ⊥
 IsStatusOfFault RunRefused = ⊥
 IsStatusOfFault NotARun = ⊥
 
--- how a call ends: with each status but that of a fault of the sink and that of want of memory its whole text was
--- written; and where the shelf's count of faults is greater than before, only those of faults and of want of memory
--- come
+-- how a call ends: with each status but that of a fault of the sink and that of running out of memory its whole text
+-- was written; and where the shelf's count of faults is greater than before, only those of faults and of running out of
+-- memory come
 pub record Ends (status : Status) (call : Call) (put : Put) : Type 0 where
   pub wrote : status ≢ WriteFault → status ≢ Memory → WroteWhole status call put
   pub write_fault : status ≡ WriteFault → WroteInPart call put
@@ -72,7 +72,7 @@ pub record Ends (status : Status) (call : Call) (put : Put) : Type 0 where
 
 -- the file spells a program within the limits, and a text was appended, whole, that states the report of the program's
 -- analysis; every bound in it holds on every run of the program, from any integers and by any choice of rules, and each
--- reason in it is so of the program
+-- reason in it is true of the program
 pub record WroteReport (call : Call) (put : Put) (pivots : ℕ) (file : Word) (report : Report) : Type 0 where
   pub program : Program
   pub given : GivesProgram call.shelf file program
@@ -81,19 +81,19 @@ pub record WroteReport (call : Call) (put : Put) (pivots : ℕ) (file : Word) (r
   pub stated : States program text report
   pub appended : Appends put.written_before put.written_after text
 
--- the file spells a program within the limits, and a text was appended, whole, that tells the facts that are kept at
--- its locations, and behind them the report of the program that they strengthen; each of these facts holds on every run
--- of the program, from any integers and by any choice of rules, and so does every bound in the report
+-- the file spells a program within the limits, and a text was appended, whole, with the facts that are kept at its
+-- locations, followed by the report of the program that they strengthen; each of these facts holds on every run of the
+-- program, from any integers and by any choice of rules, and so does every bound in the report
 pub record WroteFacts (call : Call) (put : Put) (pivots : ℕ) (file : Word) (report : Report) : Type 0 where
   pub program : Program
   pub given : GivesProgram call.shelf file program
   pub facts : List LocFact
   pub found : IsFoundWithFacts program pivots facts report
   pub text : List ℕ
-  pub told : text ≡ text_with_facts program facts report
+  pub result_is : text ≡ text_with_facts program facts report
   pub appended : Appends put.written_before put.written_after text
 
--- a text was appended, whole, that refuses the file: as too long, or for what stands first against its bytes
+-- a text was appended, whole, that refuses the file: as too long, or for the first fault of its bytes
 pub record WroteRefusal (call : Call) (put : Put) (file : Word) : Type 0 where
   pub text : List ℕ
   pub refused : (IsRefusedTooLong call.shelf file ProgramRefused text)
@@ -126,8 +126,8 @@ pub record FirstGave (seen : Seen) (request : Request) : Type 0 where
   pub program : Program
   pub gave : GaveProgram seen file program
 
--- the file is one of what the words ask for, and is fetched, being the first or the first having given a program; and
--- it may fail: the shelf had a fault in this call, or tells that it lacks the file
+-- the file is one of the request's, and is fetched, being the first, or the second after the first gave a program; and
+-- it may fail: the shelf had a fault in this call, or discloses that it lacks the file
 pub record MayMiss (call : Call) (file : Word) : Type 0 where
   pub request : Request
   pub asked : Asks call.words request
@@ -140,29 +140,29 @@ pub record GiveRun (seen : Seen) (file run_file : Word) (program : Program) (run
   pub program_given : GaveProgram seen file program
   pub run_given : GivesText (runs program) seen run_file run
 
--- the two files give a run, and a text was appended, whole, that tells the tally along it beside the values of the
--- bounds of the program's analysis; and each number of the tally is at most the value of the bound beside it
+-- the two files give a run, and a text was appended, whole, with the tally along it beside the values of the bounds of
+-- the program's analysis; and each number of the tally is at most the value of the bound beside it
 pub record WroteTally (call : Call) (put : Put) (file run_file : Word) : Type 0 where
   pub program : Program
   pub run : Run
   pub given : GiveRun call.shelf file run_file program run
   pub text : List ℕ
-  pub told : IsTallyOf program run Done text
+  pub result_is : IsTallyOf program run Done text
   pub within_bounds : IsWithinBounds (sizes_of_start run.start)
-      (tally_along program run.start (last_first run)) told.report
+      (tally_along program run.start (last_first run)) result_is.report
   pub appended : Appends put.written_before put.written_after text
 
--- the two files give a run, and a text was appended, whole, that tells its first bad step
+-- the two files give a run, and a text was appended, whole, with its first bad step
 pub record WroteBadStep (call : Call) (put : Put) (file run_file : Word) : Type 0 where
   pub program : Program
   pub run : Run
   pub given : GiveRun call.shelf file run_file program run
   pub text : List ℕ
-  pub told : IsBadStepOf program run NotARun text
+  pub result_is : IsBadStepOf program run NotARun text
   pub appended : Appends put.written_before put.written_after text
 
 -- the first of two files gave a program, and a text was appended, whole, that refuses the second one: as too long, or
--- for what stands first against its bytes
+-- for the first fault of its bytes
 pub record WroteRunRefusal (call : Call) (put : Put) (file run_file : Word) : Type 0 where
   pub program : Program
   pub program_given : GaveProgram call.shelf file program
@@ -171,7 +171,7 @@ pub record WroteRunRefusal (call : Call) (put : Put) (file run_file : Word) : Ty
       ⊎ (IsTextRefused (runs program) call.shelf run_file RunRefused text)
   pub appended : Appends put.written_before put.written_after text
 
--- the answer to this request tells of the rules of a program whether each has a time
+-- the answer to this request says whether each rule of a program has a time
 abbrev pub TellsOfTimes : Request → Type 0
 TellsOfTimes (Analyse pivots file) = ⊤
 TellsOfTimes (Prove pivots file) = ⊤
@@ -181,17 +181,17 @@ TellsOfTimes (Generate n) = ⊥
 TellsOfTimes (Selfrun n) = ⊤
 TellsOfTimes (Facts pivots file) = ⊤
 
--- what statuses mean: where `analyse` ends with `Done`, such a report was written, in which every rule has a time, and
--- where it ends with `Unknown`, one in which some rule has none; so it is with `facts` and such facts with a report,
--- and with `prove` and the proof file of what was found, which is accepted; where `check` ends with `Done`, the facts
--- of a proof file were written that is accepted, and each of them holds on every run of the program; where `replay`
--- does, the tally along the run was written beside the bounds. With `Unknown` a call ends only where its words ask for
--- something that tells of times: `analyse`, `prove`, `facts` or `selfrun`. With `Usage` a call ends only where its
--- words ask for nothing, and the usage text was written; with `ReadFault` only where a file may fail that is fetched
+-- What statuses mean. Where `analyse` ends with `Done`, such a report was written, in which every rule has a time, and
+-- where it ends with `Unknown`, one in which some rule has none; the same holds for `facts`, with such facts and a
+-- report, and for `prove`, with the proof file of what was found, which is accepted. Where `check` ends with `Done`,
+-- the facts of a proof file were written that is accepted, and each of them holds on every run of the program; where
+-- `replay` does, the tally along the run was written beside the bounds. A call ends with `Unknown` only for a request
+-- whose answer says whether rules have times: `analyse`, `prove`, `facts` or `selfrun`; with `Usage` only where its
+-- words make no request, and the usage text was written; with `ReadFault` only where a file may fail that is fetched
 -- for its words; with `ProgramRefused` only where a text was written that refuses the first file; with `ProofRefused`
--- and `No` only where its words ask for `check`, and a text was written that refuses the second file, or that tells
--- what isn't accepted first; and with `RunRefused` and `NotARun` only where its words ask for a replay, and a text was
--- written that refuses the second file, or that tells the first bad step of the run
+-- and `No` only for `check`, where a text was written that refuses the second file, or that states what isn't accepted
+-- first; and with `RunRefused` and `NotARun` only for `replay`, where a text was written that refuses the second file,
+-- or that states the first bad step of the run.
 pub record Means (status : Status) (call : Call) (put : Put) : Type 0 where
   pub done : (pivots : ℕ) (file : Word) → Asks call.words (Analyse pivots file) → status ≡ Done
       → (report : Report) × WroteReport call put pivots file report × IsTrue (list_all is_timed report.times)

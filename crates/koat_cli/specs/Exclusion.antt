@@ -1,4 +1,4 @@
--- One answer at most fits a call.
+-- A call has at most one answer.
 use Rattle.std.specs.Prelude.{◌≡◌, ◌≢◌, List, ℕ, IsSome}
 use Rattle.outside_io.specs.Counts.{Rose}
 use Rattle.koat_cli.specs.declared.status.Status.{Status}
@@ -11,10 +11,10 @@ pub record AreOneAnswer (s t : Status) (x y : List ℕ) : Type 0 where
   pub status : s ≡ t
   pub text : x ≡ y
 
--- a call that answers with the usage text has no other status to answer with, and one that fetches nothing has one
--- answer at most. Where the shelf tells what it holds, a call has one answer at most, unless it is a fault of reading
--- that came with a rise of the shelf's count; so each status comes exactly where it is answered with, but for faults
--- and want of memory
+-- a call that answers with the usage text has no other status to answer with, and one that fetches nothing has at most
+-- one answer. Where the shelf discloses its contents, a call has at most one answer, apart from faults of reading that
+-- came with a rise of the shelf's count; so each status comes exactly in its case, but for faults and running out of
+-- memory
 pub record AnswersExcludeEachOther : Type 0 where
   pub other_words : (call : Call) (t : Status) (x y : List ℕ) → Says call Usage x → Says call t y → t ≡ Usage
   pub without_file : (call : Call) (s t : Status) (x y : List ℕ) → FetchesNothing call.words → Says call s x

@@ -30,7 +30,7 @@ sizes_line r = codes "sizes "
 abbrev pub lemmas_line : ℕ → List ℕ
 lemmas_line lemmas = codes "lemmas " ++ number_end lemmas
 
--- the figures of a report on a program, but for the lemmas
+-- the figures of a report on a program, except for the lemmas
 abbrev pub head_of_figures : Program → Report → List ℕ
 head_of_figures p r = rules_line p ++ (times_line r ++ (sizes_line r ++ total_line p.start_names r.total))
 

@@ -1,19 +1,19 @@
--- With which status a call ends that asks for the check of a proof or for the replay of a run, whichever of the two
--- files is there.
+-- The status with which a call ends that requests the check of a proof or the replay of a run, whichever of the two
+-- files exists.
 use Rattle.std.specs.Prelude.{◌≡◌, ◌≢◌, ◌⊎◌, ◌↔◌, ℕ, List, Some, None}
 use Rattle.std.specs.FinMap.{get}
 use Rattle.outside_io.specs.Counts.{Rose}
 use Rattle.outside_io.specs.Files.{Files}
-use Rattle.asks.specs.Lines.{Word}
-use Rattle.asks.specs.Requests.{Request, Check, Replay, Asks}
+use Rattle.command_line.specs.Lines.{Word}
+use Rattle.command_line.specs.Requests.{Request, Check, Replay, Asks}
 use Rattle.koat_cli.specs.declared.status.Status.{Status}
 use Rattle.koat_cli.specs.declared.status.Status.TheVariants.{ReadFault, Memory, ProgramRefused}
 use Rattle.koat_cli.specs.Calls.{Call, Put}
 use Rattle.koat_cli.specs.Ends.{Ends}
 use Rattle.koat_cli.specs.Answering.{SpellsOne, SpellsNone}
 
--- the words ask so of these two files, the shelf tells that it holds these, and neither the shelf's nor the sink's
--- count of faults rises
+-- the words make this request about these two files, the shelf discloses that these are its contents, and neither the
+-- shelf's nor the sink's count of faults rises
 pub record AsksOnShelf (call : Call) (put : Put) (request : Word → Word → Request) (files : Files) (file second : Word)
     : Type 0 where
   pub asked : Asks call.words (request file second)
@@ -26,13 +26,13 @@ abbrev pub MissesFile : Files → Word → Word → Type 0
 MissesFile files file second = (get files file ≡ None)
     ⊎ ((bytes : List ℕ) × ((get files file ≡ Some bytes) × SpellsOne bytes (λ p. get files second ≡ None)))
 
--- the first file is there, and spells no program within the limits
+-- the first file exists, and spells no program within the limits
 abbrev pub GivesNoProgram : Files → Word → Type 0
 GivesNoProgram files file = (bytes : List ℕ) × ((get files file ≡ Some bytes) × SpellsNone bytes)
 
--- however a call ends that asks so on such a shelf, want of memory aside: the status is `ReadFault` exactly where the
--- first file is lacking, or it spells a program and the second one is lacking; and `ProgramRefused` exactly where the
--- first file is there and spells no program, whether the second one is there or not
+-- however a call with this request ends on such a shelf, if memory suffices: the status is `ReadFault` exactly where
+-- the first file is missing, or it spells a program and the second one is missing; and `ProgramRefused` exactly where
+-- the first file exists and spells no program, whether the second one exists or not
 pub record TellsMissing (request : Word → Word → Request) : Type 0 where
   pub read_fault : (call : Call) (put : Put) (files : Files) (file second : Word) (s : Status)
       → AsksOnShelf call put request files file second → Ends s call put → s ≢ Memory
@@ -41,7 +41,7 @@ pub record TellsMissing (request : Word → Word → Request) : Type 0 where
       → AsksOnShelf call put request files file second → Ends s call put → s ≢ Memory
       → (s ≡ ProgramRefused) ↔ GivesNoProgram files file
 
--- so it is of calls that ask for a check, and of those that ask for a replay
-pub record MissingFilesAreTold : Type 0 where
+-- the same for calls that request a check, and for those that request a replay
+pub record MissingFilesAreReported : Type 0 where
   pub checks : TellsMissing Check
   pub replays : TellsMissing Replay

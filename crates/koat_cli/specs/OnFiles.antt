@@ -1,4 +1,4 @@
--- What comes of a file with a program, whatever is to be said of the program.
+-- The answers about a file with a program, whatever the request is.
 use Rattle.std.specs.Prelude.{◌≡◌, ℕ, ◌^◌, ◌≤◌, List, length}
 use Rattle.outside_io.specs.Files.{IsHeld}
 use Rattle.outside_io.specs.Fetching.{IsTooLong, MayFail}
@@ -9,7 +9,7 @@ use Rattle.its_reader.specs.its_text.Kinds.{Kind}
 use Rattle.its_reader.specs.its_text.Spelling.{SpellsWithin}
 use Rattle.its_reader.specs.its_text.Answers.{verdict}
 use Rattle.its_reader.specs.its_text.Verdicts.{IsVerdict}
-use Rattle.asks.specs.Lines.{Word}
+use Rattle.command_line.specs.Lines.{Word}
 use Rattle.koat_cli.specs.declared.status.Status.{Status}
 use Rattle.koat_cli.specs.declared.status.Status.TheVariants.{ReadFault, ProgramRefused}
 use Rattle.koat_cli.specs.Calls.{Seen}
@@ -25,27 +25,27 @@ pub record Fetches (seen : Seen) (file : Word) (limit : ℕ) (bytes : List ℕ) 
   pub taken : seen.taken ≡ length bytes
   pub within : length bytes ≤ limit
 
--- the file can't be had: the shelf had a fault in this call, or tells that it lacks the name
+-- the file can't be read: the shelf had a fault in this call, or discloses that it lacks the name
 pub record IsReadFault (seen : Seen) (file : Word) (status : Status) (text : List ℕ) : Type 0 where
   pub fault : MayFail seen.held file seen.faults_before seen.faults_after
-  pub told : text ≡ read_fault_text
+  pub result_is : text ≡ read_fault_text
   pub ends : status ≡ ReadFault
 
 -- the file has too many bytes for the text of a program
 pub record IsRefusedTooLong (seen : Seen) (file : Word) (status : Status) (text : List ℕ) : Type 0 where
   pub too_long : IsTooLong seen.held file program_limit seen.taken
-  pub told : text ≡ too_long_text
+  pub result_is : text ≡ too_long_text
   pub ends : status ≡ ProgramRefused
 
--- something stands against the bytes of the file as the text of a program within the limits, and this is what stands
--- first: what is wrong, and at which byte
+-- the bytes of the file have a fault as the text of a program within the limits, and this is the first: its kind, and
+-- its byte
 pub record IsRefusedAt (seen : Seen) (file : Word) (status : Status) (text : List ℕ) : Type 0 where
   pub bytes : List ℕ
   pub fetched : Fetches seen file program_limit bytes
   pub fault : Fault Kind
   pub refused : verdict bytes ≡ reading.Refused fault
   pub first : IsVerdict bytes (reading.Refused fault)
-  pub told : text ≡ refusal_text fault
+  pub result_is : text ≡ refusal_text fault
   pub ends : status ≡ ProgramRefused
 
 -- the file gives no program, for one of these three causes
@@ -60,7 +60,7 @@ pub record GivesProgram (seen : Seen) (file : Word) (program : Program) : Type 0
   pub fetched : Fetches seen file program_limit bytes
   pub spelled : SpellsWithin bytes program
 
--- the file gives a program, of which this is said
+-- the file gives a program, and this is the answer about it
 pub record IsOfProgram (seen : Seen) (file : Word) (Out : Program → Status → List ℕ → Type 0) (status : Status)
     (text : List ℕ) : Type 0 where
   pub program : Program

@@ -1,17 +1,17 @@
--- What comes of a file with a text that belongs to a program, fetched behind the program's file, whatever kind of text
--- it is and whatever is to be said of what it stands for.
+-- The answers about a file with a text that belongs to a program, fetched after the program's file, whatever kind of
+-- text it is and whatever is answered about its subject.
 use Rattle.std.specs.Prelude.{◌≡◌, ◌≤◌, ℕ, List, length}
 use Rattle.outside_io.specs.Files.{IsHeld}
 use Rattle.outside_io.specs.Fetching.{IsTooLong}
 use Rattle.model.specs.Programs.{Program}
 use Rattle.its_reader.specs.its_text.Spelling.{SpellsWithin}
-use Rattle.asks.specs.Lines.{Word}
+use Rattle.command_line.specs.Lines.{Word}
 use Rattle.koat_cli.specs.declared.status.Status.{Status}
 use Rattle.koat_cli.specs.Calls.{Seen}
 use Rattle.koat_cli.specs.OnFiles.{program_limit, Fetches, IsReadFault, IsNoProgram}
 
--- texts of a kind, which stand for such things: at most how many bytes they have; with which status bytes are refused,
--- and what is told where there are too many; what bytes stand for; and what is told of bytes that stand for nothing
+-- a kind of text with subjects of type T: the greatest number of bytes; the status with which bytes are refused, and
+-- the answer where there are too many; what bytes represent; and the answer about bytes that represent nothing
 pub record TextKind (T : Type 0) : Type 1 where
   pub limit : ℕ
   pub refused : Status
@@ -23,10 +23,10 @@ pub record TextKind (T : Type 0) : Type 1 where
 pub record IsOverLimit {T : Type 0} (kind : TextKind T) (seen : Seen) (file : Word) (status : Status) (text : List ℕ)
     : Type 0 where
   pub over : IsTooLong seen.held file kind.limit seen.taken
-  pub told : text ≡ kind.too_long
+  pub result_is : text ≡ kind.too_long
   pub ends : status ≡ kind.refused
 
--- the bytes of the file stand for nothing, and what stands against them is told
+-- the bytes of the file represent nothing, and their fault is stated
 pub record IsTextRefused {T : Type 0} (kind : TextKind T) (seen : Seen) (file : Word) (status : Status) (text : List ℕ)
     : Type 0 where
   pub bytes : List ℕ
@@ -47,7 +47,7 @@ pub record GivesText {T : Type 0} (kind : TextKind T) (seen : Seen) (file : Word
   pub fetched : Fetches seen file kind.limit bytes
   pub stands : kind.StandsFor bytes thing
 
--- the file gives a text of the kind, and this is said of what it stands for
+-- the file gives a text of the kind, and this is the answer about its subject
 pub record IsOfText {T : Type 0} (kind : TextKind T) (seen : Seen) (file : Word) (Out : T → Status → List ℕ → Type 0)
     (status : Status) (text : List ℕ) : Type 0 where
   pub thing : T
@@ -60,15 +60,15 @@ pub data OnText {T : Type 0} (kind : TextKind T) (seen : Seen) (file : Word) (Ou
   NoText : IsNoText kind seen file status text → OnText kind seen file Out status text
   OfText : IsOfText kind seen file Out status text → OnText kind seen file Out status text
 
--- an earlier fetch gave these bytes, which spell this program within the limits: they are the file's, where the shelf
--- tells what it holds; where it doesn't, nothing ties them to the file, as only the last fetch's count of bytes is seen
+-- an earlier fetch gave these bytes, which spell this program within the limits: if the shelf discloses its contents,
+-- they are the file's; if it doesn't, nothing ties them to the file, as only the last fetch's count of bytes is seen
 pub record GaveProgram (seen : Seen) (file : Word) (program : Program) : Type 0 where
   pub bytes : List ℕ
   pub held : IsHeld seen.held file bytes
   pub within : length bytes ≤ program_limit
   pub spelled : SpellsWithin bytes program
 
--- the first of two files gave a program, of which this is said
+-- the first of two files gave a program, and this is the answer about it
 pub record IsBehindProgram (seen : Seen) (file : Word) (Out : Program → Status → List ℕ → Type 0) (status : Status)
     (text : List ℕ) : Type 0 where
   pub program : Program

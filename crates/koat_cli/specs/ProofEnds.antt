@@ -2,10 +2,10 @@
 use Rattle.std.specs.Prelude.{◌⊎◌, ℕ, List}
 use Rattle.std.specs.Io.KnownBytes.{Appends}
 use Rattle.model.specs.Programs.{Program}
-use Rattle.asks.specs.Lines.{Word}
+use Rattle.command_line.specs.Lines.{Word}
 use Rattle.check_text.specs.Verdicts.{IsAcceptance, IsRefusal}
 use Rattle.outcome.specs.declared.outcome_of.Outcome.{Outcome}
-use Rattle.proof_tree.specs.proof_nodes.Gaps.{ProofFile}
+use Rattle.cert_types.specs.cert_rules.Gaps.{ProofFile}
 use Rattle.koat_cli.specs.declared.status.Status.TheVariants.{ProofRefused}
 use Rattle.koat_cli.specs.Calls.{Seen, Call, Put}
 use Rattle.koat_cli.specs.Checks.{IsProved}
@@ -38,8 +38,8 @@ pub record WroteAcceptance (call : Call) (put : Put) (file proof_file : Word) : 
   pub accepted : IsAcceptance program proof text
   pub appended : Appends put.written_before put.written_after text
 
--- the two files give a program and a proof file, and a text was appended, whole, that tells the first node, or else the
--- first gap, that isn't accepted
+-- the two files give a program and a proof file, and a text was appended, whole, with the first node, or else the first
+-- gap, that isn't accepted
 pub record WroteNo (call : Call) (put : Put) (file proof_file : Word) : Type 0 where
   pub program : Program
   pub proof : ProofFile
@@ -49,7 +49,7 @@ pub record WroteNo (call : Call) (put : Put) (file proof_file : Word) : Type 0 w
   pub appended : Appends put.written_before put.written_after text
 
 -- the first of two files gave a program, and a text was appended, whole, that refuses the second one as the text of a
--- proof file: as too long, or for what stands first against its bytes
+-- proof file: as too long, or for the first fault of its bytes
 pub record WroteProofRefusal (call : Call) (put : Put) (file proof_file : Word) : Type 0 where
   pub program : Program
   pub program_given : GaveProgram call.shelf file program

@@ -1,8 +1,8 @@
--- What is said of the file of a proof on the way to an answer.
+-- Intermediate results about the file of a proof.
 use Rattle.std.specs.Prelude.{◌≡◌}
 use Rattle.model.specs.Programs.{Program}
-use Rattle.asks.specs.Lines.{Word}
-use Rattle.proof_tree.specs.AnswerViews.{file_of}
+use Rattle.command_line.specs.Lines.{Word}
+use Rattle.cert_types.specs.AnswerViews.{file_of}
 use Rattle.koat_cli.specs.declared.proof_in_file.ProofInFile.{ProofInFile}
 use Rattle.koat_cli.specs.declared.proof_in_file.ProofInFile.TheVariants as proofs_in
 use Rattle.koat_cli.specs.declared.status.Status.TheVariants.{ReadFault}

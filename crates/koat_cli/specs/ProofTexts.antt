@@ -1,14 +1,14 @@
--- Texts of proof files as what is fetched behind a program: their limit, and what is told where one is refused.
+-- Proof files as the second file of a request: their limit, and the answers where one is refused.
 use Rattle.std.specs.Prelude.{◌≡◌, ℕ, ◌^◌, List, length}
 use Rattle.model.specs.Programs.{Program}
 use Rattle.text_grammar.specs.text_core.Readers.{Fault}
 use Rattle.text_grammar.specs.text_core.Faults.{IsFirst}
 use Rattle.text_grammar.specs.Texts.{reader}
-use Rattle.proof_tree.specs.proof_nodes.Gaps.{ProofFile}
-use Rattle.proof_text.specs.Reading.{proofs_of}
-use Rattle.proof_text.specs.Spelled.{IsTextWithin}
-use Rattle.proof_text.specs.proof_pieces.declared.kind.ProofKind.{ProofKind}
-use Rattle.proof_text.specs.proof_pieces.Lexing.{tokens}
+use Rattle.cert_types.specs.cert_rules.Gaps.{ProofFile}
+use Rattle.cert_text.specs.Reading.{proofs_of}
+use Rattle.cert_text.specs.Spelled.{IsTextWithin}
+use Rattle.cert_text.specs.cert_lexer.declared.kind.ProofKind.{ProofKind}
+use Rattle.cert_text.specs.cert_lexer.Lexing.{tokens}
 use Rattle.check_text.specs.Texts.{proof_too_long_text, proof_refusal_text}
 use Rattle.koat_cli.specs.declared.status.Status.TheVariants.{ProofRefused}
 use Rattle.koat_cli.specs.OnTexts.{TextKind}
@@ -17,11 +17,11 @@ use Rattle.koat_cli.specs.OnTexts.{TextKind}
 abbrev pub proof_limit : ℕ
 proof_limit = 2 ^ 26
 
--- something stands against the bytes as the text of a proof file of the program, and the text tells what stands first
+-- the bytes have a fault as the text of a proof file of the program, and the text states the first
 pub record IsProofRefusedAs (program : Program) (bytes text : List ℕ) : Type 0 where
   pub fault : Fault ProofKind
   pub first : IsFirst (reader (proofs_of program)) (length bytes) (tokens program bytes) fault
-  pub told : text ≡ proof_refusal_text fault
+  pub result_is : text ≡ proof_refusal_text fault
 
 -- texts of proof files of a program: bytes stand for a file within the limits whose text they are
 abbrev pub proofs : Program → TextKind ProofFile

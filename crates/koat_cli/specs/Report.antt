@@ -1,4 +1,4 @@
--- The texts that the program writes, but for those of programs and reports.
+-- The texts that the program writes, except for those of programs and reports.
 use Rattle.std.specs.Prelude.{ℕ, List, ◌++◌, codes, decimal}
 use Rattle.its_model.specs.text_core.Readers.{Fault}
 use Rattle.its_reader.specs.its_text.Kinds.{LimitKind, TooManyRules, TooManyArguments, TooManyVariables, TooManyAtoms}

@@ -1,4 +1,4 @@
--- Texts of runs as what is fetched behind a program: their limit, and what is told where one is refused.
+-- Run files as the second file of a request: their limit, and the answers where one is refused.
 use Rattle.std.specs.Prelude.{◌≡◌, ℕ, ◌^◌, List, length, ◌++◌, codes, decimal}
 use Rattle.model.specs.Programs.{Program}
 use Rattle.its_model.specs.Steps.{StepFault, OtherRule, AtomFails, PastRange}
@@ -39,11 +39,11 @@ run_refusal_line at kind = codes "run refused at " ++ (decimal at ++ (codes ": "
 abbrev pub run_refusal_text : Fault RunKind → List ℕ
 run_refusal_text x = run_refusal_line x.at (run_kind_text x.kind)
 
--- something stands against the bytes as the text of a run of the program, and the text tells what stands first
+-- the bytes have a fault as the text of a run of the program, and the text states the first
 pub record IsRunRefusedAs (program : Program) (bytes text : List ℕ) : Type 0 where
   pub fault : Fault RunKind
   pub first : IsFirst (reader (runs_of program)) (length bytes) (tokens bytes) fault
-  pub told : text ≡ run_refusal_text fault
+  pub result_is : text ≡ run_refusal_text fault
 
 -- texts of runs of a program, within the limits
 abbrev pub runs : Program → TextKind Run

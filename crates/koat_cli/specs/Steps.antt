@@ -1,11 +1,11 @@
--- What is said on the way to an answer.
+-- Intermediate results on the way to an answer.
 use Rattle.std.specs.Prelude.{◌≡◌, ℕ, Bool, true, false, List, codes, ⊤}
 use Rattle.bound_expr.specs.Capped.{capped_val}
 use Rattle.bound_expr.specs.Views.{bound_of}
 use Rattle.model.specs.Programs.{Program}
 use Rattle.its_model.specs.Valid.{IsValid}
 use Rattle.its_model.specs.Views.{program_of}
-use Rattle.asks.specs.Lines.{Word}
+use Rattle.command_line.specs.Lines.{Word}
 use Rattle.outcome.specs.Views.{size_of}
 use Rattle.outcome.specs.declared.entry.TimeEntry.{TimeEntry}
 use Rattle.outcome.specs.declared.entry.TimeEntry.TheVariants as times
@@ -45,7 +45,7 @@ abbrev pub IsFaultOfRunFile : RunInFile → Type 0
 IsFaultOfRunFile (runs_in.Run r) = ⊥
 IsFaultOfRunFile (runs_in.Answer said) = said.status ≡ ReadFault
 
--- the status is neither that of a fault of the sink nor that of want of memory
+-- the status is neither that of a fault of the sink nor that of running out of memory
 abbrev pub IsSaid : Status → Type 0
 IsSaid Done = ⊤
 IsSaid Unknown = ⊤
@@ -62,10 +62,10 @@ IsSaid NotARun = ⊤
 -- whether an entry is a size
 abbrev pub is_known_size : SizeEntry → Bool
 is_known_size (sizes.Known s) = true
-is_known_size (sizes.Loose l) = false
-is_known_size (sizes.Tripped t) = false
+is_known_size (sizes.UnboundedSide l) = false
+is_known_size (sizes.OutOfLimits t) = false
 is_known_size (sizes.Missing s) = false
-is_known_size (sizes.Bent s) = false
+is_known_size (sizes.Nonlinear s) = false
 is_known_size (sizes.Untimed rule) = false
 is_known_size (sizes.Large nodes) = false
 
@@ -73,7 +73,7 @@ is_known_size (sizes.Large nodes) = false
 abbrev pub entry_value : List ℕ → TimeEntry → List ℕ
 entry_value at (times.Known s) = value_text (capped_val (bound_of s.bound) at)
 entry_value at (times.Gap g) = codes "unknown"
-entry_value at (times.Tripped t) = codes "unknown"
+entry_value at (times.OutOfLimits t) = codes "unknown"
 entry_value at (times.Large nodes) = codes "unknown"
 
 -- how often the rules occur, beside the values of their entries

@@ -4,7 +4,7 @@ use Rattle.model.specs.Bounds.{Bound, val}
 use Rattle.outcome.specs.Reports.{Time, Timed, Untimed, Size, Sized, Unsized, Report}
 use Rattle.run_replay.specs.Replays.{Sums}
 
--- each of a list stands so to the one beside it in another list, and there are as many of these
+-- each element of a list is in this relation to the one beside it in another list, of the same length
 abbrev pub AreBeside : {X Y : Type 0} → (X → Y → Type 0) → List X → List Y → Type 0
 AreBeside Beside [] [] = ⊤
 AreBeside Beside [] (y ∷ ys) = ⊥

@@ -1,10 +1,10 @@
--- What is answered to some words, and the figures of a report as text, as they were worked out by hand.
+-- Worked values of the answers to some words, and of the figures of a report as text.
 use Rattle.std.specs.Prelude.{◌≡◌, ℕ, List, [], ◌∷◌, None, codes}
 use Rattle.model.specs.Programs.{Program}
 use Rattle.model.specs.Bounds.{Constant}
 use Rattle.its_writer.specs.Generated.{entry_rule, counting_rule, generated}
 use Rattle.its_writer.specs.Texts.{canonical_text}
-use Rattle.asks.specs.Lines.{Words}
+use Rattle.command_line.specs.Lines.{Words}
 use Rattle.outcome.specs.Reports.{Timed, Untimed, TimeLarge, Sized, Unsized, SizeLarge, SizeUntimed, Report}
 use Rattle.koat_cli.specs.declared.status.Status.{Status}
 use Rattle.koat_cli.specs.declared.status.Status.TheVariants.{Done, Unknown, Usage, ReadFault, No, RunRefused}

@@ -1,10 +1,10 @@
--- What a fault of the sink leaves, as it was worked out by hand of a call that gets the usage text.
+-- Worked values of what a fault of the sink leaves, for a call that gets the usage text.
 use Rattle.std.specs.Prelude.{ℕ, List, [], ◌++◌, None, Some, codes}
 use Rattle.koat_cli.specs.Calls.{Seen, Call, Put}
 use Rattle.koat_cli.specs.Report.{usage_text}
 use Rattle.koat_cli.specs.Ends.{WroteInPart}
 
--- a shelf that doesn't tell what it holds, and had so many faults in a call
+-- a shelf that doesn't disclose its contents, and had this many faults in a call
 abbrev pub untold : ℕ → Seen
 untold faults = record { held = None; faults_before = 0; faults_after = faults; taken = 0 }
 
@@ -29,9 +29,9 @@ left_with faults bytes = record {
 abbrev pub Left : List ℕ → Type 0
 Left bytes = WroteInPart without_words (left_with 4 bytes)
 
--- some first bytes of the usage text, none or all of them, stand behind what was there; no others do, nothing stands
--- in place of what was there; without a rise of the count there was no fault, and behind a fault of the shelf nothing
--- comes of words that ask for no file
+-- a prefix of the usage text, empty or whole or between, is appended to what was there; nothing else is, and nothing
+-- replaces what was there; without a rise of the count there was no fault, and a fault of the shelf changes nothing
+-- where the words request no file
 pub record FaultsLeaveFirstBytes : Type 0 where
   pub none : Left (codes "old ")
   pub some : Left (codes "old usa")

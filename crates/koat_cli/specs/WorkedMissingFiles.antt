@@ -1,14 +1,14 @@
--- What is answered to a replay and to a check where a shelf lacks one of the two files, as it was worked out by hand.
+-- Worked values of the answers to a replay and to a check where a shelf lacks one of the two files.
 use Rattle.std.specs.Prelude.{◌≡◌, ℕ, List, [], ◌∷◌, Some, codes}
 use Rattle.std.specs.FinMap.{empty, insert}
-use Rattle.asks.specs.Lines.{Word}
+use Rattle.command_line.specs.Lines.{Word}
 use Rattle.koat_cli.specs.declared.status.Status.{Status}
 use Rattle.koat_cli.specs.declared.status.Status.TheVariants.{ReadFault, ProgramRefused}
 use Rattle.koat_cli.specs.Calls.{Seen}
 use Rattle.koat_cli.specs.Report.{read_fault_text}
 use Rattle.koat_cli.specs.Answers.{Says}
 
--- a shelf without faults that tells that it holds a file of this name without bytes, and no other
+-- a shelf without faults that discloses that it holds an empty file of this name, and no other
 abbrev pub holding : Word → Seen
 holding name = record { held = Some (insert empty name []); faults_before = 0; faults_after = 0; taken = 0 }
 
@@ -22,9 +22,9 @@ abbrev pub Checked : Seen → Status → List ℕ → Type 0
 Checked seen status text =
     Says (record { words = codes "check" ∷ codes "p" ∷ codes "q" ∷ []; shelf = seen }) status text
 
--- the program of `replay p -- -q` is `p`, and its run `-q`: where `p` is lacking, the answer is a fault of reading and
--- no other, though `-q` is there and is no run; and where `p` is there and has no bytes, it is a refusal of `p` and no
--- other, though `-q` is lacking; so it is of `check p q` and its proof `q`
+-- the program of `replay p -- -q` is `p`, and its run `-q`: where `p` is missing, the answer is a fault of reading and
+-- no other, though `-q` exists and is no run; and where `p` exists and is empty, it is a refusal of `p` and no other,
+-- though `-q` is missing; the same for `check p q` and its proof `q`
 pub record FilesAreReadInOrder : Type 0 where
   pub no_program : Replayed (holding (codes "-q")) ReadFault read_fault_text
   pub no_program_alone : (status : Status) (text : List ℕ) → Replayed (holding (codes "-q")) status text

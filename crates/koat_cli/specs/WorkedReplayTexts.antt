@@ -1,4 +1,4 @@
--- Texts of replays, and which tallies are within bounds, as they were worked out by hand.
+-- Worked values of texts of replays, and of which tallies are within bounds.
 use Rattle.std.specs.Prelude.{◌≡◌, ℕ, ◌-◌, ◌^◌, [], ◌∷◌, ◌++◌, None, Some, codes}
 use Rattle.model.specs.Bounds.{Constant, Input, SumOf, PowerOf, Part, NoParts}
 use Rattle.its_model.specs.Steps.{OtherRule, AtomFails, PastRange}
@@ -28,11 +28,17 @@ silent = record {
 
 -- the tally of one step by the first rule and three by the second one, from 3
 abbrev pub four_steps : Sums
-four_steps = record { steps = 4; counts = 1 ∷ 3 ∷ []; greatest = (3 ∷ []) ∷ (2 ∷ []) ∷ [] }
+four_steps = record {
+  steps = 4;
+  counts = 1 ∷ 3 ∷ [];
+  greatest = (3 ∷ []) ∷ (2 ∷ []) ∷ [];
+  costs = 1 ∷ 3 ∷ [];
+  spent = 4;
+}
 
--- each number stands beside the value of its bound at the inputs, a bound that is missing is unknown, and the values
--- are told up to 2^127, of a time and of a size too; the first bad step is told by its number, and each kind of refusal
--- by its word; a run's text may have so many bytes
+-- each number is beside the value of its bound at the inputs, a bound that is missing is unknown, and values are capped
+-- at 2^127, for a time and for a size; the first bad step is stated by its number, and each kind of refusal by its
+-- word; a run's text may have this many bytes
 pub record ReplaysAreTexts : Type 0 where
   pub whole : text_of_replay (3 ∷ []) four_steps counting
       ≡ codes "steps 4\ntime 1: 1 of 1\ntime 2: 3 of 3\ntotal: 4 of 4\nsize 1.1: 3 of 3\nsize 2.1: 2 of 3\n"
@@ -60,9 +66,15 @@ pub record ReplaysAreTexts : Type 0 where
   pub limit : run_refusal_text (record { kind = Limit; at = 11 }) ≡ codes "run refused at 11: Limit\n"
   pub most_bytes : run_limit ≡ 67108864
 
--- a tally of four steps by two rules, of which the second one occurs so often and leads to this absolute value
+-- a tally of four steps by two rules, the second of which occurs this often and leads to this absolute value
 abbrev pub tally_with : ℕ → ℕ → Sums
-tally_with count greatest = record { steps = 4; counts = 1 ∷ count ∷ []; greatest = (3 ∷ []) ∷ (greatest ∷ []) ∷ [] }
+tally_with count greatest = record {
+  steps = 4;
+  counts = 1 ∷ count ∷ [];
+  greatest = (3 ∷ []) ∷ (greatest ∷ []) ∷ [];
+  costs = 1 ∷ count ∷ [];
+  spent = 4;
+}
 
 -- each number is at most the value of the bound beside it: of a count, of the steps and of a greatest value one more is
 -- too many, and where a bound is missing nothing is too many; no entry is left out on either side
@@ -72,7 +84,13 @@ pub record TalliesAreBounded : Type 0 where
   pub greatest : IsWithinBounds (3 ∷ []) (tally_with 3 3) counting
   pub greater : ¬ (IsWithinBounds (3 ∷ []) (tally_with 3 4) counting)
   pub steps : ¬ (IsWithinBounds (2 ∷ [])
-      (record { steps = 4; counts = 1 ∷ 2 ∷ []; greatest = (2 ∷ []) ∷ (2 ∷ []) ∷ [] }) counting)
+      (record {
+        steps = 4;
+        counts = 1 ∷ 2 ∷ [];
+        greatest = (2 ∷ []) ∷ (2 ∷ []) ∷ [];
+        costs = 1 ∷ 2 ∷ [];
+        spent = 4;
+      }) counting)
   pub unknown : IsWithinBounds (3 ∷ []) (tally_with 9 9) silent
   pub first : ¬ (IsWithinBounds (2 ∷ []) (tally_with 9 9) silent)
   pub no_times : ¬ (IsWithinBounds (3 ∷ []) four_steps (record counting { times = [] }))

@@ -1,4 +1,4 @@
-//! The analysis of a program, with facts at its locations or without, and its status.
+//! Analyses a program, with facts at its locations or without, and chooses the status.
 
 ghost use Rattle.std.specs.Prelude.{◌≡◌, if◌then◌else◌, IfOk};
 ghost use Rattle.std.specs.List.{list_all};
@@ -17,7 +17,7 @@ use report_text::print;
 use std::alloc::Global;
 use time_bounds::analyse;
 
-/// The report of the analysis of a program, with so many pivots for each linear program.
+/// The report of the analysis of a program, with this many pivots for each linear program.
 pub(crate) fn report(alloc: Global, program: &Program, pivots: u32) -> Result<StatusText, Memory>
     requires { IsValid (program_of program.now) }
     ensures { IfOk result (λ said. IsReportOf (program_of program.now) pivots said.status said.text.items) }
@@ -30,7 +30,7 @@ pub(crate) fn report(alloc: Global, program: &Program, pivots: u32) -> Result<St
     })
 }
 
-/// The facts that are kept at the locations of a program, and the report of the program that they strengthen, with so
+/// The facts that are kept at the locations of a program, and the report of the program that they strengthen, with this
 /// many pivots for each linear program.
 pub(crate) fn report_with_facts(
     alloc: Global,

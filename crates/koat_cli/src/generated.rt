@@ -8,7 +8,7 @@ use crate::analysis::status_of;
 use crate::figures::figures;
 use crate::status::Status;
 use crate::status_text::StatusText;
-use asks::DEFAULT_PIVOTS;
+use command_line::DEFAULT_PIVOTS;
 use its_writer::{generate, print};
 use model::Memory;
 use std::alloc::Global;

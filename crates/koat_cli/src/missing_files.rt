@@ -1,23 +1,22 @@
-//! With which status a check or a replay ends, whichever of its two files is there.
+//! The status with which a check or a replay ends, whichever of its two files exists.
 
-ghost use Rattle.koat_cli.specs.MissingFiles.{MissingFilesAreTold};
+ghost use Rattle.koat_cli.specs.MissingFiles.{MissingFilesAreReported};
 ghost use Rattle.koat_cli.specs.WorkedMissingFiles.{FilesAreReadInOrder};
 
 use run_replay::replays_are_decided;
 
-/// The law that a call whose words ask for the check of a proof or for the replay of a run, on a shelf that tells what
-/// it holds, and in which no count of faults rises, ends, want of memory aside, with `ReadFault` exactly where the
-/// first file is lacking, or spells a program within the limits and the second is lacking; and with `ProgramRefused`
-/// exactly where the first file is there and spells none, whether the second is there or not. It has no code but the
-/// law of replays.
-pub fn missing_files_are_told()
-    ensures { MissingFilesAreTold }
+/// The law on a call that requests the check of a proof or the replay of a run, where the shelf discloses its contents,
+/// and no count of faults rises. If memory suffices, it ends with `ReadFault` exactly where the first file is missing,
+/// or spells a program within the limits and the second is missing; and with `ProgramRefused` exactly where the first
+/// file exists and spells none, whether the second exists or not. It has no code but the law of replays.
+pub fn missing_files_are_reported()
+    ensures { MissingFilesAreReported }
 {
     replays_are_decided();
 }
 
-/// What is answered to a replay, and to a check, where a shelf lacks one of the two files was worked out by hand: the
-/// first word is the program, and is read first. It has no code but the law of replays: its contract is these values.
+/// Worked values of the answers to a replay, and to a check, where a shelf lacks one of the two files: the first word
+/// is the program, and is read first. The function has no code but the law of replays: its contract is these values.
 pub fn worked_missing_files_hold()
     ensures { FilesAreReadInOrder }
 {

@@ -1,4 +1,4 @@
-//! What the program says, before it is written.
+//! Prepares the program's answer, before it is written.
 
 ghost use Rattle.std.specs.Prelude.{◌≡◌, ◌≤◌, ◌<◌, ◌^◌, length, map, string_bytes, IfOk};
 ghost use Rattle.koat_cli.specs.Answers.{FetchesNothing, Says};
@@ -22,13 +22,13 @@ use crate::replaying::replayed;
 use crate::run_in_file::{RunInFile, run_in};
 use crate::status::Status;
 use crate::status_text::{StatusText, status_with_text};
-use asks::{Request, asks};
+use command_line::{Request, asks};
 use its_model::Program;
 use model::Memory;
 use outside_io::Shelf;
 use std::alloc::Global;
 
-/// The text for words that ask for nothing: a line for each command.
+/// The text for words without a request: a line for each command.
 const USAGE: &[u8] = b"usage: koat analyse [--pivots N] FILE
        koat prove [--pivots N] FILE
        koat check FILE PROOF
@@ -38,7 +38,7 @@ const USAGE: &[u8] = b"usage: koat analyse [--pivots N] FILE
        koat facts [--pivots N] FILE
 ";
 
-/// The status and the text of a call with these words. The shelf keeps what it holds.
+/// Prepares the status and the text of a call with these words. The shelf's contents don't change.
 pub(crate) fn prepare<F: Shelf>(
     alloc: Global,
     words: &[String],
@@ -69,7 +69,7 @@ pub(crate) fn prepare<F: Shelf>(
     }
 }
 
-// The report on the program in a file, or what is answered where the file gives none.
+// The report on the program in a file, or the answer where the file gives none.
 fn analysis_of<F: Shelf>(
     alloc: Global,
     file: &str,
@@ -89,8 +89,8 @@ fn analysis_of<F: Shelf>(
     }
 }
 
-// The facts at the locations of the program in a file with the report that they give, or what is answered where the
-// file gives none.
+// The facts at the locations of the program in a file with the report that they give, or the answer where the file
+// gives none.
 fn facts_of<F: Shelf>(
     alloc: Global,
     file: &str,
@@ -110,7 +110,7 @@ fn facts_of<F: Shelf>(
     }
 }
 
-// The proof file of what is found of the program in a file, or what is answered where the file gives none.
+// The proof file of the analysis of the program in a file, or the answer where the file gives none.
 fn proof_of<F: Shelf>(
     alloc: Global,
     file: &str,
@@ -130,7 +130,7 @@ fn proof_of<F: Shelf>(
     }
 }
 
-// What is said of a proof of the program in a file, or what is answered where a file gives none.
+// The verdict on a proof of the program in a file, or the answer where a file gives none.
 fn check_of<F: Shelf>(
     alloc: Global,
     file: &str,
@@ -151,7 +151,7 @@ fn check_of<F: Shelf>(
     }
 }
 
-// What is said of the proof in a file for a program, or what is answered where the file gives none.
+// The verdict on the proof in a file for a program, or the answer where the file gives none.
 fn check_on<F: Shelf>(
     alloc: Global,
     program: &Program,
@@ -174,7 +174,7 @@ fn check_on<F: Shelf>(
     }
 }
 
-// A run beside the bounds of the program in a file, or what is answered where a file gives none.
+// A run beside the bounds of the program in a file, or the answer where a file gives none.
 fn replay_of<F: Shelf>(
     alloc: Global,
     file: &str,
@@ -195,7 +195,7 @@ fn replay_of<F: Shelf>(
     }
 }
 
-// The run in a file beside the bounds of a program, or what is answered where the file gives none.
+// The run in a file beside the bounds of a program, or the answer where the file gives none.
 fn replay_on<F: Shelf>(
     alloc: Global,
     program: &Program,

@@ -1,4 +1,4 @@
-//! What the program does, from its words to the status of its process.
+//! Runs the program, from its words to the status of its process.
 
 ghost use Rattle.std.specs.Prelude.{◌≡◌, ◌≢◌, ◌≤◌, [], drop, IfErr, IfOk, IsSome};
 ghost use Rattle.std.specs.IoError.{error_kind};
@@ -15,11 +15,11 @@ use std::io;
 use std::io::ErrorKind;
 use std::process::ExitCode;
 
-/// Does all that the program does, and answers the status of its process. `words` is what the system gave: the words of
-/// the command line, the program's name first.
+/// Runs the program, and returns the status of its process. `words` is what the system gave: the words of the command
+/// line, the program's name first.
 ///
-/// The words after the name go to [`run`](crate::run). Where one of the words isn't UTF-8 there are none, so that the
-/// usage text comes. Where the words can't be had for want of memory, or the system refuses them, nothing is written
+/// The words after the name go to [`run`](crate::run). If one of the words isn't UTF-8, `run` gets none, so that the
+/// usage text comes. If the words can't be had because memory ran out, or the system refuses them, nothing is written
 /// and the status is 5.
 pub fn run_program<F: Shelf, S: Sink>(
     alloc: Global,

@@ -1,7 +1,7 @@
-//! The file of a program: the program, or what is answered where the file gives none.
+//! Reads the program in a file, or gives the answer where the file has none.
 
 ghost use Rattle.std.specs.Prelude.{◌≡◌, ◌≤◌, ◌<◌, IfOk};
-ghost use Rattle.asks.specs.Lines.{Word};
+ghost use Rattle.command_line.specs.Lines.{Word};
 ghost use Rattle.koat_cli.specs.Calls.{Seen, seen_of};
 ghost use Rattle.koat_cli.specs.OnFiles.{Fetches, program_limit};
 ghost use Rattle.koat_cli.specs.Steps.{IsFileOf, IsFaultOfReading};
@@ -15,19 +15,19 @@ use model::Memory;
 use outside_io::{FetchError, Shelf};
 use std::alloc::{AllocError, Global};
 
-/// How many bytes a program's text may have.
+/// The greatest number of bytes of a program's text.
 const PROGRAM_LIMIT: u64 = 4_194_304;
 
-/// What the file of a program is.
+/// The contents of a program's file.
 #[derive(Drop)]
 pub(crate) enum ProgramFile {
     /// The program that it spells.
     Program(Program),
-    /// What is answered, where it gives no program.
+    /// The answer, if it gives no program.
     Answer(StatusText),
 }
 
-/// Fetches the file of a program and reads it. The shelf keeps what it holds.
+/// Fetches the file of a program and reads it. The shelf's contents don't change.
 pub(crate) fn program_in<F: Shelf>(
     alloc: Global,
     file: &str,
@@ -54,7 +54,7 @@ pub(crate) fn program_in<F: Shelf>(
     }
 }
 
-// What a file of these bytes is.
+// The program of a file with these bytes, or the answer where there is none.
 fn read_program(alloc: Global, bytes: &[u8]) -> Result<ProgramFile, Memory>
     ensures { IfOk result (λ f. (seen : Seen) (file : Word) → Fetches seen file program_limit bytes.now
         → IsFileOf seen file f) }

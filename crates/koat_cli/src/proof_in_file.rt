@@ -1,7 +1,7 @@
-//! The file of a proof: the proof file whose text it has, or what is answered where the file gives none.
+//! Reads the proof file in a file, or gives the answer where the file has none.
 
 ghost use Rattle.std.specs.Prelude.{◌≡◌, ◌≤◌, ◌<◌, ◌^◌, length, IfOk};
-ghost use Rattle.asks.specs.Lines.{Word};
+ghost use Rattle.command_line.specs.Lines.{Word};
 ghost use Rattle.its_model.specs.Valid.{IsValid};
 ghost use Rattle.its_model.specs.Views.{program_of};
 ghost use Rattle.koat_cli.specs.Calls.{Seen, seen_of};
@@ -11,27 +11,27 @@ ghost use Rattle.koat_cli.specs.ProofSteps.{IsProofFileOf, IsFaultOfProofFile};
 
 use crate::status::Status;
 use crate::status_text::{StatusText, status_with_text};
+use cert_text::read;
+use cert_types::ProofFile;
 use check_text::refusal_text;
 use its_model::Program;
 use model::Memory;
 use outside_io::{FetchError, Shelf};
-use proof_text::read;
-use proof_tree::ProofFile;
 use std::alloc::{AllocError, Global};
 
-/// How many bytes a proof's text may have.
+/// The greatest number of bytes of a proof's text.
 const PROOF_LIMIT: u64 = 67_108_864;
 
-/// What the file of a proof is.
+/// The contents of a proof's file.
 #[derive(Drop)]
 pub(crate) enum ProofInFile {
     /// The proof file whose text it has.
     Proof(ProofFile),
-    /// What is answered, where it has none.
+    /// The answer, if it gives none.
     Answer(StatusText),
 }
 
-/// Fetches the file of a proof for a program and reads it. The shelf keeps what it holds.
+/// Fetches the file of a proof for a program and reads it. The shelf's contents don't change.
 pub(crate) fn proof_in<F: Shelf>(
     alloc: Global,
     program: &Program,
@@ -62,7 +62,7 @@ pub(crate) fn proof_in<F: Shelf>(
     }
 }
 
-// What a file of these bytes is.
+// The proof file of these bytes, or the answer where there is none.
 fn proof_file(alloc: Global, program: &Program, bytes: &[u8]) -> Result<ProofInFile, Memory>
     requires valid { IsValid (program_of program.now) }
     requires few { length (program_of program.now).symbols < 2 ^ 32 }

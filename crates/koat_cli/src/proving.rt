@@ -1,24 +1,24 @@
-//! The proof file of an analysis, and what the checker says of one.
+//! Writes the proof file of an analysis, and the checker's verdict on one.
 
 ghost use Rattle.std.specs.Prelude.{IfOk};
 ghost use Rattle.its_model.specs.Valid.{IsValid};
 ghost use Rattle.its_model.specs.Views.{program_of};
-ghost use Rattle.proof_tree.specs.AnswerViews.{file_of};
+ghost use Rattle.cert_types.specs.AnswerViews.{file_of};
 ghost use Rattle.koat_cli.specs.Checks.{IsCheckOf, IsProofOf};
 
 use crate::analysis::status_of;
 use crate::status::Status;
 use crate::status_text::StatusText;
+use cert_text::print;
+use cert_types::ProofFile;
 use check_text::{Verdict, verdict_on};
 use its_model::Program;
 use model::Memory;
 use outcome::Outcome;
-use proof_text::print;
-use proof_tree::ProofFile;
 use std::alloc::Global;
 use time_bounds::analyse;
 
-/// The proof file of the analysis of a program, with so many pivots for each linear program: its lemmas and its gaps.
+/// The proof file of the analysis of a program, with this many pivots for each linear program: its lemmas and its gaps.
 pub(crate) fn proved(alloc: Global, program: &Program, pivots: u32) -> Result<StatusText, Memory>
     requires { IsValid (program_of program.now) }
     ensures { IfOk result (λ said. IsProofOf (program_of program.now) pivots said.status said.text.items) }
@@ -30,7 +30,7 @@ pub(crate) fn proved(alloc: Global, program: &Program, pivots: u32) -> Result<St
     Ok(StatusText { status, text })
 }
 
-/// What the checker says of a proof file for a program: its facts and gaps, or what isn't accepted first.
+/// The verdict of the checker on a proof file for a program: its facts and gaps, or what isn't accepted first.
 pub(crate) fn checked(
     alloc: Global,
     program: &Program,

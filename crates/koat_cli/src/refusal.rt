@@ -9,13 +9,13 @@ use its_reader::{LimitKind, ReadError};
 use model::Memory;
 use std::alloc::{AllocError, Global};
 
-/// What stands first against a program's text, and at which byte.
+/// The first fault of a program's text, and its byte.
 ///
 /// # Errors
 ///
-/// `Memory` where an allocation fails, and where the text wasn't read for want of memory.
+/// `Memory` where an allocation fails, and where the text wasn't read because memory ran out.
 pub(crate) fn refusal(alloc: Global, error: &ReadError) -> Result<Vec<u8>, Memory>
-    ensures told { IfOk result (λ text. IfSome (fault_in error.now) (λ x. text.items ≡ refusal_text x)) }
+    ensures result_is { IfOk result (λ text. IfSome (fault_in error.now) (λ x. text.items ≡ refusal_text x)) }
     ensures memory { fault_in error.now ≡ None → IsErr result }
 {
     match error {

@@ -90,7 +90,7 @@ fn push_time_value(text: &mut Vec<u8>, at: &[u128], time: &TimeEntry) -> Result<
     match time {
         TimeEntry::Known(stored) => push_value(text, stored.bound.capped_value(at)),
         TimeEntry::Gap { .. } => text.extend_from_slice(b"unknown"),
-        TimeEntry::Tripped(_) => text.extend_from_slice(b"unknown"),
+        TimeEntry::OutOfLimits(_) => text.extend_from_slice(b"unknown"),
         TimeEntry::Large { .. } => text.extend_from_slice(b"unknown"),
     }
 }
@@ -164,7 +164,7 @@ fn push_place(
         ≡ text.old.items ++ greatest_line rule place greatest (size_value at.now (size_of size.now))) }
 {
     text.extend_from_slice(b"size ")?;
-    push_spot(text, rule, place)?;
+    push_result_variable(text, rule, place)?;
     text.extend_from_slice(b": ")?;
     text.extend_from_slice(Buffer::new().format(greatest).as_bytes())?;
     text.extend_from_slice(b" of ")?;
@@ -173,7 +173,7 @@ fn push_place(
 }
 
 // A rule and a place.
-fn push_spot(text: &mut Vec<u8>, rule: u64, place: u64) -> Result<(), Memory>
+fn push_result_variable(text: &mut Vec<u8>, rule: u64, place: u64) -> Result<(), Memory>
     ensures { OnOk result (text.new.items ≡ text.old.items ++ place_text rule place) }
 {
     text.extend_from_slice(Buffer::new().format(rule).as_bytes())?;
@@ -188,10 +188,10 @@ fn push_size_value(text: &mut Vec<u8>, at: &[u128], size: &SizeEntry) -> Result<
 {
     match size {
         SizeEntry::Known(stored) => push_value(text, stored.bound.capped_value(at)),
-        SizeEntry::Loose(_) => text.extend_from_slice(b"unknown"),
-        SizeEntry::Tripped(_) => text.extend_from_slice(b"unknown"),
+        SizeEntry::UnboundedSide(_) => text.extend_from_slice(b"unknown"),
+        SizeEntry::OutOfLimits(_) => text.extend_from_slice(b"unknown"),
         SizeEntry::Missing(_) => text.extend_from_slice(b"unknown"),
-        SizeEntry::Bent(_) => text.extend_from_slice(b"unknown"),
+        SizeEntry::Nonlinear(_) => text.extend_from_slice(b"unknown"),
         SizeEntry::Untimed { .. } => text.extend_from_slice(b"unknown"),
         SizeEntry::Large { .. } => text.extend_from_slice(b"unknown"),
     }

@@ -1,4 +1,4 @@
-//! A run beside the bounds of its program's analysis, or its first bad step.
+//! Replays a run beside the bounds of its program's analysis, or gives its first bad step.
 
 ghost use Rattle.std.specs.Prelude.{◌≡◌, length, map, nat_abs, IfOk};
 ghost use Rattle.its_model.specs.Valid.{IsValid};
@@ -12,15 +12,15 @@ use crate::replay_text::replay_text;
 use crate::run_refusal::bad_step;
 use crate::status::Status;
 use crate::status_text::StatusText;
-use asks::DEFAULT_PIVOTS;
+use command_line::DEFAULT_PIVOTS;
 use its_model::Program;
 use model::Memory;
 use run_replay::{RunFile, Tally, replay};
 use std::alloc::Global;
 use time_bounds::analyse;
 
-/// The tally of a run of a program, beside the bounds that an analysis with the usual number of pivots finds; or its
-/// first bad step, and then no analysis is made.
+/// The tally of a run of a program, beside the bounds that an analysis with the default number of pivots finds; or its
+/// first bad step, in which case no analysis is made.
 pub(crate) fn replayed(
     alloc: Global,
     program: &Program,

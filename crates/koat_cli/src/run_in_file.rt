@@ -1,7 +1,7 @@
-//! The file of a run: the run, or what is answered where the file gives none.
+//! Reads the run in a file, or gives the answer where the file has none.
 
 ghost use Rattle.std.specs.Prelude.{◌≡◌, ◌≤◌, ◌<◌, IfOk};
-ghost use Rattle.asks.specs.Lines.{Word};
+ghost use Rattle.command_line.specs.Lines.{Word};
 ghost use Rattle.its_model.specs.Views.{program_of};
 ghost use Rattle.koat_cli.specs.Calls.{Seen, seen_of};
 ghost use Rattle.koat_cli.specs.OnFiles.{Fetches};
@@ -17,19 +17,19 @@ use outside_io::{FetchError, Shelf};
 use run_replay::{RunFile, read_run};
 use std::alloc::{AllocError, Global};
 
-/// How many bytes a run's text may have.
+/// The greatest number of bytes of a run's text.
 const RUN_LIMIT: u64 = 67_108_864;
 
-/// What the file of a run is.
+/// The contents of a run's file.
 #[derive(Drop)]
 pub(crate) enum RunInFile {
     /// The run whose text it has.
     Run(RunFile),
-    /// What is answered, where it has none.
+    /// The answer, if it gives none.
     Answer(StatusText),
 }
 
-/// Fetches the file of a run of a program and reads it. The shelf keeps what it holds.
+/// Fetches the file of a run of a program and reads it. The shelf's contents don't change.
 pub(crate) fn run_in<F: Shelf>(
     alloc: Global,
     program: &Program,
@@ -58,7 +58,7 @@ pub(crate) fn run_in<F: Shelf>(
     }
 }
 
-// What a file of these bytes is.
+// The run of these bytes, or the answer where there is none.
 fn run_text(alloc: Global, program: &Program, bytes: &[u8]) -> Result<RunInFile, Memory>
     ensures { IfOk result (λ r. (seen : Seen) (file : Word) → Fetches seen file run_limit bytes.now
         → IsRunFileOf (program_of program.now) seen file r) }

@@ -12,13 +12,13 @@ use model::Memory;
 use run_replay::{ReplayError, RunTextError};
 use std::alloc::{AllocError, Global};
 
-/// What stands first against a run's text, and at which byte.
+/// The first fault of a run's text, and its byte.
 ///
 /// # Errors
 ///
-/// `Memory` where an allocation fails, and where the text wasn't read for want of memory.
+/// `Memory` where an allocation fails, and where the text wasn't read because memory ran out.
 pub(crate) fn run_refusal(alloc: Global, error: &RunTextError) -> Result<Vec<u8>, Memory>
-    ensures told { IfOk result (λ text. IfSome (refusal_in error.now) (λ x. text.items ≡ run_refusal_text x)) }
+    ensures result_is { IfOk result (λ text. IfSome (refusal_in error.now) (λ x. text.items ≡ run_refusal_text x)) }
     ensures memory { refusal_in error.now ≡ None → IsErr result }
 {
     match error {
@@ -43,13 +43,13 @@ fn refused_at(alloc: Global, at: u64, kind: &[u8]) -> Result<Vec<u8>, Memory>
     Ok(text)
 }
 
-/// The first bad step of a run, and what keeps it from being one.
+/// The first bad step of a run, and why it is none.
 ///
 /// # Errors
 ///
-/// `Memory` where an allocation fails, and where the run wasn't replayed for want of memory.
+/// `Memory` where an allocation fails, and where the run wasn't replayed because memory ran out.
 pub(crate) fn bad_step(alloc: Global, error: &ReplayError) -> Result<Vec<u8>, Memory>
-    ensures told { IfOk result (λ text. IfSome (bad_step_of error.now) (λ bad. text.items ≡ bad_step_text bad)) }
+    ensures result_is { IfOk result (λ text. IfSome (bad_step_of error.now) (λ bad. text.items ≡ bad_step_text bad)) }
     ensures memory { bad_step_of error.now ≡ None → IsErr result }
 {
     match error {

@@ -27,7 +27,7 @@ pub enum Status {
     No,
     /// With `replay`, the program was read, and the run text is refused.
     RunRefused,
-    /// With `replay`, both were read, and the steps are no run in range.
+    /// With `replay`, both were read, and the steps are no run within 128 bits.
     NotARun,
 }
 

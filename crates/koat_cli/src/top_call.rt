@@ -1,4 +1,4 @@
-//! The top call.
+//! `run`: the top call.
 
 ghost use Rattle.std.specs.Prelude.{◌≡◌, ◌≤◌, map, string_bytes, IsSome};
 ghost use Rattle.koat_cli.specs.Calls.{call_of, put_of};
@@ -11,31 +11,31 @@ use outside_io::{PutFailed, Shelf, Sink};
 use run_replay::replays_are_decided;
 use std::alloc::Global;
 
-/// Does all that the program does for the words after its name, and answers how it ended.
+/// Executes the command of the words after the program's name, and returns how it ended.
 ///
-/// - `analyse [--pivots N] FILE` fetches the file, of at most 4,194,304 bytes, and writes its report. The program texts
-///   are those of integer transition systems in the KoAT format, and the report gives each rule a bound on how often it
-///   occurs in a run, and each argument after a rule a bound on its absolute value, in the absolute values of the
-///   inputs, or says why there is none. N is how many pivots each linear program may take, from 0 to 1,000,000, and
-///   10,000 where it isn't given.
+/// - `analyse [--pivots N] FILE` fetches the file, of at most 4,194,304 bytes, and writes its report. The file is an
+///   integer transition system in the KoAT format. The report gives each rule a bound on how often it occurs in a run,
+///   and each argument after a rule a bound on its absolute value, in terms of the absolute values of the inputs, or
+///   says why there is none. N is how many pivots each linear program may take, from 0 to 1,000,000; the default is
+///   10,000.
 /// - `prove [--pivots N] FILE` fetches the file of a program, and writes the proof file of what its analysis finds: a
-///   lemma for each bound, or for several, and a gap for each rule that no function ranks by places of known size.
-///   `check` accepts it, where it has at most 67,108,864 bytes.
+///   lemma for each bound, or for several, and a gap for each rule that no function of the places of known size ranks.
+///   `check` accepts it, if it has at most 67,108,864 bytes.
 /// - `check FILE PROOF` fetches the file of a program, and then that of a proof, of at most 67,108,864 bytes, and
-///   writes the facts of all its lemmas, and its gaps, where all of them are accepted. It solves no linear program, and
-///   believes none that did.
+///   writes the facts of all its lemmas, and its gaps, if all of them are accepted. It solves no linear program, and
+///   trusts none that was solved.
 /// - `replay FILE RUN` fetches the file of a program, and then that of a run, of at most 67,108,864 bytes, and writes
 ///   the tally along the run: how many steps it has, how often each rule occurs, and the greatest absolute value of
 ///   each argument after each rule; each beside the value, up to 2^127, of its bound at the absolute start values, or
-///   `unknown` where there is none. The bounds are those that an analysis with 10,000 pivots finds.
+///   `unknown` if there is none. The bounds are those that an analysis with 10,000 pivots finds.
 /// - `generate N` writes the generated program of a number from 0 to 100 as its canonical text, which spells it.
 /// - `selfrun N` analyses that program, with 10,000 pivots for each linear program, and writes the figures of what was
 ///   found: how many rules there are, how many of them have a time, how many of all places have a size, the total, and
 ///   how many lemmas state the bounds.
-/// - `facts [--pivots N] FILE` fetches the file of a program, and writes the facts that are kept at its locations, of
-///   each two places the greatest least: `fact NAME: x2 >= 1` says that in every run the second value is at least 1
-///   wherever the run stands at the location. Behind them comes the report of the program whose guards have these facts
-///   at the sources of its rules, too, so that more bounds are found; they are bounds of the program itself.
+/// - `facts [--pivots N] FILE` fetches the file of a program, and writes the facts that are kept at its locations, for
+///   each two places the strongest one: `fact NAME: x2 >= 1` says that in every run the second value is at least 1
+///   whenever the run is at the location. It is followed by the report of the program whose guards have these facts at
+///   the sources of its rules, too, so that more bounds are found; they are bounds of the program itself.
 /// - Other words get the usage text.
 ///
 /// The whole text is written by one put, and the status is this:
@@ -43,38 +43,36 @@ use std::alloc::Global;
 /// - `Done`: with `analyse`, the file spells a program, and its report was written, in which every rule has a time. On
 ///   every run of the program, from any integers and by any choice of rules, each rule occurs at most as often as its
 ///   time says, there are at most as many steps as the total says, and each argument after a rule stays within its
-///   size, where it has one. With `facts`, the same with the report behind the facts, and each fact holds on every run,
+///   size, if it has one. With `facts`, the same with the report behind the facts, and each fact holds on every run,
 ///   too. With `prove`, the proof file of the same analysis was written. With `check`, the files spell a program and a
 ///   proof file that is accepted, and its facts were written: each of them holds on every run of the program, whoever
-///   made the proof. With `replay`, the steps are a run of the program, no value passes 128 bits on the way, and the
+///   made the proof. With `replay`, the steps are a run of the program, no value exceeds 128 bits on the way, and the
 ///   tally was written: each number of it is at most the value of the bound beside it. With `selfrun`, its figures were
 ///   written, and every rule of the generated program has a time. With `generate`, that program's text was written.
 /// - `Unknown`: with `analyse` and `facts`, the same, where some rule has no time: the report says why, and every bound
 ///   that it gives holds on every run. With `facts` the reasons are those of the strengthened program. With `prove`,
-///   the proof file was written of such an analysis. With `selfrun`, its figures alone were written, and some rule of
+///   the proof file of such an analysis was written. With `selfrun`, only its figures were written, and some rule of
 ///   the generated program has no time.
 /// - `Usage`: the words are no command line.
-/// - `ReadFault`: a file is asked for, and the shelf had a fault in this call, or tells that it lacks the file of the
-///   program, or, where that spells a program, the file of the proof or of the run.
-/// - `ProgramRefused`: a file is asked for, and the file of the program has too many bytes, or something stands against
-///   it as the text of a program within the limits: the text says what stands first, and at which byte.
-/// - `ProofRefused`: with `check`, the first file spells a program, and the second has too many bytes, or something
-///   stands against it as the text of a proof file of the program within the limits: the text says what stands first,
-///   and at which byte.
+/// - `ReadFault`: the command needs a file, and the shelf had a fault in this call, or discloses that it lacks the file
+///   of the program, or, where that spells a program, the file of the proof or of the run.
+/// - `ProgramRefused`: the command needs a file, and the file of the program has too many bytes, or has a fault as the
+///   text of a program within the limits: the text states the first fault, and its byte.
+/// - `ProofRefused`: with `check`, the first file spells a program, and the second has too many bytes, or has a fault
+///   as the text of a proof file of the program within the limits: the text states the first fault, and its byte.
 /// - `No`: with `check`, the files spell a program and a proof file, of which some node of a lemma isn't accepted, or
-///   some gap: the text says which is the first, and why.
-/// - `RunRefused`: with `replay`, the first file spells a program, and the second has too many bytes, or something
-///   stands against it as the text of a run of the program within the limits: the text says what stands first, and at
-///   which byte.
-/// - `NotARun`: with `replay`, the files spell a program and steps of it, of which some isn't one, or a value of it
-///   passes 128 bits: the text says which is the first, and what keeps it from being one.
-/// - `WriteFault`: the sink had a fault; some first bytes of the text of the status that would have come were written.
-/// - `Memory`: memory ran out; the sink is as it was.
+///   some gap: the text states the first one, and why.
+/// - `RunRefused`: with `replay`, the first file spells a program, and the second has too many bytes, or has a fault as
+///   the text of a run of the program within the limits: the text states the first fault, and its byte.
+/// - `NotARun`: with `replay`, the files spell a program and steps of it, of which some isn't a step from where the run
+///   is, or a value of it exceeds 128 bits: the text states the first one, and why.
+/// - `WriteFault`: the sink had a fault; a prefix of the text of the status that would have come was written.
+/// - `Memory`: memory ran out; the sink is unchanged.
 ///
-/// With each status but the last two the whole text of the status was written behind what the sink held. What the shelf
-/// holds stays as it was, and words for which no file is fetched leave the whole shelf as it was. Where the shelf's
-/// count of faults is greater after the call than before, the status is `ReadFault`, `WriteFault` or `Memory`. Another
-/// call may follow any status.
+/// With each status but the last two the whole text of the status was appended to the sink. The shelf's contents never
+/// change, and the whole shelf is unchanged by words for which no file is fetched. Where the shelf's count of faults is
+/// greater after the call than before, the status is `ReadFault`, `WriteFault` or `Memory`. Another call may follow any
+/// status.
 pub fn run<F: Shelf, S: Sink>(
     alloc: Global,
     words: &[String],

@@ -1,11 +1,11 @@
 -- A limit and the code's name of it determine each other.
 use Rattle.std.proofs.Common.{◌≡◌, refl, sym, ◌∙◌, ap}
 use Rattle.linear_forms.specs.Causes.{Cause, range, budget, wide, scale, cause_of}
-use Rattle.linear_forms.specs.declared.trip_cause.TripCause.{TripCause}
-use Rattle.linear_forms.specs.declared.trip_cause.TripCause.TheVariants.{Range, Budget, Wide, Scale}
+use Rattle.linear_forms.specs.declared.limit_cause.LimitCause.{LimitCause}
+use Rattle.linear_forms.specs.declared.limit_cause.LimitCause.TheVariants.{Range, Budget, Wide, Scale}
 
 -- the code's name of a limit
-pub named : Cause → TripCause
+pub named : Cause → LimitCause
 named (range k) = Range k
 named (budget n) = Budget n
 named (wide n) = Wide n
@@ -20,7 +20,7 @@ named-is (wide n) = refl
 named-is scale = refl
 
 -- the name of the limit that is named
-named-again : (c : TripCause) → named (cause_of c) ≡ c
+named-again : (c : LimitCause) → named (cause_of c) ≡ c
 unfolding named
 named-again (Range k) = refl
 named-again (Budget n) = refl
@@ -28,5 +28,5 @@ named-again (Wide n) = refl
 named-again Scale = refl
 
 -- names of one limit are the same
-pub names-same : (c d : TripCause) → cause_of c ≡ cause_of d → c ≡ d
+pub names-same : (c d : LimitCause) → cause_of c ≡ cause_of d → c ≡ d
 names-same c d e = sym (named-again c) ∙ (ap named e ∙ named-again d)

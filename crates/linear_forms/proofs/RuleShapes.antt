@@ -1,4 +1,4 @@
--- The questions asked of rules have their shape.
+-- The questions about rules are well formed.
 use Rattle.std.proofs.Common.{◌≡◌, ℕ, zero, suc, ◌+◌, ◌≤◌, ap, arith, refl, sym, ◌∙◌, ◌⊎◌, inl, inr, Bool, true, false}
 use Rattle.std.proofs.Common.{List, [], ◌∷◌, ◌++◌, length, map, replicate, length-append, get_or}
 use Rattle.std.specs.Prelude.{ℤ, pos, negsuc, ◌*ℤ◌, if◌then◌else◌, nat_eq, not}
@@ -44,7 +44,7 @@ form-at n (suc i) (f ∷ fs) h = form-at n i fs (All-tail (λ (g : Form). length
 
 after-fits : (r : RuleForms) (i : ℕ) → IsRuleShaped r → Fits r.unknowns (after_rule r i)
 after-fits r zero s = omega arith
-after-fits r (suc i) s = form-at r.unknowns i r.news s.news_fit
+after-fits r (suc i) s = form-at r.unknowns i r.new_values s.new_values_fit
 
 -- the form 0 where a test fails
 either-fits : (n : ℕ) (b : Bool) (f : Form) → (b ≡ true → Fits n f) → Fits n (if b then f else zero_form)

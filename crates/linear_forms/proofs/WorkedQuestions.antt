@@ -7,7 +7,7 @@ use Rattle.linear_forms.specs.Questions.{program_of_question}
 use Rattle.linear_forms.specs.QuestionValues.{entering_rule, free_rule, falling_rule, impossible_rule, sliding_rule}
 use Rattle.linear_forms.specs.QuestionValues.{falling_set, shut_set, sliding_set, ImpossibleIsEmpty, SlidingHasPoint}
 use Rattle.linear_forms.specs.QuestionValues.{FallingIsRanked, ShutIsNotRanked, SlidingIsNotRanked, FallingStaysBelow}
-use Rattle.linear_forms.specs.QuestionValues.{FallingStaysAbove, SlidingIsAffine, FreeIsLoose, QuestionValues}
+use Rattle.linear_forms.specs.QuestionValues.{FallingStaysAbove, SlidingIsAffine, FreeIsUnbounded, QuestionValues}
 
 -- what holds at 0 and at the numbers after it
 below-suc : (P : ℕ → Type 0) (n : ℕ) → P 0 → ((i : ℕ) → i < n → P (suc i)) → (i : ℕ) → i < suc n → P i
@@ -151,9 +151,9 @@ affine = record {
 }
 
 -- the free rule's has none
-loose : FreeIsLoose
+unbounded : FreeIsUnbounded
 unfolding program_of_question free_rule
-loose = record {
+unbounded = record {
   equations_are = refl;
   refuted = record {
     columns = below-suc _ _ (omega (arith, ints)) (below-suc _ _ (omega (arith, ints)) (below-suc _ _ (omega (arith, ints)) (below-suc _ _ (omega (arith, ints)) (
@@ -174,5 +174,5 @@ question-values = record {
   below = below;
   above = above;
   affine = affine;
-  loose = loose;
+  unbounded = unbounded;
 }

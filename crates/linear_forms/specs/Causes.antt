@@ -1,7 +1,7 @@
--- Why a linear program isn't solved: the limit that its sequence of tableaux passes.
+-- Why a linear program isn't solved: the limit that its sequence of tableaux exceeds.
 use Rattle.std.specs.Prelude.{ℕ}
-use Rattle.linear_forms.specs.declared.trip_cause.TripCause.{TripCause}
-use Rattle.linear_forms.specs.declared.trip_cause.TripCause.TheVariants.{Range, Budget, Wide, Scale}
+use Rattle.linear_forms.specs.declared.limit_cause.LimitCause.{LimitCause}
+use Rattle.linear_forms.specs.declared.limit_cause.LimitCause.TheVariants.{Range, Budget, Wide, Scale}
 
 -- the limits: a number out of range after some pivots; the pivots allowed, which don't suffice; the numbers of a table
 -- that is too wide; and a scale, where the answer has no whole numbers small enough
@@ -12,7 +12,7 @@ pub data Cause : Type 0 where
   scale : Cause
 
 -- the limit that the code names
-abbrev pub cause_of : TripCause → Cause
+abbrev pub cause_of : LimitCause → Cause
 cause_of (Range pivot) = range pivot
 cause_of (Budget pivots) = budget pivots
 cause_of (Wide entries) = wide entries

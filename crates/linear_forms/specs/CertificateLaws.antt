@@ -1,4 +1,4 @@
--- What certificates are worth, and worked values of points, rays and certificates.
+-- What certificates prove, and worked values of points, rays and certificates.
 use Rattle.std.specs.Prelude.{◌≡◌, ℕ, List, [], ◌∷◌, ℤ, pos, negsuc, ◌≤ℤ◌}
 use Rattle.linear_forms.specs.Forms.{Form, at, form_value}
 use Rattle.linear_forms.specs.Points.{Meets, IsPoint, IsRay}

@@ -1,4 +1,5 @@
--- Certificates by Farkas' lemma: a form follows from rows where it is a sum of nonnegative multiples of them, and more.
+-- Certificates by Farkas' lemma: a form follows from rows if it is a sum of nonnegative multiples of them plus a
+-- nonnegative number.
 use Rattle.std.specs.Prelude.{◌≡◌, ℕ, List, [], ◌∷◌, length, ℤ, pos, negsuc, ◌+ℤ◌, ◌*ℤ◌, ◌≤ℤ◌}
 use Rattle.linear_forms.specs.Forms.{Form, at}
 

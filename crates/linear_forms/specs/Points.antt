@@ -1,4 +1,4 @@
--- Rational points and rays of rows, each row being a form that has to be at least 0.
+-- Rational points and rays of rows; a row is a form that has to be at least 0.
 use Rattle.std.specs.Prelude.{ℕ, List, ℤ, pos, ◌≤ℤ◌, ◌<ℤ◌}
 use Rattle.std.specs.List.{All}
 use Rattle.linear_forms.specs.Forms.{Form, form_value}

@@ -1,4 +1,4 @@
--- Linear programs that agree, and points, prices and duals over another scale.
+-- Linear programs that agree, and points, prices and duals at another scale.
 use Rattle.std.specs.Prelude.{◌≡◌, ℕ, ◌<◌, ℤ, pos, ◌*ℤ◌, ◌<ℤ◌}
 use Rattle.linear_forms.specs.LinearProgram.{LinearProgram, IsSolution, ArePrices, IsLeast, IsDual}
 

@@ -1,4 +1,4 @@
--- What solutions, duals and prices of a question's linear program say of the question.
+-- What solutions, duals and prices of a question's linear program prove of the question.
 use Rattle.std.specs.Prelude.{◌≡◌, ℕ, zero, suc, ◌+◌, ◌<◌, List, [], ◌∷◌, length, slice_index_or, ℤ, pos, negsuc, ◌+ℤ◌}
 use Rattle.std.specs.Prelude.{◌-ℤ◌, ◌*ℤ◌, nat_abs, ◌≤ℤ◌, ◌<ℤ◌}
 use Rattle.std.specs.List.{All}

@@ -1,5 +1,5 @@
--- Worked values of the questions that are asked of rules: their columns, equations and costs, with a solution or a
--- dual, and numbers that are none.
+-- Worked values of the questions about rules: their columns, equations and costs, each with a solution or a dual, and
+-- with numbers that are neither.
 use Rattle.std.specs.Prelude.{◌≡◌, ℕ, ◌&&◌, Bool, false, nat_eq, if◌then◌else◌, List, [], ◌∷◌, ℤ, pos, negsuc}
 use Rattle.linear_forms.specs.Forms.{Form, at}
 use Rattle.linear_forms.specs.LinearProgram.{IsSolution, IsDual}
@@ -21,12 +21,12 @@ equation numbers right = record { numbers = numbers; right = right }
 -- the rule f(A) -> g(A)
 unfoldable pub entering_rule : RuleForms
 entering_rule =
-    record { source = 0; target = 1; left = 1; unknowns = 1; rows = []; news = line_form (pos 1) (pos 0) ∷ [] }
+    record { source = 0; target = 1; left = 1; unknowns = 1; rows = []; new_values = line_form (pos 1) (pos 0) ∷ [] }
 
 -- the rule f(A) -> g(C), whose new value is free
 unfoldable pub free_rule : RuleForms
 free_rule =
-    record { source = 0; target = 1; left = 1; unknowns = 2; rows = []; news = plane_form (pos 0) (pos 1) (pos 0) ∷ [] }
+    record { source = 0; target = 1; left = 1; unknowns = 2; rows = []; new_values = plane_form (pos 0) (pos 1) (pos 0) ∷ [] }
 
 -- the rule g(A) -> g(A - 1) :|: A >= 1
 unfoldable pub falling_rule : RuleForms
@@ -36,7 +36,7 @@ falling_rule = record {
   left = 1;
   unknowns = 1;
   rows = line_form (pos 1) (negsuc 0) ∷ [];
-  news = line_form (pos 1) (negsuc 0) ∷ [];
+  new_values = line_form (pos 1) (negsuc 0) ∷ [];
 }
 
 -- the rule g(A) -> g(A) :|: A >= 1 && A <= 0
@@ -47,7 +47,7 @@ impossible_rule = record {
   left = 1;
   unknowns = 1;
   rows = line_form (pos 1) (negsuc 0) ∷ line_form (negsuc 0) (pos 0) ∷ [];
-  news = line_form (pos 1) (pos 0) ∷ [];
+  new_values = line_form (pos 1) (pos 0) ∷ [];
 }
 
 -- the rule g(A, B) -> g(A + B, B - 1) :|: A >= 1
@@ -58,7 +58,7 @@ sliding_rule = record {
   left = 2;
   unknowns = 2;
   rows = plane_form (pos 1) (pos 0) (negsuc 0) ∷ [];
-  news = plane_form (pos 1) (pos 1) (pos 0) ∷ plane_form (pos 0) (pos 1) (negsuc 0) ∷ [];
+  new_values = plane_form (pos 1) (pos 1) (pos 0) ∷ plane_form (pos 0) (pos 1) (negsuc 0) ∷ [];
 }
 
 -- no place is shut
@@ -233,7 +233,7 @@ pub record SlidingIsAffine : Type 0 where
 
 -- the free rule's new value C is at most no form a*A + c: a = 0, 0 = 1 and c - s = 0; the dual 0, 1, 0 refutes them, a
 -- ray along C, and the ray along A doesn't
-pub record FreeIsLoose : Type 0 where
+pub record FreeIsUnbounded : Type 0 where
   pub equations_are : equations 0 (affine_question free_rule (value_up free_rule 1)).groups
       ≡ equation (pos 1 ∷ negsuc 0 ∷ pos 0 ∷ pos 0 ∷ pos 0 ∷ []) (pos 0)
       ∷ equation (pos 0 ∷ pos 0 ∷ pos 0 ∷ pos 0 ∷ pos 0 ∷ []) (pos 1)
@@ -254,4 +254,4 @@ pub record QuestionValues : Type 0 where
   pub below : FallingStaysBelow
   pub above : FallingStaysAbove
   pub affine : SlidingIsAffine
-  pub loose : FreeIsLoose
+  pub unbounded : FreeIsUnbounded

@@ -1,6 +1,6 @@
 -- Questions about rows: which parameters make each goal, a form in these parameters, follow from its rows. The linear
--- program of a question asks for the parameters and for the multipliers of the rows at once.
--- `RuleQuestions` has the questions that are asked of rules.
+-- program of a question has as unknowns the parameters and the multipliers of the rows. `RuleQuestions` has the
+-- questions about rules.
 use Rattle.std.specs.Prelude.{◌≡◌, ℕ, zero, suc, ◌+◌, ◌≤◌, nat_lt, if◌then◌else◌, List, [], ◌∷◌, ◌++◌, map, length}
 use Rattle.std.specs.Prelude.{replicate, slice_index_or, ℤ, pos, negsuc, neg_ℤ}
 use Rattle.std.specs.List.{All}

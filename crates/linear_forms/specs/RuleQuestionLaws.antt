@@ -1,4 +1,4 @@
--- The questions asked of rules are questions: their forms have no coefficient past their unknowns, and there is a goal,
+-- The questions about rules are well formed: their forms have no coefficient past their unknowns, and there is a goal,
 -- a size and a height for each parameter.
 use Rattle.std.specs.Prelude.{◌≡◌, ℕ, ◌≤◌, List, length}
 use Rattle.std.specs.List.{All}
@@ -10,7 +10,7 @@ use Rattle.linear_forms.specs.RuleQuestions.{RuleForms, RankedSet, empty_questio
 pub record IsRuleShaped (r : RuleForms) : Type 0 where
   pub left_fits : r.left ≤ r.unknowns
   pub rows_fit : All (λ f. length f.coefs ≤ r.unknowns) r.rows
-  pub news_fit : All (λ f. length f.coefs ≤ r.unknowns) r.news
+  pub new_values_fit : All (λ f. length f.coefs ≤ r.unknowns) r.new_values
 
 -- each rule is shaped, and has a left variable for each place of its source
 pub record AreRulesShaped (b : RankedSet) : Type 0 where

@@ -1,4 +1,4 @@
--- The questions that are asked of rules: whether the rows of a rule have no point, whether a function ranks a rule of a
+-- The questions about rules: whether the rows of a rule have no rational point, whether a function ranks a rule of a
 -- set, and which form bounds a new value.
 use Rattle.std.specs.Prelude.{ℕ, zero, suc, ◌||◌, Bool, not, nat_eq, if◌then◌else◌, List, [], ◌∷◌, ◌++◌, map, filter}
 use Rattle.std.specs.Prelude.{length, replicate, slice_index_or, ℤ, pos, negsuc}
@@ -16,7 +16,7 @@ pub record RuleForms : Type 0 where
   pub left : ℕ
   pub unknowns : ℕ
   pub rows : List Form
-  pub news : List Form
+  pub new_values : List Form
 
 -- the form that is a number everywhere
 abbrev pub constant_form : ℤ → Form
@@ -39,7 +39,7 @@ before_rule (suc i) = unknown_form i
 -- and after it: the new value at the place
 abbrev pub after_rule : RuleForms → ℕ → Form
 after_rule r zero = constant_form (pos 1)
-after_rule r (suc i) = slice_index_or r.news i zero_form
+after_rule r (suc i) = slice_index_or r.new_values i zero_form
 
 -- whether the rows of a rule have no point: whether -1 follows from them
 abbrev pub empty_question : RuleForms → Question

@@ -1,4 +1,4 @@
--- How large the coefficients of a form are.
+-- Bounds on the coefficients of a form.
 use Rattle.std.specs.Prelude.{ℕ, ◌+◌, List, [], ◌∷◌, ℤ, nat_abs}
 
 -- the absolute values of coefficients, added up: 0 exactly where all are 0

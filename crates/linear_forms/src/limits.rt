@@ -4,7 +4,7 @@ ghost use Rattle.std.specs.Prelude.{◌≡◌};
 ghost use Rattle.linear_forms.specs.Limits.{certificate_limit, point_limit};
 
 /// The most that a multiplier, a coefficient, a constant or a denominator of a certificate may be in absolute value.
-pub const CERTIFICATE_LIMIT: u64 = 1 << 55;
+pub const CERTIFICATE_LIMIT: u64 = 1 << 56;
 
 /// The most that a part of a point, of a ray or of a gap, or its denominator, may be in absolute value.
 pub const POINT_LIMIT: u64 = 1 << 45;

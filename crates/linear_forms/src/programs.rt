@@ -1,4 +1,4 @@
-//! Linear programs that agree, and points, prices and duals over another scale.
+//! Linear programs that agree, and points, prices and duals at another scale.
 
 ghost use Rattle.linear_forms.specs.ProgramLaws.{AgreeingProgramsAreTheSame, ScalesCarry};
 
@@ -8,7 +8,7 @@ pub fn agreeing_programs_are_the_same()
     ensures { AgreeingProgramsAreTheSame }
 {}
 
-/// A solution, prices, a least point and a dual stay so over any positive scale.
+/// A solution, prices, a least point and a dual remain such at any positive scale.
 pub fn scales_carry()
     ensures { ScalesCarry }
 {}

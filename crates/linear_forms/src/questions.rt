@@ -1,24 +1,24 @@
-//! What a question's linear program says of the question.
+//! What a question's linear program proves of the question.
 
 ghost use Rattle.linear_forms.specs.QuestionLaws.{SolutionsSolve, DualsRefute, RefutedHasNone, PricesBoundWeights};
 ghost use Rattle.linear_forms.specs.QuestionLaws.{LeastWeighsLeast};
 ghost use Rattle.linear_forms.specs.QuestionValues.{QuestionValues};
 ghost use Rattle.linear_forms.specs.RuleQuestionLaws.{RuleQuestionsAreShaped};
 
-/// A solution of a question's linear program gives parameters, and for each group multipliers by which its goal at
-/// these parameters follows from its rows.
+/// A solution of a question's linear program gives parameters, and for each group multipliers that certify that its
+/// goal at these parameters follows from its rows.
 pub fn solutions_solve()
     ensures { SolutionsSolve }
 {}
 
-/// A dual of a question's linear program falls into one part for each group, which is a point or a ray of its rows. At
+/// A dual of a question's linear program splits into one part for each group, which is a point or a ray of its rows. At
 /// these the goal forms of each parameter add up to 0, and the fixed forms to less than 0.
 pub fn duals_refute()
     ensures { DualsRefute }
 {}
 
-/// Where points and rays refute a question and each group has a point, no parameters make every goal at least 0 on all
-/// points of its group: along a ray a group's point can be moved any number of times.
+/// If points and rays refute a question and each group has a point, then no parameters make every goal at least 0 on
+/// all points of its group: a group's point can be moved along a ray any number of times.
 pub fn refuted_has_none()
     ensures { RefutedHasNone }
 {}
@@ -35,14 +35,14 @@ pub fn least_weighs_least()
     ensures { LeastWeighsLeast }
 {}
 
-/// Worked values of the questions that are asked of rules and of their linear programs: columns, equations and costs,
-/// with a solution or a dual, and numbers that are none.
+/// Worked values of the questions about rules and of their linear programs: columns, equations and costs, each with a
+/// solution or a dual, and with numbers that are neither.
 pub fn questions_have_these_programs()
     ensures { QuestionValues }
 {}
 
-/// The questions that are asked of rules have their shape, where the forms of the rules have no coefficient past their
-/// unknowns: so all that is said of questions is said of them.
+/// The questions about rules are well formed where the forms of the rules have no coefficient past their unknowns, so
+/// all laws about questions apply to them.
 pub fn rule_questions_are_shaped()
     ensures { RuleQuestionsAreShaped }
 {}

@@ -1,4 +1,4 @@
--- The numbers that are read off a solution in whole numbers are within the limit.
+-- The numbers that are read off a solution in integers are within the limit.
 use Rattle.std.proofs.Common.{◌≡◌, ◌⊎◌, ℕ, suc, ◌+◌, ◌<◌, ◌≤◌, ap, arith, sym, ◌∙◌, subst, inl, inr, Bool, true, false}
 use Rattle.std.proofs.Common.{List, length, nat_eq, if◌then◌else◌}
 use Rattle.std.specs.Prelude.{ℤ, pos, negsuc, nat_abs, ◌-ℤ◌, ◌*ℤ◌, neg_ℤ, ◌≤ℤ◌}
@@ -13,10 +13,10 @@ use Rattle.simplex_core.specs.linear_forms.Questions.{double}
 use Rattle.simplex_core.specs.linear_forms.QuestionLaws.{after, parameters_of, multipliers_of}
 use Rattle.simplex_core.proofs.linear_forms.ListLaws.{after-is, length-listed}
 use Rattle.simplex_core.proofs.linear_forms.SolutionLaws.{All-listed}
-use Rattle.proof_tree.specs.rule_forms.Kinds.{Kind, Number, Argument, Affine, Sign, Plus, Minus, unit_of}
-use Rattle.proof_tree.specs.rule_forms.Questions.{form_of}
+use Rattle.cert_types.specs.rule_forms.Kinds.{Kind, Number, Argument, Affine, Sign, Plus, Minus, unit_of}
+use Rattle.cert_types.specs.rule_forms.Questions.{form_of}
 use Rattle.simplex_core.specs.Trips.{IsScaledSolution}
-use Rattle.proof_tree.specs.proof_nodes.Limits.{IsInLimit, IsFormInLimit, AreInLimit}
+use Rattle.cert_types.specs.cert_rules.Limits.{IsInLimit, IsFormInLimit, AreInLimit}
 use Rattle.rule_questions.proofs.Lists.{multipliers-listed}
 pub use Rattle.simplex_core.proofs.linear_forms.SolutionLaws.{length-multipliers as multipliers-long}
 
@@ -85,7 +85,7 @@ module _ (p : LinearProgram) (pivots : ℕ) (numbers : List ℤ) (den : ℕ)
       go (inr l) = subst (λ (z : ℤ). pos 0 ≤ℤ z) (sym (get_or_past numbers j (pos 0) l))
           (let k : pos 0 ≤ℤ pos 0 = omega (arith, ints) in k)
 
-  -- so are the parameters within it
+  -- the same for the parameters within it
   pub parameter-small : (k : ℕ) → IsInLimit (nat_abs (parameters_of (at numbers) k))
   parameter-small k =
       apart (at numbers (double k)) (at numbers (suc (double k))) certificate_limit (column-nonneg (double k))

@@ -5,28 +5,28 @@ use Rattle.simplex_core.proofs.int_laws.RingLaws.{mul-zero_ℤ}
 use Rattle.simplex_core.specs.linear_forms.Forms.{Form, at}
 use Rattle.simplex_core.specs.linear_forms.RuleQuestions.{before_rule}
 use Rattle.simplex_core.proofs.linear_forms.CombinationLaws.{at-times}
-use Rattle.proof_tree.specs.rule_forms.Kinds.{Kind, Number, Argument, Affine, unit_of, IsOfKind}
-use Rattle.proof_tree.specs.rule_forms.Questions.{IsKindOf}
-use Rattle.proof_tree.proofs.rule_forms.Forms.{at-other}
-use Rattle.proof_tree.proofs.rule_forms.Rays.{loose-has-none}
+use Rattle.cert_types.specs.rule_forms.Kinds.{Kind, Number, Argument, Affine, unit_of, IsOfKind}
+use Rattle.cert_types.specs.rule_forms.Questions.{IsKindOf}
+use Rattle.cert_types.proofs.rule_forms.Forms.{at-other}
+use Rattle.cert_types.proofs.rule_forms.Rays.{unbounded-has-none}
 use Rattle.poly_terms.specs.model.Programs.{Program, Rule}
 use Rattle.guard_prep.specs.its_model.Valid.{IsValid}
 use Rattle.guard_prep.specs.Prepared.{Prepared, prepared}
-use Rattle.proof_tree.specs.proof_nodes.Nodes.{Spot, Arm, LocalBound}
-use Rattle.proof_tree.specs.proof_nodes.AcceptsSizes.{Side, Up, Low}
-use Rattle.proof_tree.specs.proof_nodes.Gaps.{ScaledPoint}
-use Rattle.proof_tree.specs.declared.answer.EmptyAnswer.{EmptyAnswer}
-use Rattle.proof_tree.specs.declared.answer.EmptyAnswer.TheVariants as empties
-use Rattle.proof_tree.specs.declared.answer.Trip.{Trip}
+use Rattle.cert_types.specs.cert_rules.Nodes.{ResultVariable, SideBound, LocalBound}
+use Rattle.cert_types.specs.cert_rules.AcceptsSizes.{Side, Up, Low}
+use Rattle.cert_types.specs.cert_rules.Gaps.{ScaledPoint}
+use Rattle.cert_types.specs.declared.answer.GuardFeasibility.{GuardFeasibility}
+use Rattle.cert_types.specs.declared.answer.GuardFeasibility.TheVariants as empties
+use Rattle.cert_types.specs.declared.answer.LimitHit.{LimitHit}
 use Rattle.rule_questions.specs.EmptyAnswers.{IsEmptyAnswer}
 use Rattle.rule_questions.specs.OneEmptyAnswer.{IsSameEmptyAnswer}
-use Rattle.local_size.specs.Sides.{ArmFound}
+use Rattle.local_size.specs.Sides.{SideBoundFound}
 use Rattle.local_size.specs.Places.{local_forms, value_on, is_polynomial_at, kinds_of}
-use Rattle.local_size.specs.LocalAnswers.{Local, HasBound, IsLooseOn, HasTripped, SideComesTo, IsLocal}
-use Rattle.local_size.specs.LocalLaws.{IsSpotOf, IsLooseSide, PlaceTrips, SaysLoose, SaysTripped, LocalAnswersAreExact}
+use Rattle.local_size.specs.LocalAnswers.{Local, HasBound, IsUnboundedOn, HasTripped, SideComesTo, IsLocal}
+use Rattle.local_size.specs.LocalLaws.{IsResultVariableOf, IsUnboundedSide, PlaceTrips, SaysUnbounded, SaysTripped, LocalAnswersAreExact}
 use Rattle.local_size.proofs.Accepted.{at-least-one, found-fits}
-use Rattle.local_size.proofs.FirstArms.{fails, arm-of_kind, arm-above}
-use Rattle.local_size.proofs.LooseAnswers.{ray-of_side, has-point}
+use Rattle.local_size.proofs.FirstSideBounds.{fails, side_bound-of_kind, side_bound-above}
+use Rattle.local_size.proofs.UnboundedAnswers.{ray-of_side, has-point}
 use Rattle.local_size.proofs.OneLocal.{locals-once}
 use Rattle.local_size.proofs.KindsAsked.{Found, found}
 
@@ -47,88 +47,88 @@ kind-affine left (Argument place sign) g q k h =
 kind-affine left Affine g q k h = h
 
 -- an answer is the same as itself
-same-again : (d : EmptyAnswer) → IsSameEmptyAnswer d d
+same-again : (d : GuardFeasibility) → IsSameEmptyAnswer d d
 same-again (empties.Empty n) = (refl, refl)
 same-again (empties.Point z) = refl
-same-again (empties.Tripped t) = (refl, refl)
+same-again (empties.OutOfLimits t) = (refl, refl)
 
 -- a loose answer isn't a trip
-loose-no_trip : (side : Side) (ray : List ℤ) (kept : ScaledPoint) (t : Trip)
-    → IsLooseOn side ray kept ≡ HasTripped t → ⊥
-loose-no_trip side ray kept t e = cc
+unbounded-no_limit_hit : (side : Side) (ray : List ℤ) (kept : ScaledPoint) (t : LimitHit)
+    → IsUnboundedOn side ray kept ≡ HasTripped t → ⊥
+unbounded-no_limit_hit side ray kept t e = cc
 
 -- nor are arms
-bound-no_trip : (l : LocalBound) (t : Trip) → HasBound l ≡ HasTripped t → ⊥
-bound-no_trip l t e = cc
+bound-no_limit_hit : (l : LocalBound) (t : LimitHit) → HasBound l ≡ HasTripped t → ⊥
+bound-no_limit_hit l t e = cc
 
-module _ (p : Program) (r : Rule) (spot : Spot) (pivots : ℕ) (valid : IsValid p) (is : IsSpotOf p spot r) where
+module _ (p : Program) (r : Rule) (result_variable : ResultVariable) (pivots : ℕ) (valid : IsValid p) (is : IsResultVariableOf p result_variable r) where
   abbrev m : Prepared
   m = prepared r
 
   -- a side with an arm isn't loose
-  arm-not_loose : (side : Side) (arm : Arm) → SideComesTo m spot.place pivots side (ArmFound arm)
-      → IsLooseSide m spot.place side → ⊥
-  arm-not_loose side arm h loose =
-      (loose-has-none m.rows m.left (value_on side m spot.place) loose.z loose.point loose.ray).each _ f.comes.1.0
+  side_bound-not_unbounded : (side : Side) (side_bound : SideBound) → SideComesTo m result_variable.place pivots side (SideBoundFound side_bound)
+      → IsUnboundedSide m result_variable.place side → ⊥
+  side_bound-not_unbounded side side_bound h unbounded =
+      (unbounded-has-none m.rows m.left (value_on side m result_variable.place) unbounded.z unbounded.point unbounded.ray).each _ f.comes.1.0
       (at-least-one f.comes.1.0 f.comes.1.1.solution.denominator)
-      (kind-affine m.left f.kind _ f.comes.1.0 k (arm-of_kind p r spot pivots valid is side f.kind arm k f.comes))
-      (arm-above p r spot pivots valid is side f.kind arm k f.comes)
+      (kind-affine m.left f.kind _ f.comes.1.0 k (side_bound-of_kind p r result_variable pivots valid is side f.kind side_bound k f.comes))
+      (side_bound-above p r result_variable pivots valid is side f.kind side_bound k f.comes)
     where
-      f : Found (local_forms m) (value_on side m spot.place) pivots (kinds_of m spot.place) arm
-      f = found (local_forms m) (value_on side m spot.place) pivots (kinds_of m spot.place) arm h
+      f : Found (local_forms m) (value_on side m result_variable.place) pivots (kinds_of m result_variable.place) side_bound
+      f = found (local_forms m) (value_on side m result_variable.place) pivots (kinds_of m result_variable.place) side_bound h
 
       k : IsKindOf m.left f.kind
-      k = (found-fits m spot.place pivots side arm f).1
+      k = (found-fits m result_variable.place pivots side side_bound f).1
 
   -- so no side is loose where the answer has arms
-  bound-not_loose : (empty : EmptyAnswer) (l : LocalBound) (side : Side) → IsLocal m spot pivots empty (HasBound l)
-      → IsLooseSide m spot.place side → ⊥
-  bound-not_loose empty l side (inl h) loose = loose.asked h.0
-  bound-not_loose empty l Up (inr h) loose = arm-not_loose Up l.up h.up loose
-  bound-not_loose empty l Low (inr h) loose = arm-not_loose Low l.low h.low loose
+  bound-not_unbounded : (empty : GuardFeasibility) (l : LocalBound) (side : Side) → IsLocal m result_variable pivots empty (HasBound l)
+      → IsUnboundedSide m result_variable.place side → ⊥
+  bound-not_unbounded empty l side (inl h) unbounded = unbounded.asked h.0
+  bound-not_unbounded empty l Up (inr h) unbounded = side_bound-not_unbounded Up l.up h.up unbounded
+  bound-not_unbounded empty l Low (inr h) unbounded = side_bound-not_unbounded Low l.low h.low unbounded
 
   -- a place is answered loose exactly where a side is loose and no question trips
-  loose-if : (empty : EmptyAnswer) (x : Local) → IsEmptyAnswer m spot.rule pivots empty → IsLocal m spot pivots empty x
-      → SaysLoose x ↔ (((side : Side) × IsLooseSide m spot.place side) × (¬ PlaceTrips m spot pivots empty))
-  loose-if empty (HasBound l) known h = (λ s. absurd s, λ g. bound-not_loose empty l g.0.0 h g.0.1)
-  loose-if empty (IsLooseOn side ray kept) known h = (
+  unbounded-if : (empty : GuardFeasibility) (x : Local) → IsEmptyAnswer m result_variable.rule pivots empty → IsLocal m result_variable pivots empty x
+      → SaysUnbounded x ↔ (((side : Side) × IsUnboundedSide m result_variable.place side) × (¬ PlaceTrips m result_variable pivots empty))
+  unbounded-if empty (HasBound l) known h = (λ s. absurd s, λ g. bound-not_unbounded empty l g.0.0 h g.0.1)
+  unbounded-if empty (IsUnboundedOn side ray kept) known h = (
     λ s. (
       (
         side,
         record {
-          asked = fails (is_polynomial_at m spot.place) h.asked;
-          point = has-point p r spot pivots valid is empty side ray kept h known;
+          asked = fails (is_polynomial_at m result_variable.place) h.asked;
+          point = has-point p r result_variable pivots valid is empty side ray kept h known;
           z = at ray;
-          ray = ray-of_side p r spot pivots valid is empty side ray kept h;
+          ray = ray-of_side p r result_variable pivots valid is empty side ray kept h;
         },
       ),
-      λ t. loose-no_trip side ray kept t.trip
-          (locals-once m spot pivots empty empty (IsLooseOn side ray kept) (HasTripped t.trip) (same-again empty) h
+      λ t. unbounded-no_limit_hit side ray kept t.limit_hit
+          (locals-once m result_variable pivots empty empty (IsUnboundedOn side ray kept) (HasTripped t.limit_hit) (same-again empty) h
           t.tripped),
     ),
     λ g. tt,
   )
-  loose-if empty (HasTripped t) known h = (λ s. absurd s, λ g. g.1 (record { trip = t; tripped = h }))
+  unbounded-if empty (HasTripped t) known h = (λ s. absurd s, λ g. g.1 (record { limit_hit = t; tripped = h }))
 
 -- and tripped exactly where one does
-tripped-if : (m : Prepared) (spot : Spot) (pivots : ℕ) (empty : EmptyAnswer) (x : Local) → IsLocal m spot pivots empty x
-    → SaysTripped x ↔ PlaceTrips m spot pivots empty
-tripped-if m spot pivots empty (HasBound l) h = (
+tripped-if : (m : Prepared) (result_variable : ResultVariable) (pivots : ℕ) (empty : GuardFeasibility) (x : Local) → IsLocal m result_variable pivots empty x
+    → SaysTripped x ↔ PlaceTrips m result_variable pivots empty
+tripped-if m result_variable pivots empty (HasBound l) h = (
   λ s. absurd s,
-  λ t. bound-no_trip l t.trip
-      (locals-once m spot pivots empty empty (HasBound l) (HasTripped t.trip) (same-again empty) h t.tripped),
+  λ t. bound-no_limit_hit l t.limit_hit
+      (locals-once m result_variable pivots empty empty (HasBound l) (HasTripped t.limit_hit) (same-again empty) h t.tripped),
 )
-tripped-if m spot pivots empty (IsLooseOn side ray kept) h = (
+tripped-if m result_variable pivots empty (IsUnboundedOn side ray kept) h = (
   λ s. absurd s,
-  λ t. loose-no_trip side ray kept t.trip
-      (locals-once m spot pivots empty empty (IsLooseOn side ray kept) (HasTripped t.trip) (same-again empty) h
+  λ t. unbounded-no_limit_hit side ray kept t.limit_hit
+      (locals-once m result_variable pivots empty empty (IsUnboundedOn side ray kept) (HasTripped t.limit_hit) (same-again empty) h
       t.tripped),
 )
-tripped-if m spot pivots empty (HasTripped t) h = (λ s. record { trip = t; tripped = h }, λ u. tt)
+tripped-if m result_variable pivots empty (HasTripped t) h = (λ s. record { limit_hit = t; tripped = h }, λ u. tt)
 
--- so each answer comes exactly where its cause stands
+-- so each answer comes exactly in its case
 pub answers-exact : LocalAnswersAreExact
 answers-exact = record {
-  loose = λ p r spot pivots empty x valid is known h. loose-if p r spot pivots valid is empty x known h;
+  unbounded = λ p r result_variable pivots empty x valid is known h. unbounded-if p r result_variable pivots valid is empty x known h;
   tripped = tripped-if;
 }

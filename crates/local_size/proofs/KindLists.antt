@@ -1,22 +1,22 @@
--- The kinds in their order, and the places that their arguments stand at.
+-- The kinds of forms in their order, and the places of their arguments.
 use Rattle.std.proofs.Common.{◌≡◌, ℕ, zero, suc, ◌+◌, ◌<◌, ◌≤◌, refl, sym, ap, ◌∙◌, subst, arith, cond}
 use Rattle.std.proofs.Common.{Bool, true, false, not, List, [], ◌∷◌, ◌++◌, map, filter, append_assoc, length}
 use Rattle.std.specs.Prelude.{◌==◌, nat_eq}
 use Rattle.std.specs.List.{All, range_with_len}
 use Rattle.std.proofs.lemmas.Bool.{true≢false, eq-eqb, eqb-true, eqb-false}
 use Rattle.std.proofs.lemmas.List.{map-append, append-nil}
-use Rattle.proof_tree.specs.rule_forms.Kinds as plain
-use Rattle.proof_tree.specs.rule_forms.Kinds.{Number, Argument, Affine, Plus, Minus, arguments, kinds_at, kinds_for}
-use Rattle.proof_tree.specs.rule_forms.Questions.{IsKindOf}
+use Rattle.cert_types.specs.rule_forms.Kinds as plain
+use Rattle.cert_types.specs.rule_forms.Kinds.{Number, Argument, Affine, Plus, Minus, arguments, kinds_at, kinds_for}
+use Rattle.cert_types.specs.rule_forms.Questions.{IsKindOf}
 use Rattle.simplex_core.proofs.linear_forms.SolutionLaws.{length-map}
 use Rattle.simplex_core.proofs.linear_forms.ColumnLaws.{get_or-map}
-use Rattle.proof_tree.proofs.Numbers.{numbers-more}
+use Rattle.cert_types.proofs.Numbers.{numbers-more}
 use Rattle.rule_questions.proofs.Filters.{filter-pushed, filter-passed}
 use Rattle.local_size.specs.declared.kinds.Kind.{Kind}
 use Rattle.local_size.specs.Asking.{kind_of, own_places, other_places}
 use Rattle.local_size.proofs.KindsAsked.{kinds-fit}
 
--- arguments at two lists of places, one behind the other
+-- arguments at two lists of places, one after the other
 pub arguments-append : (xs ys : List ℕ) → arguments (xs ++ ys) ≡ arguments xs ++ arguments ys
 arguments-append [] ys = refl
 arguments-append (x ∷ xs) ys =
@@ -118,15 +118,15 @@ kinds-together left place first own others all one last e f g h i j =
     (sym (arguments-append (own_places left place) (other_places left place))))))
 
 -- each kind of the code is one of the rule
-pub kinds-allowed : (bent : Bool) (left place : ℕ) (kinds : List Kind) → map kind_of kinds ≡ kinds_for bent left place
+pub kinds-allowed : (nonlinear : Bool) (left place : ℕ) (kinds : List Kind) → map kind_of kinds ≡ kinds_for nonlinear left place
     → All (λ k. IsKindOf left (kind_of k)) kinds
-kinds-allowed bent left place kinds e k d l =
+kinds-allowed nonlinear left place kinds e k d l =
     subst (IsKindOf left) (get_or-map kind_of kinds k (kind_of d) d l)
-    (subst (All (IsKindOf left)) (sym e) (kinds-fit bent left place) k (kind_of d)
+    (subst (All (IsKindOf left)) (sym e) (kinds-fit nonlinear left place) k (kind_of d)
     (let m = length-map kind_of kinds in omega (arith, l, m)))
 
 -- there is at least one
-pub kinds-some : (bent : Bool) (left place : ℕ) (kinds : List Kind) → map kind_of kinds ≡ kinds_for bent left place
+pub kinds-some : (nonlinear : Bool) (left place : ℕ) (kinds : List Kind) → map kind_of kinds ≡ kinds_for nonlinear left place
     → 1 ≤ length kinds
 kinds-some true left place kinds e =
     let m = length-map kind_of kinds in

@@ -1,4 +1,4 @@
--- Where the search of a side ends, and which kinds it has asked before.
+-- Where the search of a side ends, and which kinds it has tried before.
 use Rattle.std.proofs.Common.{◌≡◌, ℕ, zero, suc, ◌+◌, ◌≤◌, ap, arith, refl, inl, inr, Bool, true, false, not, List}
 use Rattle.std.proofs.Common.{[], ◌∷◌, ◌++◌, filter}
 use Rattle.std.specs.Prelude.{ℤ, ◌==◌}
@@ -6,11 +6,11 @@ use Rattle.std.specs.List.{All, range_with_len}
 use Rattle.std.proofs.lemmas.List.Elements.{All-nil, All-cons, All-head, All-tail, All-append, All-filter}
 use Rattle.simplex_core.specs.linear_forms.Forms.{Form}
 use Rattle.simplex_core.specs.linear_forms.RuleQuestions.{RuleForms}
-use Rattle.proof_tree.specs.rule_forms.Kinds.{Kind, Number, Argument, Affine, Plus, Minus, arguments, places_from}
-use Rattle.proof_tree.specs.rule_forms.Kinds.{kinds_for}
-use Rattle.proof_tree.specs.rule_forms.Questions.{IsKindOf}
-use Rattle.proof_tree.specs.proof_nodes.Nodes.{Arm}
-use Rattle.local_size.specs.Sides.{ArmFound, NoneFound, ComesTo, SearchComesTo}
+use Rattle.cert_types.specs.rule_forms.Kinds.{Kind, Number, Argument, Affine, Plus, Minus, arguments, places_from}
+use Rattle.cert_types.specs.rule_forms.Kinds.{kinds_for}
+use Rattle.cert_types.specs.rule_forms.Questions.{IsKindOf}
+use Rattle.cert_types.specs.cert_rules.Nodes.{SideBound}
+use Rattle.local_size.specs.Sides.{SideBoundFound, NoneFound, ComesTo, SearchComesTo}
 
 -- a place of a left argument
 abbrev IsLeft : ℕ → ℕ → Type 0
@@ -23,7 +23,7 @@ range-left left a (suc n) l m =
     All-cons (IsLeft left) a (range_with_len (a + 1) n) (l, omega (arith, m))
     (range-left left (a + 1) n (omega (arith, l)) (omega (arith, m)))
 
--- so are those of the arguments, in their order
+-- the same for those of the arguments, in their order
 places-left : (left place : ℕ) → All (IsLeft left) (places_from left place)
 places-left left place =
     let all = range-left left 1 left (omega arith) (omega arith) in
@@ -41,8 +41,8 @@ arguments-fit left (place ∷ places) h =
     (All-cons (IsKindOf left) (Argument place Minus) (arguments places) here
     (arguments-fit left places (All-tail (IsLeft left) place places h)))
 
--- so are all kinds that are looked for
-pub kinds-fit : (bent : Bool) (left place : ℕ) → All (IsKindOf left) (kinds_for bent left place)
+-- the same for all kinds that are looked for
+pub kinds-fit : (nonlinear : Bool) (left place : ℕ) → All (IsKindOf left) (kinds_for nonlinear left place)
 kinds-fit true left place = All-cons (IsKindOf left) Affine [] tt (All-nil (IsKindOf left))
 kinds-fit false left place =
     All-cons (IsKindOf left) Number (arguments (places_from left place) ++ Affine ∷ []) tt
@@ -51,34 +51,34 @@ kinds-fit false left place =
     (All-cons (IsKindOf left) Affine [] tt (All-nil (IsKindOf left))))
 
 -- any form is the last kind
-pub kinds-end : (bent : Bool) (left place : ℕ)
-    → (before : List Kind) × (kinds_for bent left place ≡ before ++ Affine ∷ [])
+pub kinds-end : (nonlinear : Bool) (left place : ℕ)
+    → (before : List Kind) × (kinds_for nonlinear left place ≡ before ++ Affine ∷ [])
 kinds-end true left place = ([], refl)
 kinds-end false left place = (Number ∷ arguments (places_from left place), refl)
 
 module _ (r : RuleForms) (w : Form) (pivots : ℕ) where
-  -- the question of a kind comes to none
+  -- the question of a kind has no form as its result
   abbrev pub HasDual : Kind → Type 0
   HasDual kind = (ray : List ℤ) × ComesTo r w pivots kind (NoneFound ray)
 
-  -- an arm that is found: the question of its kind comes to it, and those before come to none
-  pub record Found (kinds : List Kind) (arm : Arm) : Type 0 where
+  -- an arm that is found: it is the result of the question of its kind, and those before have none
+  pub record Found (kinds : List Kind) (side_bound : SideBound) : Type 0 where
     pub kind : Kind
     pub before : List Kind
     pub behind : List Kind
     pub order : kinds ≡ before ++ kind ∷ behind
     pub none : All HasDual before
-    pub comes : ComesTo r w pivots kind (ArmFound arm)
+    pub comes : ComesTo r w pivots kind (SideBoundFound side_bound)
 
-  -- an arm that a search comes to is found
-  pub found : (kinds : List Kind) (arm : Arm) → SearchComesTo r w pivots kinds (ArmFound arm) → Found kinds arm
-  found [] arm h = absurd h
-  found (kind ∷ []) arm h =
+  -- an arm that is the result of a search is found
+  pub found : (kinds : List Kind) (side_bound : SideBound) → SearchComesTo r w pivots kinds (SideBoundFound side_bound) → Found kinds side_bound
+  found [] side_bound h = absurd h
+  found (kind ∷ []) side_bound h =
       record { kind = kind; before = []; behind = []; order = refl; none = All-nil HasDual; comes = h }
-  found (kind ∷ next ∷ kinds) arm (inl h) =
+  found (kind ∷ next ∷ kinds) side_bound (inl h) =
       record { kind = kind; before = []; behind = next ∷ kinds; order = refl; none = All-nil HasDual; comes = h.1 }
-  found (kind ∷ next ∷ kinds) arm (inr h) =
-      let f = found (next ∷ kinds) arm h.1 in record {
+  found (kind ∷ next ∷ kinds) side_bound (inr h) =
+      let f = found (next ∷ kinds) side_bound h.1 in record {
         kind = f.kind;
         before = kind ∷ f.before;
         behind = f.behind;
@@ -87,7 +87,7 @@ module _ (r : RuleForms) (w : Form) (pivots : ℕ) where
         comes = f.comes;
       }
 
-  -- a search that comes to none has asked the last kind
+  -- a search that finds none has tried the last kind
   pub last-asked : (kinds : List Kind) (kind : Kind) (ray : List ℤ)
       → SearchComesTo r w pivots (kinds ++ kind ∷ []) (NoneFound ray) → ComesTo r w pivots kind (NoneFound ray)
   last-asked [] kind ray h = h

@@ -1,3 +1,4 @@
+-- laws of the search for local bounds: its problems, its answers, and their order
 pub mod KindLists
 pub mod Values
 pub mod QuestionRows
@@ -13,7 +14,7 @@ pub mod Columns
 pub mod NewValues
 pub mod Polynomials
 pub mod Accepted
-pub mod LooseAnswers
-pub mod FirstArms
+pub mod UnboundedAnswers
+pub mod FirstSideBounds
 pub mod Exact
 pub mod WorkedLocals

@@ -10,10 +10,10 @@ use Rattle.simplex_core.specs.linear_forms.Combinations.{form_sum, form_times, z
 use Rattle.simplex_core.specs.linear_forms.RuleQuestions.{after_rule, opposite}
 use Rattle.simplex_core.specs.linear_forms.RuleQuestionLaws.{IsRuleShaped}
 use Rattle.simplex_core.proofs.linear_forms.SolutionLaws.{length-map}
-use Rattle.proof_tree.specs.rule_forms.Questions.{excess, Fits}
+use Rattle.cert_types.specs.rule_forms.Questions.{excess, Fits}
 use Rattle.guard_prep.specs.Prepared.{Prepared}
-use Rattle.proof_tree.specs.proof_nodes.AcceptsSizes.{Side, Up, Low, arm_goal}
-use Rattle.proof_tree.specs.proof_nodes.Combined.{form_at}
+use Rattle.cert_types.specs.cert_rules.AcceptsSizes.{Side, Up, Low, side_bound_goal}
+use Rattle.cert_types.specs.cert_rules.Combined.{form_at}
 use Rattle.local_size.specs.Places.{local_forms, value_on}
 
 -- a form of a list has no coefficient past the width of all
@@ -26,7 +26,7 @@ read-fits (f ∷ fs) n (suc i) h = read-fits fs n i (All-tail (λ g. length g.co
 module _ (m : Prepared) (shaped : IsRuleShaped (local_forms m)) where
   after-fits : (place : ℕ) → length (after_rule (local_forms m) place).coefs ≤ m.unknowns
   after-fits zero = omega arith
-  after-fits (suc i) = read-fits m.news m.unknowns i shaped.news_fit
+  after-fits (suc i) = read-fits m.new_values m.unknowns i shaped.new_values_fit
 
   -- the new value fits the rule, on both sides
   pub value-fits : (side : Side) (place : ℕ) → Fits (local_forms m) (value_on side m place)
@@ -73,13 +73,13 @@ twice-opposite d v =
     ∙ ap (λ (c : ℤ). form_with (map (λ a. d *ℤ a) v.coefs) c) (turned d v.constant)
 
 -- the form at the place, which counts from 1
-placed : (m : Prepared) (place : ℕ) → 1 ≤ place → after_rule (local_forms m) place ≡ form_at m.news (place - 1)
+placed : (m : Prepared) (place : ℕ) → 1 ≤ place → after_rule (local_forms m) place ≡ form_at m.new_values (place - 1)
 placed m zero l = absurd (omega (arith, l))
-placed m (suc i) l = form_at-is m.news i ∙ ap (form_at m.news) (let e : i ≡ suc i - 1 = omega arith in e)
+placed m (suc i) l = form_at-is m.new_values i ∙ ap (form_at m.new_values) (let e : i ≡ suc i - 1 = omega arith in e)
 
 -- what a form exceeds the new value by is what acceptance asks for
 pub goal-is : (m : Prepared) (side : Side) (den place : ℕ) (form : Form) → 1 ≤ place
-    → excess form (pos den) (value_on side m place) ≡ arm_goal side den form (form_at m.news (place - 1))
+    → excess form (pos den) (value_on side m place) ≡ side_bound_goal side den form (form_at m.new_values (place - 1))
 goal-is m Up den place form l = ap (λ (f : Form). form_sum form (form_times (neg_ℤ (pos den)) f)) (placed m place l)
 goal-is m Low den place form l =
     ap (λ (f : Form). form_sum form f) (twice-opposite (pos den) (after_rule (local_forms m) place))

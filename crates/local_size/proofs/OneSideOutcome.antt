@@ -4,35 +4,35 @@ use Rattle.std.specs.Prelude.{ℤ}
 use Rattle.simplex_core.specs.linear_forms.Forms.{Form, at}
 use Rattle.simplex_core.specs.linear_forms.Questions.{listed}
 use Rattle.simplex_core.specs.linear_forms.RuleQuestions.{RuleForms}
-use Rattle.proof_tree.specs.rule_forms.Kinds.{Kind}
+use Rattle.cert_types.specs.rule_forms.Kinds.{Kind}
 use Rattle.simplex_core.proofs.OneWholeAnswer.{causes-same}
 use Rattle.rule_questions.proofs.OneEmptyAnswer.{solution-once, dual-once, apart}
-use Rattle.local_size.specs.Sides.{SideOutcome, ArmFound, NoneFound, LimitPassed, kind_program, solved_arm, ComesTo}
+use Rattle.local_size.specs.Sides.{SideOutcome, SideBoundFound, NoneFound, LimitPassed, kind_program, solved_side_bound, ComesTo}
 use Rattle.local_size.specs.Sides.{IsEnd}
 use Rattle.local_size.specs.Sides.{SearchComesTo}
 use Rattle.local_size.proofs.WholeNumbers.{solved-untripped, refuted-untripped}
 
 module _ (r : RuleForms) (w : Form) (pivots : ℕ) where
-  -- the question of one kind comes to one thing
+  -- the question of one kind has one result
   pub comes-once : (kind : Kind) (x y : SideOutcome) → ComesTo r w pivots kind x → ComesTo r w pivots kind y → x ≡ y
-  comes-once kind (ArmFound a) (ArmFound b) g h =
+  comes-once kind (SideBoundFound a) (SideBoundFound b) g h =
       let e = solution-once (kind_program r w kind) pivots g.0 h.0 g.1.0 h.1.0 g.1.1 h.1.1 in
-      ap ArmFound
+      ap SideBoundFound
       (g.1.2
-      ∙ (ap (λ (ns : List ℤ). solved_arm r w kind ns g.1.0) e.0
-      ∙ (ap (λ (d : ℕ). solved_arm r w kind h.0 d) e.1 ∙ sym h.1.2)))
-  comes-once kind (ArmFound a) (NoneFound ray) g h =
+      ∙ (ap (λ (ns : List ℤ). solved_side_bound r w kind ns g.1.0) e.0
+      ∙ (ap (λ (d : ℕ). solved_side_bound r w kind h.0 d) e.1 ∙ sym h.1.2)))
+  comes-once kind (SideBoundFound a) (NoneFound ray) g h =
       absurd (apart (kind_program r w kind) pivots g.0 h.0 g.1.0 h.1.0 g.1.1 h.1.1)
-  comes-once kind (ArmFound a) (LimitPassed c) g h =
+  comes-once kind (SideBoundFound a) (LimitPassed c) g h =
       absurd (solved-untripped (kind_program r w kind) pivots g.0 g.1.0 g.1.1 c h)
-  comes-once kind (NoneFound ray) (ArmFound b) g h =
+  comes-once kind (NoneFound ray) (SideBoundFound b) g h =
       absurd (apart (kind_program r w kind) pivots h.0 g.0 h.1.0 g.1.0 h.1.1 g.1.1)
   comes-once kind (NoneFound ray) (NoneFound other) g h =
       let e = dual-once (kind_program r w kind) pivots g.0 h.0 g.1.0 h.1.0 g.1.1 h.1.1 in
       ap NoneFound (g.1.2 ∙ (ap (λ (ns : List ℤ). listed r.unknowns (at ns)) e.0 ∙ sym h.1.2))
   comes-once kind (NoneFound ray) (LimitPassed c) g h =
       absurd (refuted-untripped (kind_program r w kind) pivots g.0 g.1.0 g.1.1 c h)
-  comes-once kind (LimitPassed c) (ArmFound b) g h =
+  comes-once kind (LimitPassed c) (SideBoundFound b) g h =
       absurd (solved-untripped (kind_program r w kind) pivots h.0 h.1.0 h.1.1 c g)
   comes-once kind (LimitPassed c) (NoneFound ray) g h =
       absurd (refuted-untripped (kind_program r w kind) pivots h.0 h.1.0 h.1.1 c g)
@@ -44,7 +44,7 @@ module _ (r : RuleForms) (w : Form) (pivots : ℕ) where
       → ComesTo r w pivots kind (NoneFound ray) → ⊥
   goes-on kind x ray end g h = subst IsEnd (comes-once kind x (NoneFound ray) g h) end
 
-  -- the search comes to one thing
+  -- the search has one result
   pub search-once : (kinds : List Kind) (x y : SideOutcome) → SearchComesTo r w pivots kinds x
       → SearchComesTo r w pivots kinds y → x ≡ y
   search-once [] x y g h = absurd g

@@ -3,59 +3,59 @@ use Rattle.std.proofs.Common.{◌≡◌, ℕ, ◌⊎◌, inl, inr, sym, ap, ◌�
 use Rattle.std.specs.Prelude.{ℤ}
 use Rattle.simplex_core.specs.linear_forms.Causes.{cause_of}
 use Rattle.guard_prep.specs.Prepared.{Prepared}
-use Rattle.proof_tree.specs.proof_nodes.Nodes.{Spot, Arm, LocalBound}
-use Rattle.proof_tree.specs.proof_nodes.AcceptsSizes.{Side, Up, Low}
-use Rattle.proof_tree.specs.declared.answer.EmptyAnswer.{EmptyAnswer}
-use Rattle.proof_tree.specs.declared.answer.Question.TheVariants as questions
-use Rattle.proof_tree.specs.declared.answer.Trip.{Trip}
+use Rattle.cert_types.specs.cert_rules.Nodes.{ResultVariable, SideBound, LocalBound}
+use Rattle.cert_types.specs.cert_rules.AcceptsSizes.{Side, Up, Low}
+use Rattle.cert_types.specs.declared.answer.GuardFeasibility.{GuardFeasibility}
+use Rattle.cert_types.specs.declared.answer.Question.TheVariants as questions
+use Rattle.cert_types.specs.declared.answer.LimitHit.{LimitHit}
 use Rattle.local_size.specs.declared.search.SideAnswer.{SideAnswer}
 use Rattle.local_size.specs.Asking.{side_outcome_of, IsLoosened}
-use Rattle.local_size.specs.LocalAnswers.{Local, HasBound, IsLooseOn, HasTripped, SideComesTo, PassesNone, LacksForm}
+use Rattle.local_size.specs.LocalAnswers.{Local, HasBound, IsUnboundedOn, HasTripped, SideComesTo, PassesNone, LacksForm}
 use Rattle.local_size.specs.LocalAnswers.{both_polynomial, IsLocal}
 use Rattle.local_size.specs.Places.{is_polynomial_at}
-use Rattle.local_size.specs.Sides.{SideOutcome, ArmFound, NoneFound, LimitPassed}
+use Rattle.local_size.specs.Sides.{SideOutcome, SideBoundFound, NoneFound, LimitPassed}
 
-module _ (m : Prepared) (spot : Spot) (pivots : ℕ) (empty : EmptyAnswer) where
+module _ (m : Prepared) (result_variable : ResultVariable) (pivots : ℕ) (empty : GuardFeasibility) where
   -- the update's own polynomial
-  pub by-itself : (l : LocalBound) → is_polynomial_at m spot.place ≡ true → l ≡ both_polynomial
-      → IsLocal m spot pivots empty (HasBound l)
+  pub by-itself : (l : LocalBound) → is_polynomial_at m result_variable.place ≡ true → l ≡ both_polynomial
+      → IsLocal m result_variable pivots empty (HasBound l)
   by-itself l e f = inl (e, f)
 
-  module _ (no : is_polynomial_at m spot.place ≡ false) where
+  module _ (no : is_polynomial_at m result_variable.place ≡ false) where
     -- both sides have an arm
-    pub both-arms : (l : LocalBound) → SideComesTo m spot.place pivots Up (ArmFound l.up)
-        → SideComesTo m spot.place pivots Low (ArmFound l.low) → IsLocal m spot pivots empty (HasBound l)
-    both-arms l up low = inr (record { asked = no; up = up; low = low })
+    pub both-side_bounds : (l : LocalBound) → SideComesTo m result_variable.place pivots Up (SideBoundFound l.up)
+        → SideComesTo m result_variable.place pivots Low (SideBoundFound l.low) → IsLocal m result_variable pivots empty (HasBound l)
+    both-side_bounds l up low = inr (record { asked = no; up = up; low = low })
 
     -- a side has no form
-    pub lacking : (side : Side) (ray : List ℤ) (a : Local) → LacksForm m spot.place pivots side ray
-        → IsLoosened side ray empty a → IsLocal m spot pivots empty a
+    pub lacking : (side : Side) (ray : List ℤ) (a : Local) → LacksForm m result_variable.place pivots side ray
+        → IsLoosened side ray empty a → IsLocal m result_variable pivots empty a
     lacking side ray (HasBound l) lacks h = absurd h
-    lacking side ray (IsLooseOn s r kept) lacks h = record {
+    lacking side ray (IsUnboundedOn s r kept) lacks h = record {
       asked = no;
-      lacks = subst (λ (t : Side). LacksForm m spot.place pivots t r) (sym h.0)
-          (subst (LacksForm m spot.place pivots side) (sym h.1) lacks);
+      lacks = subst (λ (t : Side). LacksForm m result_variable.place pivots t r) (sym h.0)
+          (subst (LacksForm m result_variable.place pivots side) (sym h.1) lacks);
       point = h.2;
     }
-    lacking side ray (HasTripped t) lacks h = inr (record { asked = no; lacks = (side, (ray, lacks)); trip = h })
+    lacking side ray (HasTripped t) lacks h = inr (record { asked = no; lacks = (side, (ray, lacks)); limit_hit = h })
 
-    -- the up side passes a limit, or the low side after it
-    pub tripped-up : (t : Trip) → t.question ≡ questions.Local spot.rule spot.place
-        → SideComesTo m spot.place pivots Up (LimitPassed (cause_of t.cause))
-        → IsLocal m spot pivots empty (HasTripped t)
+    -- the up side exceeds a limit, or the low side after it
+    pub tripped-up : (t : LimitHit) → t.question ≡ questions.Local result_variable.rule result_variable.place
+        → SideComesTo m result_variable.place pivots Up (LimitPassed (cause_of t.cause))
+        → IsLocal m result_variable pivots empty (HasTripped t)
     tripped-up t e up = inl (record { asked = no; question = e; first = inl up })
 
-    pub tripped-low : (t : Trip) → t.question ≡ questions.Local spot.rule spot.place → PassesNone m spot.place pivots Up
-        → SideComesTo m spot.place pivots Low (LimitPassed (cause_of t.cause))
-        → IsLocal m spot pivots empty (HasTripped t)
+    pub tripped-low : (t : LimitHit) → t.question ≡ questions.Local result_variable.rule result_variable.place → PassesNone m result_variable.place pivots Up
+        → SideComesTo m result_variable.place pivots Low (LimitPassed (cause_of t.cause))
+        → IsLocal m result_variable pivots empty (HasTripped t)
     tripped-low t e up low = inl (record { asked = no; question = e; first = inr (up, low) })
 
--- a side that comes to an arm or to none passes no limit
+-- a side with an arm or without one as its result exceeds no limit
 pub passes : {A B : Type 0} (m : Prepared) (place pivots : ℕ) (side : Side) (s : SideAnswer) (f : A → SideAnswer)
-    (g : B → SideAnswer) (arm : A → Arm) (ray : B → List ℤ) → ((a : A) → side_outcome_of (f a) ≡ ArmFound (arm a))
+    (g : B → SideAnswer) (side_bound : A → SideBound) (ray : B → List ℤ) → ((a : A) → side_outcome_of (f a) ≡ SideBoundFound (side_bound a))
     → ((b : B) → side_outcome_of (g b) ≡ NoneFound (ray b)) → ((x : A) × (s ≡ f x)) ⊎ ((y : B) × (s ≡ g y))
     → SideComesTo m place pivots side (side_outcome_of s) → PassesNone m place pivots side
-passes m place pivots side s f g arm ray e h (inl (x, is)) comes =
-    inl (arm x, subst (λ (y : SideOutcome). SideComesTo m place pivots side y) (ap side_outcome_of is ∙ e x) comes)
-passes m place pivots side s f g arm ray e h (inr (y, is)) comes =
+passes m place pivots side s f g side_bound ray e h (inl (x, is)) comes =
+    inl (side_bound x, subst (λ (y : SideOutcome). SideComesTo m place pivots side y) (ap side_outcome_of is ∙ e x) comes)
+passes m place pivots side s f g side_bound ray e h (inr (y, is)) comes =
     inr (ray y, subst (λ (z : SideOutcome). SideComesTo m place pivots side z) (ap side_outcome_of is ∙ h y) comes)

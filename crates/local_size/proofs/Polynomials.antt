@@ -7,11 +7,11 @@ use Rattle.std.proofs.lemmas.Bool.{true≢false, and_parts, ltb-true}
 use Rattle.std.proofs.lemmas.List.Elements.{All-nil, All-cons}
 use Rattle.poly_terms.specs.model.Polynomials.{Polynomial}
 use Rattle.poly_terms.specs.model.Programs.{Program, Rule, rule_at}
-use Rattle.guard_prep.specs.Prepared.{is_bent, polys_of, prepared}
-use Rattle.proof_tree.specs.proof_nodes.Nodes.{Spot}
-use Rattle.proof_tree.specs.proof_nodes.AcceptsSizes.{ReadsLeft, left_in, IsPolynomialUpdate}
-use Rattle.proof_tree.specs.proof_nodes.ComposedSizes.{poly_of}
-use Rattle.proof_tree.specs.proof_setting.Setting.{polys_in, bent_at, setting_of}
+use Rattle.guard_prep.specs.Prepared.{is_nonlinear, polys_of, prepared}
+use Rattle.cert_types.specs.cert_rules.Nodes.{ResultVariable}
+use Rattle.cert_types.specs.cert_rules.AcceptsSizes.{ReadsLeft, left_in, IsPolynomialUpdate}
+use Rattle.cert_types.specs.cert_rules.ComposedSizes.{poly_of}
+use Rattle.cert_types.specs.cert_program.Setting.{polys_in, nonlinear_at, setting_of}
 use Rattle.local_size.specs.Places.{is_of_left, expanded_at, is_polynomial_at}
 
 -- what passes a test, one by one
@@ -29,11 +29,11 @@ reads-left left q e =
     (λ m f. all-pass (λ v. nat_lt v left) (λ v. v < left) (λ v g. ltb-true v left g) m.vars f) q e
 
 -- a bent update is found among the bent ones
-bent-there : (qs : List Polynomial) (i : ℕ) → slice_index_or (map is_bent qs) i false ≡ true
-    → bent_at qs i ≡ Some (slice_index_or qs i [])
-bent-there [] i e = absurd (true≢false (sym e))
-bent-there (q ∷ qs) zero e = ap (λ (b : Bool). if b then Some q else None) e
-bent-there (q ∷ qs) (suc i) e = bent-there qs i e
+nonlinear-there : (qs : List Polynomial) (i : ℕ) → slice_index_or (map is_nonlinear qs) i false ≡ true
+    → nonlinear_at qs i ≡ Some (slice_index_or qs i [])
+nonlinear-there [] i e = absurd (true≢false (sym e))
+nonlinear-there (q ∷ qs) zero e = ap (λ (b : Bool). if b then Some q else None) e
+nonlinear-there (q ∷ qs) (suc i) e = nonlinear-there qs i e
 
 module _ (p : Program) (r : Rule) (t : ℕ) (numbered : rule_at p t ≡ Some r) where
   -- the polynomial that acceptance sees
@@ -41,9 +41,9 @@ module _ (p : Program) (r : Rule) (t : ℕ) (numbered : rule_at p t ≡ Some r) 
       → poly_of (setting_of p) t place ≡ Some (expanded_at (prepared r) place)
   poly-seen zero e = absurd (true≢false (sym e))
   poly-seen (suc i) e =
-      ap (λ (o : Option Rule). bent_at (polys_in o) i) numbered
-      ∙ bent-there (polys_of r) i
-      (and_parts (slice_index_or (map is_bent (polys_of r)) i false) _ e).0
+      ap (λ (o : Option Rule). nonlinear_at (polys_in o) i) numbered
+      ∙ nonlinear-there (polys_of r) i
+      (and_parts (slice_index_or (map is_nonlinear (polys_of r)) i false) _ e).0
 
   -- it reads left variables alone
   left-read : (place : ℕ) → is_polynomial_at (prepared r) place ≡ true
@@ -52,13 +52,13 @@ module _ (p : Program) (r : Rule) (t : ℕ) (numbered : rule_at p t ≡ Some r) 
   left-read (suc i) e =
       subst (λ (o : Option Rule). ReadsLeft (left_in o) (slice_index_or (polys_of r) i [])) (sym numbered)
       (reads-left r.left (slice_index_or (polys_of r) i [])
-      (and_parts (slice_index_or (map is_bent (polys_of r)) i false) _ e).1)
+      (and_parts (slice_index_or (map is_nonlinear (polys_of r)) i false) _ e).1)
 
 -- the update is accepted
-pub polynomial-accepted : (p : Program) (r : Rule) (spot : Spot) → rule_at p spot.rule ≡ Some r
-    → is_polynomial_at (prepared r) spot.place ≡ true → IsPolynomialUpdate (setting_of p) spot
-polynomial-accepted p r spot numbered e = record {
-  polynomial = expanded_at (prepared r) spot.place;
-  bent = poly-seen p r spot.rule numbered spot.place e;
-  left_alone = left-read p r spot.rule numbered spot.place e;
+pub polynomial-accepted : (p : Program) (r : Rule) (result_variable : ResultVariable) → rule_at p result_variable.rule ≡ Some r
+    → is_polynomial_at (prepared r) result_variable.place ≡ true → IsPolynomialUpdate (setting_of p) result_variable
+polynomial-accepted p r result_variable numbered e = record {
+  polynomial = expanded_at (prepared r) result_variable.place;
+  nonlinear = poly-seen p r result_variable.rule numbered result_variable.place e;
+  left_alone = left-read p r result_variable.rule numbered result_variable.place e;
 }

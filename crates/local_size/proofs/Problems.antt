@@ -10,12 +10,12 @@ use Rattle.simplex_core.specs.linear_forms.ProgramLaws.{Agree}
 use Rattle.simplex_core.specs.linear_forms.Questions.{Question, IsShaped, IsGroupShaped, program_of_question}
 use Rattle.simplex_core.specs.linear_forms.RuleQuestions.{RuleForms, before_rule, opposite, local_question}
 use Rattle.simplex_core.proofs.linear_forms.SolutionLaws.{length-map}
-use Rattle.proof_tree.specs.rule_forms.Kinds as plain
-use Rattle.proof_tree.specs.rule_forms.Kinds.{Number, Argument, Affine}
-use Rattle.proof_tree.specs.rule_forms.Questions as kinds
-use Rattle.proof_tree.specs.rule_forms.Questions.{IsKindOf}
-use Rattle.proof_tree.specs.rule_forms.SoughtParts.{sought_places, fixed_part}
-use Rattle.proof_tree.proofs.rule_forms.Shapes.{places-within, argument_length, question-shaped}
+use Rattle.cert_types.specs.rule_forms.Kinds as plain
+use Rattle.cert_types.specs.rule_forms.Kinds.{Number, Argument, Affine}
+use Rattle.cert_types.specs.rule_forms.Questions as kinds
+use Rattle.cert_types.specs.rule_forms.Questions.{IsKindOf}
+use Rattle.cert_types.specs.rule_forms.SoughtParts.{sought_places, fixed_part}
+use Rattle.cert_types.proofs.rule_forms.Shapes.{places-within, argument_length, question-shaped}
 use Rattle.poly_terms.specs.declared.poly.Row.{Row}
 use Rattle.poly_terms.specs.Views.{form_of}
 use Rattle.guard_prep.specs.declared.rule_rows.RuleRows.{RuleRows}

@@ -5,9 +5,9 @@ use Rattle.std.proofs.lemmas.Int.{ints}
 use Rattle.simplex_core.specs.linear_forms.Forms.{Form}
 use Rattle.simplex_core.specs.linear_forms.Combinations.{form_times}
 use Rattle.simplex_core.specs.linear_forms.RuleQuestions.{before_rule}
-use Rattle.proof_tree.specs.rule_forms.Kinds as plain
-use Rattle.proof_tree.specs.rule_forms.Kinds.{Number, Argument, Affine, Plus, Minus}
-use Rattle.proof_tree.specs.rule_forms.SoughtParts.{fixed_part}
+use Rattle.cert_types.specs.rule_forms.Kinds as plain
+use Rattle.cert_types.specs.rule_forms.Kinds.{Number, Argument, Affine, Plus, Minus}
+use Rattle.cert_types.specs.rule_forms.SoughtParts.{fixed_part}
 use Rattle.rule_questions.specs.SmallForms.{IsSmall}
 use Rattle.rule_questions.proofs.Sums.{constant-small, unknown-small}
 use Rattle.local_size.proofs.Values.{opposite-small}
@@ -34,7 +34,7 @@ pub argument-small : (place : ℕ) → IsSmall (before_rule place)
 argument-small zero = constant-small (pos 1) (omega arith)
 argument-small (suc i) = unknown-small i
 
--- so is what isn't sought
+-- the same for what isn't sought
 pub fixed-small : (kind : plain.Kind) → IsSmall (fixed_part kind)
 fixed-small Number = constant-small (pos 0) (omega arith)
 fixed-small (Argument place Plus) = subst IsSmall (sym (once-form (before_rule place))) (argument-small place)

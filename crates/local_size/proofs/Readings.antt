@@ -8,18 +8,18 @@ use Rattle.simplex_core.specs.linear_forms.QuestionLaws.{after, parameters_of}
 use Rattle.simplex_core.specs.linear_forms.RuleQuestions.{RuleForms}
 use Rattle.simplex_core.proofs.linear_forms.ElementLaws.{program-columns}
 use Rattle.simplex_core.proofs.linear_forms.ListLaws.{after-is}
-use Rattle.proof_tree.specs.rule_forms.Kinds as plain
-use Rattle.proof_tree.specs.rule_forms.Kinds.{Number, Argument, Affine}
-use Rattle.proof_tree.specs.rule_forms.Questions.{question_of, form_of}
-use Rattle.proof_tree.specs.rule_forms.SoughtParts.{sought_places}
+use Rattle.cert_types.specs.rule_forms.Kinds as plain
+use Rattle.cert_types.specs.rule_forms.Kinds.{Number, Argument, Affine}
+use Rattle.cert_types.specs.rule_forms.Questions.{question_of, form_of}
+use Rattle.cert_types.specs.rule_forms.SoughtParts.{sought_places}
 use Rattle.simplex_core.specs.Trips.{IsScaledSolution, IsScaledDual}
-use Rattle.proof_tree.specs.proof_nodes.Nodes.{Linear}
+use Rattle.cert_types.specs.cert_rules.Nodes.{Linear}
 use Rattle.rule_questions.specs.GroupLines.{group_lines}
 use Rattle.rule_questions.proofs.GroupLines.{equations-many}
 use Rattle.rule_questions.proofs.Lists.{listed-agree, multipliers-listed}
 use Rattle.rule_questions.proofs.Pairs.{double-is}
 use Rattle.local_size.specs.Asking.{coefficient_of, constant_of}
-use Rattle.local_size.specs.Sides.{kind_program, solved_arm}
+use Rattle.local_size.specs.Sides.{kind_program, solved_side_bound}
 use Rattle.local_size.proofs.Problems.{question-is}
 
 -- zeros, listed
@@ -52,10 +52,10 @@ form-is left kind v d coefs constant e f =
     made xs z = record { coefs = xs; constant = z }
 
 -- the arm of the parts
-pub arm-is : (den : ℕ) (f g : Form) (ms ns : List ℕ) → f ≡ g → ms ≡ ns → Linear den f ms ≡ Linear den g ns
-arm-is den f g ms ns e h = ap (λ (x : Form). Linear den x ms) e ∙ ap (λ (xs : List ℕ). Linear den g xs) h
+pub side_bound-is : (den : ℕ) (f g : Form) (ms ns : List ℕ) → f ≡ g → ms ≡ ns → Linear den f ms ≡ Linear den g ns
+side_bound-is den f g ms ns e h = ap (λ (x : Form). Linear den x ms) e ∙ ap (λ (xs : List ℕ). Linear den g xs) h
 
--- the multipliers stand behind the columns of the parameters
+-- the multipliers follow the columns of the parameters
 module _ (r : RuleForms) (w : Form) (kind : plain.Kind) where
   parameters-are : (question_of r w kind).parameters ≡ length (sought_places r.left kind)
   parameters-are = ap (λ (q : Question). q.parameters) (question-is r w kind)
@@ -64,7 +64,7 @@ module _ (r : RuleForms) (w : Form) (kind : plain.Kind) where
   pub solved-is : (numbers : List ℤ) (den rows : ℕ) → rows ≡ length r.rows
       → Linear den (form_of r.left kind (parameters_of (at numbers)) (pos den))
       (listed rows (λ j. nat_abs (at numbers (2 * length (sought_places r.left kind) + j))))
-      ≡ solved_arm r w kind numbers den
+      ≡ solved_side_bound r w kind numbers den
   solved-is numbers den rows e =
       ap (λ (ms : List ℕ). Linear den (form_of r.left kind (parameters_of (at numbers)) (pos den)) ms)
       (ap (λ (n : ℕ). listed n (λ j. nat_abs (at numbers (2 * length (sought_places r.left kind) + j)))) e

@@ -1,5 +1,5 @@
 -- What the answers of the solver make of a kind's question, and of a side.
-use Rattle.simplex_core.specs.linear_forms.declared.trip_cause.TripCause.{TripCause}
+use Rattle.simplex_core.specs.linear_forms.declared.limit_cause.LimitCause.{LimitCause}
 use Rattle.std.proofs.Common.{◌≡◌, ℕ, ◌+◌, ◌*◌, ◌<◌, ◌≤◌, inl, inr, refl, sym, ap, ◌∙◌, subst, arith, List, [], ◌∷◌}
 use Rattle.std.proofs.Common.{map}
 use Rattle.std.proofs.Common.{length}
@@ -9,26 +9,26 @@ use Rattle.simplex_core.specs.linear_forms.Forms.{Form, at}
 use Rattle.simplex_core.specs.linear_forms.Questions.{listed}
 use Rattle.simplex_core.specs.linear_forms.QuestionLaws.{parameters_of}
 use Rattle.simplex_core.specs.linear_forms.RuleQuestions.{RuleForms}
-use Rattle.proof_tree.specs.rule_forms.Kinds as plain
-use Rattle.proof_tree.specs.rule_forms.Questions.{question_of, form_of}
-use Rattle.proof_tree.specs.rule_forms.SoughtParts.{sought_places}
+use Rattle.cert_types.specs.rule_forms.Kinds as plain
+use Rattle.cert_types.specs.rule_forms.Questions.{question_of, form_of}
+use Rattle.cert_types.specs.rule_forms.SoughtParts.{sought_places}
 use Rattle.guard_prep.specs.Prepared.{Prepared}
-use Rattle.proof_tree.specs.proof_nodes.AcceptsSizes.{Side}
+use Rattle.cert_types.specs.cert_rules.AcceptsSizes.{Side}
 use Rattle.simplex_core.specs.declared.problem.Problem.{Problem}
 use Rattle.simplex_core.specs.declared.scaling.Numerators.{Numerators}
 use Rattle.simplex_core.specs.declared.answers.Answer.{Answer}
-use Rattle.simplex_core.specs.declared.answers.Answer.TheVariants.{Solution, Dual, Tripped}
+use Rattle.simplex_core.specs.declared.answers.Answer.TheVariants.{Solution, Dual, OutOfLimits}
 use Rattle.simplex_core.specs.Problem.{program_of}
 use Rattle.simplex_core.specs.Trips.{Trips, IsWholeAnswer}
 use Rattle.simplex_core.proofs.Agreement.{whole-answers-agree}
-use Rattle.proof_tree.specs.proof_nodes.Nodes.{Arm, Linear}
+use Rattle.cert_types.specs.cert_rules.Nodes.{SideBound, Linear}
 use Rattle.rule_questions.specs.Programs.{IsProblemOf}
 use Rattle.rule_questions.proofs.Lists.{listed-agree}
 use Rattle.local_size.specs.declared.kinds.Kind.{Kind}
 use Rattle.local_size.specs.Asking.{kind_of}
 use Rattle.local_size.specs.LocalAnswers.{SideComesTo}
 use Rattle.local_size.specs.Places.{local_forms, value_on, kinds_of}
-use Rattle.local_size.specs.Sides.{SideOutcome, ArmFound, NoneFound, LimitPassed, kind_program, ComesTo, IsEnd}
+use Rattle.local_size.specs.Sides.{SideOutcome, SideBoundFound, NoneFound, LimitPassed, kind_program, ComesTo, IsEnd}
 use Rattle.local_size.specs.Sides.{SearchComesTo}
 use Rattle.local_size.proofs.Readings as readings
 
@@ -45,13 +45,13 @@ module _ (r : RuleForms) (w : Form) (kind : plain.Kind) (pivots : ℕ) (problem 
       let l = readings.solution-room r w kind pivots s.numbers.items s.den (moved (Solution s) h)
       in omega (arith, l, e)
 
-  -- where the solver gives a solution, the question comes to the arm that is read off it
-  pub arm-found : (s : Numerators) (rows : ℕ) (arm : Arm) → IsWholeAnswer (program_of problem) pivots (Solution s)
+  -- where the solver gives a solution, the question's result is the arm that is read off it
+  pub side_bound-found : (s : Numerators) (rows : ℕ) (side_bound : SideBound) → IsWholeAnswer (program_of problem) pivots (Solution s)
       → rows ≡ length r.rows
-      → arm ≡ Linear s.den (form_of r.left kind (parameters_of (at s.numbers.items)) (pos s.den))
+      → side_bound ≡ Linear s.den (form_of r.left kind (parameters_of (at s.numbers.items)) (pos s.den))
       (listed rows (λ j. nat_abs (at s.numbers.items (2 * length (sought_places r.left kind) + j))))
-      → ComesTo r w pivots kind (ArmFound arm)
-  arm-found s rows arm h e f =
+      → ComesTo r w pivots kind (SideBoundFound side_bound)
+  side_bound-found s rows side_bound h e f =
       (s.numbers.items, (s.den, moved (Solution s) h, f ∙ readings.solved-is r w kind s.numbers.items s.den rows e))
 
   -- those of a dual for a ray
@@ -61,7 +61,7 @@ module _ (r : RuleForms) (w : Form) (kind : plain.Kind) (pivots : ℕ) (problem 
       let l = readings.dual-room r w kind pivots s.numbers.items s.den (moved (Dual s) h) in
       let f = ap (λ (xs : List ℤ). length xs) e in omega (arith, l, f)
 
-  -- where the solver gives a dual, the question comes to none, with the ray that is read off it
+  -- where the solver gives a dual, the question's result is that there is none, with the ray that is read off it
   pub none-found : (s : Numerators) (ns ray : List ℤ) → IsWholeAnswer (program_of problem) pivots (Dual s)
       → ns ≡ s.numbers.items → ray ≡ listed r.unknowns (λ u. at ns (0 + u)) → ComesTo r w pivots kind (NoneFound ray)
   none-found s ns ray h e f = (
@@ -75,9 +75,9 @@ module _ (r : RuleForms) (w : Form) (kind : plain.Kind) (pivots : ℕ) (problem 
   )
 
   -- a limit
-  pub limit-passed : (c : TripCause) (cause : Cause) → IsWholeAnswer (program_of problem) pivots (Tripped c)
+  pub limit-passed : (c : LimitCause) (cause : Cause) → IsWholeAnswer (program_of problem) pivots (OutOfLimits c)
       → cause ≡ cause_of c → ComesTo r w pivots kind (LimitPassed cause)
-  limit-passed c cause h e = subst (λ (k : Cause). Trips (kind_program r w kind) pivots k) (sym e) (moved (Tripped c) h)
+  limit-passed c cause h e = subst (λ (k : Cause). Trips (kind_program r w kind) pivots k) (sym e) (moved (OutOfLimits c) h)
 
 module _ (r : RuleForms) (w : Form) (pivots : ℕ) where
   -- the only kind decides
@@ -109,7 +109,7 @@ module _ (r : RuleForms) (w : Form) (pivots : ℕ) where
       go [] some rest = absurd (some refl)
       go (next ∷ behind) some rest = inr ((ray, h), rest)
 
--- what the kinds of a side of a place come to
+-- the result of the kinds of a side of a place
 pub side-comes : (m : Prepared) (place pivots : ℕ) (side : Side) (w : Form) (kinds : List Kind) (x : SideOutcome)
     → w ≡ value_on side m place → map kind_of kinds ≡ kinds_of m place
     → SearchComesTo (local_forms m) w pivots (map kind_of kinds) x → SideComesTo m place pivots side x

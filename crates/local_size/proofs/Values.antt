@@ -11,7 +11,7 @@ use Rattle.simplex_core.specs.linear_forms.RuleQuestions.{opposite}
 use Rattle.simplex_core.specs.linear_forms.RuleQuestionLaws.{IsRuleShaped}
 use Rattle.simplex_core.proofs.linear_forms.ColumnLaws.{get_or-map}
 use Rattle.simplex_core.proofs.linear_forms.SolutionLaws.{length-map}
-use Rattle.proof_tree.specs.rule_forms.Questions.{Fits}
+use Rattle.cert_types.specs.rule_forms.Questions.{Fits}
 use Rattle.poly_terms.specs.model.Limits.{coefficient_limit}
 use Rattle.poly_terms.specs.declared.poly.Row.{Row}
 use Rattle.poly_terms.specs.declared.poly.Poly.{Poly}
@@ -19,14 +19,14 @@ use Rattle.poly_terms.specs.Views.{form_of, poly_of, monomials_of}
 use Rattle.guard_prep.specs.declared.rule_rows.RuleRows.{RuleRows}
 use Rattle.guard_prep.specs.Prepared.{Prepared}
 use Rattle.guard_prep.specs.Views.{prepared_of}
-use Rattle.proof_tree.specs.proof_nodes.AcceptsSizes.{Up, Low}
+use Rattle.cert_types.specs.cert_rules.AcceptsSizes.{Up, Low}
 use Rattle.rule_questions.specs.EmptyAnswers.{IsPrepared}
 use Rattle.rule_questions.specs.SmallForms.{IsSmall}
 use Rattle.rule_questions.specs.ProgramQuestions.{forms_of}
 use Rattle.rule_questions.proofs.EmptyLaws.{prepared-shaped}
 use Rattle.rule_questions.proofs.EmptyProblems.{rows-all}
 use Rattle.rule_questions.proofs.GoalForms.{after-listed}
-use Rattle.rule_questions.proofs.NewValues.{news-small}
+use Rattle.rule_questions.proofs.NewValues.{new_values-small}
 use Rattle.local_size.specs.Asking.{IsValue}
 use Rattle.local_size.specs.Places.{local_forms, value_on, expanded_at}
 
@@ -67,24 +67,24 @@ module _ (m : RuleRows) (is : IsPrepared m) where
   pub asked-fits : (w : Form) → IsValue m w → Fits (local_forms (prepared_of m)) w
   asked-fits w v = record { left = shaped.left_fits; rows = shaped.rows_fit; value = v.fits }
 
-  news-width : All (λ r. length (form_of r).coefs ≤ m.unknowns) m.news.items
-  news-width = rows-all (λ f. length f.coefs ≤ m.unknowns) m.news.items shaped.news_fit
+  new_values-width : All (λ r. length (form_of r).coefs ≤ m.unknowns) m.new_values.items
+  new_values-width = rows-all (λ f. length f.coefs ≤ m.unknowns) m.new_values.items shaped.new_values_fit
 
-  module _ (place : ℕ) (row : Row) (l : 1 ≤ place) (k : place ≤ length m.news.items)
-      (is_read : row ≡ get_or m.news.items (place - 1) row) where
-    inside : place - 1 < length m.news.items
+  module _ (place : ℕ) (row : Row) (l : 1 ≤ place) (k : place ≤ length m.new_values.items)
+      (is_read : row ≡ get_or m.new_values.items (place - 1) row) where
+    inside : place - 1 < length m.new_values.items
     inside = omega (arith, l, k)
 
     -- the new value at a place
-    pub news-value : IsValue m (form_of row)
-    news-value = record {
+    pub new_values-value : IsValue m (form_of row)
+    new_values-value = record {
       fits = subst (λ (r : Row). length (form_of r).coefs ≤ m.unknowns) (sym is_read)
-          (news-width (place - 1) row inside);
-      small = subst (λ (r : Row). IsSmall (form_of r)) (sym is_read) (news-small m is (place - 1) row inside);
+          (new_values-width (place - 1) row inside);
+      small = subst (λ (r : Row). IsSmall (form_of r)) (sym is_read) (new_values-small m is (place - 1) row inside);
     }
 
     pub value-up-is : form_of row ≡ value_on Up (prepared_of m) place
-    value-up-is = after-listed 0 (prepared_of m) m.news.items refl 0 place row refl (positive place l) inside is_read
+    value-up-is = after-listed 0 (prepared_of m) m.new_values.items refl 0 place row refl (positive place l) inside is_read
       where
         positive : (n : ℕ) → 1 ≤ n → ¬ (n ≡ 0)
         positive n h e = omega (arith, h, e)

@@ -1,4 +1,4 @@
--- A linear program whose sequence of tableaux ends with whole numbers within the limits passes no limit.
+-- A linear program whose sequence of tableaux ends with integers within the limits exceeds no limit.
 use Rattle.std.proofs.Common.{ℕ, arith, inl, inr, List}
 use Rattle.std.specs.Prelude.{ℤ}
 use Rattle.simplex_core.specs.linear_forms.Causes.{Cause, range, budget, wide, scale}

@@ -5,12 +5,12 @@ use Rattle.std.specs.List.{All}
 use Rattle.std.proofs.lemmas.Int.{ints}
 use Rattle.std.proofs.lemmas.List.Elements.{All-nil, All-head}
 use Rattle.simplex_core.specs.linear_forms.Forms.{Form, at, form_value}
-use Rattle.proof_tree.specs.rule_forms.Bounds.{HasNone, IsAbove, IsFirstOf, IsLooseRay}
-use Rattle.proof_tree.specs.rule_forms.Kinds.{Kind, Number, Argument, Affine, Plus, Minus, IsOfKind, kinds_at}
-use Rattle.proof_tree.specs.rule_forms.Laws.{HasPoint}
-use Rattle.proof_tree.specs.rule_forms.Worked.{line_form, falling_rows, falling, rising}
-use Rattle.proof_tree.proofs.rule_forms.Rays.{loose-has-none}
-use Rattle.proof_tree.proofs.rule_forms.Worked.{worked}
+use Rattle.cert_types.specs.rule_forms.Bounds.{HasNone, IsAbove, IsFirstOf, IsUnboundedRay}
+use Rattle.cert_types.specs.rule_forms.Kinds.{Kind, Number, Argument, Affine, Plus, Minus, IsOfKind, kinds_at}
+use Rattle.cert_types.specs.rule_forms.Laws.{HasPoint}
+use Rattle.cert_types.specs.rule_forms.Worked.{line_form, falling_rows, falling, rising}
+use Rattle.cert_types.proofs.rule_forms.Rays.{unbounded-has-none}
+use Rattle.cert_types.proofs.rule_forms.Worked.{worked}
 use Rattle.poly_terms.specs.model.Terms.{Variable}
 use Rattle.guard_prep.specs.Prepared.{prepared, rows_of}
 use Rattle.guard_prep.specs.Tightening.{divisor_of}
@@ -18,10 +18,10 @@ use Rattle.guard_prep.specs.WorkedRows.{product}
 use Rattle.local_size.specs.Places.{is_polynomial_at}
 use Rattle.local_size.specs.WorkedLocals.{falling_rule, updated, PolynomialsAreWorkedOut, KindsOfPlacesAreWorkedOut}
 use Rattle.local_size.specs.WorkedLocals.{SidesAreWorkedOut}
-use Rattle.local_size.specs.WorkedLocals.{FirstArmsAreWorkedOut, LooseSidesAreWorkedOut, LocalValuesAreWorkedOut}
-use Rattle.local_size.proofs.FirstArms.{fails}
+use Rattle.local_size.specs.WorkedLocals.{FirstSideBoundsAreWorkedOut, UnboundedSidesAreWorkedOut, LocalValuesAreWorkedOut}
+use Rattle.local_size.proofs.FirstSideBounds.{fails}
 
--- what a test tells
+-- the values of a test
 polynomials : PolynomialsAreWorkedOut
 polynomials = record {
   polynomial = refl;
@@ -37,7 +37,7 @@ polynomials = record {
 
 -- the kinds at places
 kinds : KindsOfPlacesAreWorkedOut
-kinds = record { straight = refl; bent = refl; first_place = refl; second_place = refl }
+kinds = record { straight = refl; nonlinear = refl; first_place = refl; second_place = refl }
 
 -- the values on both sides
 sides : SidesAreWorkedOut
@@ -73,7 +73,7 @@ argument-later kind (b ∷ before) behind e none is =
     (All-head (HasNone falling_rows 1 rising) b before none))
 
 -- first arms
-first : FirstArmsAreWorkedOut
+first : FirstSideBoundsAreWorkedOut
 first = record {
   up = (
     straight,
@@ -115,20 +115,20 @@ line-affine a b = λ u l. past u l
     past (suc u) l = refl
 
 -- the falling rule is loose on neither side
-not-loose : (w g : Form) → IsOfKind 1 Affine g 1 → IsAbove falling_rows w g 1 → HasPoint (rows_of falling_rule)
-    → (z : ℕ → ℤ) → IsLooseRay (rows_of falling_rule) 1 w z → ⊥
-not-loose w g is above point z ray =
-    (loose-has-none (rows_of falling_rule) 1 w z point ray).each g 1 (omega arith) is
+not-unbounded : (w g : Form) → IsOfKind 1 Affine g 1 → IsAbove falling_rows w g 1 → HasPoint (rows_of falling_rule)
+    → (z : ℕ → ℤ) → IsUnboundedRay (rows_of falling_rule) 1 w z → ⊥
+not-unbounded w g is above point z ray =
+    (unbounded-has-none (rows_of falling_rule) 1 w z point ray).each g 1 (omega arith) is
     (subst (λ (rows : List Form). IsAbove rows w g 1) (sym rows-are) above)
 
 -- loose sides
-loose : LooseSidesAreWorkedOut
-loose = record {
+unbounded : UnboundedSidesAreWorkedOut
+unbounded = record {
   up = record {
     asked = fails (is_polynomial_at (updated (Variable 1)) 1) refl;
     point = no-rows;
     z = at (pos 0 ∷ pos 1 ∷ []);
-    ray = worked.rays.loose;
+    ray = worked.rays.unbounded;
   };
   low = record {
     asked = fails (is_polynomial_at (updated (Variable 1)) 1) refl;
@@ -140,9 +140,9 @@ loose = record {
       rises = omega (arith, ints);
     };
   };
-  bounded_up = λ h. not-loose falling (line_form (pos 1) (pos 0)) (line-affine (pos 1) (pos 0)) worked.bounds.argument
+  bounded_up = λ h. not-unbounded falling (line_form (pos 1) (pos 0)) (line-affine (pos 1) (pos 0)) worked.bounds.argument
       h.point h.z h.ray;
-  bounded_low = λ h. not-loose rising (line_form (pos 0) (pos 0)) (line-affine (pos 0) (pos 0)) worked.first.low.above
+  bounded_low = λ h. not-unbounded rising (line_form (pos 0) (pos 0)) (line-affine (pos 0) (pos 0)) worked.first.low.above
       h.point h.z h.ray;
   polynomial = λ h. h.asked refl;
 }
@@ -153,4 +153,4 @@ loose = record {
 
 -- all of these
 pub values-worked : LocalValuesAreWorkedOut
-values-worked = record { polynomials = polynomials; kinds = kinds; sides = sides; first = first; loose = loose }
+values-worked = record { polynomials = polynomials; kinds = kinds; sides = sides; first = first; unbounded = unbounded }

@@ -1,20 +1,20 @@
--- What the code asks for on a side of a place, and what comes of it, as plain data.
+-- The queries of the code on a side of a place, and their results, as plain data.
 use Rattle.std.specs.Prelude.{◌≡◌, ℕ, suc, ◌≤◌, ◌==◌, not, nat_eq, if◌then◌else◌, List, filter, length, Some}
 use Rattle.std.specs.Prelude.{ℤ, pos, ◌*ℤ◌}
 use Rattle.std.specs.List.{All, range_with_len}
 use Rattle.simplex_core.specs.linear_forms.Causes.{cause_of}
 use Rattle.simplex_core.specs.linear_forms.Forms.{Form}
-use Rattle.proof_tree.specs.rule_forms.Kinds as plain
-use Rattle.proof_tree.specs.rule_forms.Kinds.{unit_of}
-use Rattle.proof_tree.specs.proof_nodes.AcceptsSizes as nodes
-use Rattle.proof_tree.specs.Views.{arm_of}
-use Rattle.proof_tree.specs.declared.answer.EmptyAnswer.{EmptyAnswer}
+use Rattle.cert_types.specs.rule_forms.Kinds as plain
+use Rattle.cert_types.specs.rule_forms.Kinds.{unit_of}
+use Rattle.cert_types.specs.cert_rules.AcceptsSizes as nodes
+use Rattle.cert_types.specs.Views.{side_bound_of}
+use Rattle.cert_types.specs.declared.answer.GuardFeasibility.{GuardFeasibility}
 use Rattle.guard_prep.specs.declared.rule_rows.RuleRows.{RuleRows}
 use Rattle.poly_terms.specs.Views.{form_of}
 use Rattle.lp_builder.specs.declared.description.Goal.{Goal}
 use Rattle.lp_builder.specs.Descriptions.{IsWritable}
 use Rattle.rule_questions.specs.SmallForms.{IsSmall}
-use Rattle.rule_questions.specs.RuleAnswers.{point_in, trip_in}
+use Rattle.rule_questions.specs.RuleAnswers.{point_in, limit_hit_in}
 use Rattle.local_size.specs.declared.kinds.Sign.{Sign}
 use Rattle.local_size.specs.declared.kinds.Sign.TheVariants as signs
 use Rattle.local_size.specs.declared.kinds.Kind.{Kind}
@@ -23,8 +23,8 @@ use Rattle.local_size.specs.declared.side.Side.{Side}
 use Rattle.local_size.specs.declared.side.Side.TheVariants as sides
 use Rattle.local_size.specs.declared.search.SideAnswer.{SideAnswer}
 use Rattle.local_size.specs.declared.search.SideAnswer.TheVariants as answers
-use Rattle.local_size.specs.Sides.{SideOutcome, ArmFound, NoneFound, LimitPassed}
-use Rattle.local_size.specs.LocalAnswers.{Local, HasBound, IsLooseOn, HasTripped}
+use Rattle.local_size.specs.Sides.{SideOutcome, SideBoundFound, NoneFound, LimitPassed}
+use Rattle.local_size.specs.LocalAnswers.{Local, HasBound, IsUnboundedOn, HasTripped}
 
 -- a sign as plain data
 abbrev pub sign_of : Sign → plain.Sign
@@ -42,17 +42,17 @@ abbrev pub side_of : Side → nodes.Side
 side_of sides.Up = nodes.Up
 side_of sides.Low = nodes.Low
 
--- what a side's questions come to as plain data
+-- the result of a side's questions as plain data
 abbrev pub side_outcome_of : SideAnswer → SideOutcome
-side_outcome_of (answers.Arm arm) = ArmFound (arm_of arm)
-side_outcome_of (answers.Loose ray) = NoneFound ray.items
-side_outcome_of (answers.Tripped cause) = LimitPassed (cause_of cause)
+side_outcome_of (answers.SideBound side_bound) = SideBoundFound (side_bound_of side_bound)
+side_outcome_of (answers.UnboundedSide ray) = NoneFound ray.items
+side_outcome_of (answers.OutOfLimits cause) = LimitPassed (cause_of cause)
 
 -- the place, where there is such a left argument
 abbrev pub own_places : ℕ → ℕ → List ℕ
 own_places left place = filter (λ j. j == place) (range_with_len 1 left)
 
--- the places of the left arguments but for one, in order
+-- the places of the left arguments except for one, in order
 abbrev pub other_places : ℕ → ℕ → List ℕ
 other_places left place = filter (λ j. not (j == place)) (range_with_len 1 left)
 
@@ -67,7 +67,7 @@ coefficient_of plain.Number v d u = pos 0
 coefficient_of (plain.Argument place sign) v d u = if nat_eq (suc u) place then d *ℤ unit_of sign else pos 0
 coefficient_of plain.Affine v d u = v u
 
--- the constant of this form, where a rule has so many left arguments
+-- the constant of this form, where a rule has this many left arguments
 abbrev pub constant_of : ℕ → plain.Kind → (ℕ → ℤ) → ℤ
 constant_of left plain.Number v = v 0
 constant_of left (plain.Argument place sign) v = pos 0
@@ -79,7 +79,7 @@ pub record AreWritableWithin (places : List ℕ) (goals : List Goal) : Type 0 wh
 
 -- where a side has no form along a ray, and nothing trips: it is loose, from the point of the rule, or what the
 -- question for that point tripped by
-abbrev pub IsLoosened : nodes.Side → List ℤ → EmptyAnswer → Local → Type 0
+abbrev pub IsLoosened : nodes.Side → List ℤ → GuardFeasibility → Local → Type 0
 IsLoosened side ray empty (HasBound l) = ⊥
-IsLoosened side ray empty (IsLooseOn s r kept) = (s ≡ side) × (r ≡ ray) × (point_in (Some empty) ≡ Some kept)
-IsLoosened side ray empty (HasTripped t) = trip_in (Some empty) ≡ Some t
+IsLoosened side ray empty (IsUnboundedOn s r kept) = (s ≡ side) × (r ≡ ray) × (point_in (Some empty) ≡ Some kept)
+IsLoosened side ray empty (HasTripped t) = limit_hit_in (Some empty) ≡ Some t

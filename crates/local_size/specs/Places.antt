@@ -1,15 +1,15 @@
--- What is asked of a place of a rule: its new value, its update, and the kinds of forms.
+-- What the questions about a place of a rule need: its new value, its update, and the kinds of forms.
 use Rattle.std.specs.Prelude.{ℕ, zero, suc, ◌&&◌, nat_lt, Bool, false, List, [], slice_index_or}
 use Rattle.std.specs.List.{list_all}
 use Rattle.poly_terms.specs.model.Polynomials.{Polynomial}
 use Rattle.simplex_core.specs.linear_forms.Forms.{Form}
 use Rattle.simplex_core.specs.linear_forms.RuleQuestions.{RuleForms, value_up, value_low}
-use Rattle.proof_tree.specs.rule_forms.Kinds.{Kind, kinds_for}
+use Rattle.cert_types.specs.rule_forms.Kinds.{Kind, kinds_for}
 use Rattle.guard_prep.specs.Prepared.{Prepared}
-use Rattle.proof_tree.specs.proof_nodes.AcceptsSizes.{Side, Up, Low}
+use Rattle.cert_types.specs.cert_rules.AcceptsSizes.{Side, Up, Low}
 use Rattle.rule_questions.specs.ProgramQuestions.{forms_of}
 
--- what a question sees of a rule; it looks at no symbol
+-- a rule as local questions see it, without its symbols
 abbrev pub local_forms : Prepared → RuleForms
 local_forms m = forms_of 0 0 m
 
@@ -19,23 +19,23 @@ value_on Up m place = value_up (local_forms m) place
 value_on Low m place = value_low (local_forms m) place
 
 -- whether the update at a place has degree 2 or more
-abbrev pub is_bent_at : Prepared → ℕ → Bool
-is_bent_at m zero = false
-is_bent_at m (suc i) = slice_index_or m.bent i false
+abbrev pub is_nonlinear_at : Prepared → ℕ → Bool
+is_nonlinear_at m zero = false
+is_nonlinear_at m (suc i) = slice_index_or m.nonlinear i false
 
 -- the expanded update at a place
 abbrev pub expanded_at : Prepared → ℕ → Polynomial
 expanded_at m zero = []
 expanded_at m (suc i) = slice_index_or m.polys i []
 
--- whether a polynomial has left variables alone, of which there are so many
+-- whether a polynomial reads only left variables, of which there are this many
 abbrev pub is_of_left : ℕ → Polynomial → Bool
 is_of_left left q = list_all (λ m. list_all (λ v. nat_lt v left) m.vars) q
 
 -- whether the update at a place has degree 2 or more and left variables alone
 abbrev pub is_polynomial_at : Prepared → ℕ → Bool
-is_polynomial_at m place = is_bent_at m place && is_of_left m.left (expanded_at m place)
+is_polynomial_at m place = is_nonlinear_at m place && is_of_left m.left (expanded_at m place)
 
 -- the kinds of forms that are looked for at a place, in their order
 abbrev pub kinds_of : Prepared → ℕ → List Kind
-kinds_of m place = kinds_for (is_bent_at m place) m.left place
+kinds_of m place = kinds_for (is_nonlinear_at m place) m.left place

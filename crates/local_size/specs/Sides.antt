@@ -1,20 +1,20 @@
--- One side of a place: its questions, which are asked in their order until a form is found.
+-- One side of a place: its questions, which are tried in their order until a form is found.
 use Rattle.std.specs.Prelude.{◌≡◌, ◌⊎◌, ℕ, List, [], ◌∷◌, ℤ, pos, ⊤}
 use Rattle.simplex_core.specs.linear_forms.Forms.{Form, at}
 use Rattle.simplex_core.specs.linear_forms.Causes.{Cause}
 use Rattle.simplex_core.specs.linear_forms.LinearProgram.{LinearProgram}
 use Rattle.simplex_core.specs.linear_forms.Questions.{listed, program_of_question}
 use Rattle.simplex_core.specs.linear_forms.RuleQuestions.{RuleForms}
-use Rattle.proof_tree.specs.rule_forms.Kinds.{Kind}
-use Rattle.proof_tree.specs.rule_forms.Questions.{question_of}
-use Rattle.proof_tree.specs.rule_forms.Laws.{solved_form, solved_multipliers}
+use Rattle.cert_types.specs.rule_forms.Kinds.{Kind}
+use Rattle.cert_types.specs.rule_forms.Questions.{question_of}
+use Rattle.cert_types.specs.rule_forms.Laws.{solved_form, solved_multipliers}
 use Rattle.simplex_core.specs.Trips.{Trips, IsScaledSolution, IsScaledDual}
-use Rattle.proof_tree.specs.proof_nodes.Nodes.{Arm, Linear}
+use Rattle.cert_types.specs.cert_rules.Nodes.{SideBound, Linear}
 
--- what the questions of one side come to: an arm; no form of any kind, as the dual of the last question shows; or a
--- limit that a linear program passed
+-- the result of the questions of one side: an arm; no form of any kind, as the dual of the last question shows; or a
+-- limit that a linear program exceeded
 pub data SideOutcome : Type 0 where
-  ArmFound : Arm → SideOutcome
+  SideBoundFound : SideBound → SideOutcome
   NoneFound : List ℤ → SideOutcome
   LimitPassed : Cause → SideOutcome
 
@@ -24,28 +24,27 @@ kind_program r w kind = program_of_question (question_of r w kind)
 
 -- the arm that a solution of it gives: the form that its parameters stand for, over its denominator, with its
 -- multipliers of the rows
-abbrev pub solved_arm : RuleForms → Form → Kind → List ℤ → ℕ → Arm
-solved_arm r w kind numbers den =
+abbrev pub solved_side_bound : RuleForms → Form → Kind → List ℤ → ℕ → SideBound
+solved_side_bound r w kind numbers den =
     Linear den (solved_form r kind (at numbers) (pos den)) (solved_multipliers r w kind (at numbers))
 
--- the question of one kind, within a number of pivots, comes to an arm, given by the solution at which its linear
--- program's sequence of tableaux ends; or to none, with a part for each unknown of the dual at which it ends; or it
--- passes a limit
+-- the question of one kind, within a number of pivots, gives an arm, by the solution at which its linear program's
+-- sequence of tableaux ends; or none, with a part for each unknown of the dual at which it ends; or it exceeds a limit
 abbrev pub ComesTo : RuleForms → Form → ℕ → Kind → SideOutcome → Type 0
-ComesTo r w pivots kind (ArmFound arm) = (numbers : List ℤ)
+ComesTo r w pivots kind (SideBoundFound side_bound) = (numbers : List ℤ)
     × ((den : ℕ) × IsScaledSolution (kind_program r w kind) pivots numbers den
-    × (arm ≡ solved_arm r w kind numbers den))
+    × (side_bound ≡ solved_side_bound r w kind numbers den))
 ComesTo r w pivots kind (NoneFound ray) = (numbers : List ℤ)
     × ((den : ℕ) × IsScaledDual (kind_program r w kind) pivots numbers den × (ray ≡ listed r.unknowns (at numbers)))
 ComesTo r w pivots kind (LimitPassed cause) = Trips (kind_program r w kind) pivots cause
 
 -- the search ends there: with an arm, or at a limit
 abbrev pub IsEnd : SideOutcome → Type 0
-IsEnd (ArmFound arm) = ⊤
+IsEnd (SideBoundFound side_bound) = ⊤
 IsEnd (NoneFound ray) = ⊥
 IsEnd (LimitPassed cause) = ⊤
 
--- the kinds are asked in order: the first that comes to an arm or passes a limit decides, and else the last
+-- the kinds are tried in order: the first that gives an arm or exceeds a limit decides, and else the last
 abbrev pub SearchComesTo : RuleForms → Form → ℕ → List Kind → SideOutcome → Type 0
 SearchComesTo r w pivots [] x = ⊥
 SearchComesTo r w pivots (kind ∷ []) x = ComesTo r w pivots kind x

@@ -1,15 +1,15 @@
--- Worked values of what is asked of places, of the first arm on a side, and of loose sides.
+-- Worked values of the questions about places, of the first arm on a side, and of loose sides.
 use Rattle.std.specs.Prelude.{◌≡◌, true, false, [], ◌∷◌, pos, negsuc, None}
-use Rattle.proof_tree.specs.rule_forms.Kinds.{Number, Argument, Affine, Plus, Minus}
-use Rattle.proof_tree.specs.rule_forms.Worked.{line_form}
+use Rattle.cert_types.specs.rule_forms.Kinds.{Number, Argument, Affine, Plus, Minus}
+use Rattle.cert_types.specs.rule_forms.Worked.{line_form}
 use Rattle.poly_terms.specs.model.Terms.{Term, Variable, Literal, Addition, Subtraction}
 use Rattle.poly_terms.specs.model.Programs.{AtLeast, Compare, Rule}
 use Rattle.guard_prep.specs.Prepared.{Prepared, prepared}
 use Rattle.guard_prep.specs.WorkedRows.{with_free, square, successor, product, two}
-use Rattle.proof_tree.specs.proof_nodes.Nodes.{Linear, Poly}
-use Rattle.proof_tree.specs.proof_nodes.AcceptsSizes.{Up, Low}
+use Rattle.cert_types.specs.cert_rules.Nodes.{Linear, Poly}
+use Rattle.cert_types.specs.cert_rules.AcceptsSizes.{Up, Low}
 use Rattle.local_size.specs.Places.{value_on, is_polynomial_at, kinds_of}
-use Rattle.local_size.specs.LocalLaws.{IsFirstArm, IsLooseSide}
+use Rattle.local_size.specs.LocalLaws.{IsFirstSideBound, IsUnboundedSide}
 
 -- the rule l0(A) -> l1(update), with a free variable B and no guard
 abbrev pub updated : Term → Prepared
@@ -48,7 +48,7 @@ pub record PolynomialsAreWorkedOut : Type 0 where
 -- all kinds are looked for where the update has degree 1, and any form alone where it has degree 2 or more
 pub record KindsOfPlacesAreWorkedOut : Type 0 where
   pub straight : kinds_of (updated successor) 1 ≡ Number ∷ Argument 1 Plus ∷ Argument 1 Minus ∷ Affine ∷ []
-  pub bent : kinds_of (updated product) 1 ≡ Affine ∷ []
+  pub nonlinear : kinds_of (updated product) 1 ≡ Affine ∷ []
   pub first_place : kinds_of both_updated 1 ≡ Number ∷ Argument 1 Plus ∷ Argument 1 Minus ∷ Affine ∷ []
   pub second_place : kinds_of both_updated 2 ≡ Affine ∷ []
 
@@ -60,28 +60,28 @@ pub record SidesAreWorkedOut : Type 0 where
 -- where A >= 1, the first arm on the up side of A - 1 is A, and on the low side 0, whatever the multipliers are; 5 is
 -- none on the up side, A isn't the first on the low side, and the polynomial is on neither. The first arm of A*A is the
 -- polynomial, and that of A*B isn't, nor is a form the first of A*A
-pub record FirstArmsAreWorkedOut : Type 0 where
-  pub up : IsFirstArm (prepared falling_rule) 1 Up (Linear 1 (line_form (pos 1) (pos 0)) [])
-  pub low : IsFirstArm (prepared falling_rule) 1 Low (Linear 1 (line_form (pos 0) (pos 0)) [])
-  pub too_low : ¬ (IsFirstArm (prepared falling_rule) 1 Up (Linear 1 (line_form (pos 0) (pos 5)) []))
-  pub later : ¬ (IsFirstArm (prepared falling_rule) 1 Low (Linear 1 (line_form (pos 1) (pos 0)) []))
-  pub no_polynomial : ¬ (IsFirstArm (prepared falling_rule) 1 Up Poly)
-  pub polynomial : IsFirstArm (updated square) 1 Low Poly
-  pub reads_free : ¬ (IsFirstArm (updated product) 1 Up Poly)
-  pub form_of_square : ¬ (IsFirstArm (updated square) 1 Up (Linear 1 (line_form (pos 1) (pos 0)) []))
+pub record FirstSideBoundsAreWorkedOut : Type 0 where
+  pub up : IsFirstSideBound (prepared falling_rule) 1 Up (Linear 1 (line_form (pos 1) (pos 0)) [])
+  pub low : IsFirstSideBound (prepared falling_rule) 1 Low (Linear 1 (line_form (pos 0) (pos 0)) [])
+  pub too_low : ¬ (IsFirstSideBound (prepared falling_rule) 1 Up (Linear 1 (line_form (pos 0) (pos 5)) []))
+  pub later : ¬ (IsFirstSideBound (prepared falling_rule) 1 Low (Linear 1 (line_form (pos 1) (pos 0)) []))
+  pub no_polynomial : ¬ (IsFirstSideBound (prepared falling_rule) 1 Up Poly)
+  pub polynomial : IsFirstSideBound (updated square) 1 Low Poly
+  pub reads_free : ¬ (IsFirstSideBound (updated product) 1 Up Poly)
+  pub form_of_square : ¬ (IsFirstSideBound (updated square) 1 Up (Linear 1 (line_form (pos 1) (pos 0)) []))
 
 -- a free variable is loose on both sides; A - 1 is on neither, and A*A isn't, since its polynomial bounds it
-pub record LooseSidesAreWorkedOut : Type 0 where
-  pub up : IsLooseSide (updated (Variable 1)) 1 Up
-  pub low : IsLooseSide (updated (Variable 1)) 1 Low
-  pub bounded_up : ¬ (IsLooseSide (prepared falling_rule) 1 Up)
-  pub bounded_low : ¬ (IsLooseSide (prepared falling_rule) 1 Low)
-  pub polynomial : ¬ (IsLooseSide (updated square) 1 Up)
+pub record UnboundedSidesAreWorkedOut : Type 0 where
+  pub up : IsUnboundedSide (updated (Variable 1)) 1 Up
+  pub low : IsUnboundedSide (updated (Variable 1)) 1 Low
+  pub bounded_up : ¬ (IsUnboundedSide (prepared falling_rule) 1 Up)
+  pub bounded_low : ¬ (IsUnboundedSide (prepared falling_rule) 1 Low)
+  pub polynomial : ¬ (IsUnboundedSide (updated square) 1 Up)
 
 -- all of these
 pub record LocalValuesAreWorkedOut : Type 0 where
   pub polynomials : PolynomialsAreWorkedOut
   pub kinds : KindsOfPlacesAreWorkedOut
   pub sides : SidesAreWorkedOut
-  pub first : FirstArmsAreWorkedOut
-  pub loose : LooseSidesAreWorkedOut
+  pub first : FirstSideBoundsAreWorkedOut
+  pub unbounded : UnboundedSidesAreWorkedOut

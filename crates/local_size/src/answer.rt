@@ -1,15 +1,15 @@
-//! What is answered of a place.
+//! The answers for a place.
 
-use outcome::Loose;
-use proof_tree::{LocalBound, Trip};
+use cert_types::{LimitHit, LocalBound};
+use outcome::UnboundedSide;
 
-/// How large the new value at a place can be in terms of the values before.
+/// The bound on the new value at a place in terms of the values before, or why there is none.
 #[derive(Debug, PartialEq, Eq, Drop)]
 pub enum LocalAnswer {
     /// At most this, on both sides.
     Bound(LocalBound),
     /// A side is loose: no form in the left arguments bounds it.
-    Loose(Loose),
-    /// A linear program passed a limit.
-    Tripped(Trip),
+    UnboundedSide(UnboundedSide),
+    /// A linear program exceeded a limit.
+    OutOfLimits(LimitHit),
 }

@@ -1,13 +1,13 @@
-//! The kinds of forms that are asked for at a place, in their order.
+//! The kinds of forms that are tried at a place, in their order.
 
 ghost use Rattle.std.specs.Prelude.{◌≡◌, ◌++◌, [], ◌∷◌, ◌≤◌, map, IfOk};
-ghost use Rattle.proof_tree.specs.rule_forms.Kinds.{arguments, kinds_for};
+ghost use Rattle.cert_types.specs.rule_forms.Kinds.{arguments, kinds_for};
 ghost use Rattle.local_size.specs.Asking.{kind_of, own_places, other_places};
 
 use poly_terms::Memory;
 use std::alloc::Global;
 
-/// As it is, or negated.
+/// The sign of an argument: as it is, or negated.
 #[derive(Clone, Copy, Debug, PartialEq, Eq)]
 pub enum Sign {
     Plus,
@@ -25,20 +25,20 @@ pub enum Kind {
     Affine,
 }
 
-/// The kinds that are asked for at a place of a rule with so many left arguments, in their order: a constant, the
-/// argument at the same place, where there is one, and its negation, each other argument and its negation, and any
-/// affine form; where the update is bent, the last alone.
+/// The kinds of forms that are tried at a place of a rule with this many left arguments, in their order: a constant,
+/// the argument at the same place, if there is one, and its negation, each other argument and its negation, and any
+/// affine form; where the update is bent, only the last.
 pub(crate) fn kinds_of(
     alloc: Global,
-    is_bent: bool,
+    is_nonlinear: bool,
     left: u32,
     place: u32,
 ) -> Result<Vec<Kind>, Memory>
     requires { 1 ≤ place }
-    ensures { IfOk result (λ kinds. map kind_of kinds.items ≡ kinds_for is_bent left place) }
+    ensures { IfOk result (λ kinds. map kind_of kinds.items ≡ kinds_for is_nonlinear left place) }
 {
     let mut kinds = Vec::new(alloc);
-    if is_bent {
+    if is_nonlinear {
         kinds.push(Kind::Affine)?;
         return Ok(kinds);
     }

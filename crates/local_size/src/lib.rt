@@ -1,6 +1,8 @@
-//! Local bounds: how large a new value can be in one step, in terms of the values before.
-//! Contract to the layer above: each answer is exact. Which linear programs are solved is said by `linear_forms`, what
-//! their answers are worth by `rule_forms`, and what trips them by `simplex_core`.
+//! Searches for local size bounds: how large a new value can be in one step, in terms of the values before.
+//!
+//! Builds on `simplex_core` (which solves the linear programs) and `rule_questions` (which sets them up). Main
+//! guarantee: each answer comes exactly in its case. `linear_forms` says which linear programs are solved, `rule_forms`
+//! what their answers prove, and `simplex_core` which limits they can exceed.
 #![tactic(auto)]
 
 mod answer;
@@ -17,7 +19,7 @@ mod side;
 pub use answer::LocalAnswer;
 pub use laws::{
     local_answers_are_exact, local_answers_are_one, local_bounds_are_accepted,
-    local_bounds_are_first, local_values_are_as_worked_out, loose_answers_are_loose,
+    local_bounds_are_first, local_values_are_as_worked_out, unbounded_answers_are_unbounded,
 };
-pub use outcome::Loose;
+pub use outcome::UnboundedSide;
 pub use place::local;

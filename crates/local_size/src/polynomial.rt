@@ -1,43 +1,43 @@
-//! Whether the update at a place is a polynomial that bounds the new value by itself.
+//! Checks whether the update at a place is a polynomial that bounds the new value by itself.
 
 ghost use Rattle.std.specs.Prelude.{◌≡◌, ◌≤◌, map, nat_lt};
 ghost use Rattle.std.specs.List.{list_all};
 ghost use Rattle.guard_prep.specs.Views.{prepared_of};
 ghost use Rattle.poly_terms.specs.Views.{monomials_of};
-ghost use Rattle.local_size.specs.Places.{is_bent_at, is_of_left, is_polynomial_at, expanded_at};
+ghost use Rattle.local_size.specs.Places.{is_nonlinear_at, is_of_left, is_polynomial_at, expanded_at};
 
 use guard_prep::RuleRows;
 use poly_terms::Monomial;
 
 /// Whether the update at a place has degree 2 or more and left variables alone.
-pub(crate) fn is_polynomial(prep: &RuleRows, place: u32) -> bool
+pub(crate) fn is_polynomial(prepared_rule: &RuleRows, place: u32) -> bool
     requires { 1 ≤ place }
-    ensures { result ≡ is_polynomial_at (prepared_of prep.now) place }
+    ensures { result ≡ is_polynomial_at (prepared_of prepared_rule.now) place }
 {
-    if !is_bent(prep, place) {
+    if !is_nonlinear(prepared_rule, place) {
         return false;
     }
-    reads_left_alone(prep, place)
+    reads_left_alone(prepared_rule, place)
 }
 
 /// Whether the update at a place has degree 2 or more.
-pub(crate) fn is_bent(prep: &RuleRows, place: u32) -> bool
+pub(crate) fn is_nonlinear(prepared_rule: &RuleRows, place: u32) -> bool
     requires { 1 ≤ place }
-    ensures { result ≡ is_bent_at (prepared_of prep.now) place }
+    ensures { result ≡ is_nonlinear_at (prepared_of prepared_rule.now) place }
 {
-    match prep.bent.get(place as usize - 1) {
-        Some(is_bent) => *is_bent,
+    match prepared_rule.nonlinear.get(place as usize - 1) {
+        Some(is_nonlinear) => *is_nonlinear,
         None => false,
     }
 }
 
 // Whether the update at a place has left variables alone.
-fn reads_left_alone(prep: &RuleRows, place: u32) -> bool
+fn reads_left_alone(prepared_rule: &RuleRows, place: u32) -> bool
     requires { 1 ≤ place }
-    ensures { result ≡ is_of_left prep.now.left (expanded_at (prepared_of prep.now) place) }
+    ensures { result ≡ is_of_left prepared_rule.now.left (expanded_at (prepared_of prepared_rule.now) place) }
 {
-    match prep.polys.get(place as usize - 1) {
-        Some(update) => are_of_left(&update.terms, prep.left),
+    match prepared_rule.polys.get(place as usize - 1) {
+        Some(update) => are_of_left(&update.terms, prepared_rule.left),
         None => true,
     }
 }

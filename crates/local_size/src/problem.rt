@@ -1,10 +1,10 @@
-//! The problem of one kind of form, as the builder makes it.
+//! Builds the problem of one kind of form.
 
 ghost use Rattle.std.specs.Prelude.{◌≡◌, ◌+◌, ◌<◌, ◌^◌, ◌++◌, [], ◌∷◌, nat_eq, if◌then◌else◌, length, map, IfOk};
 ghost use Rattle.std.specs.List.{range_with_len};
 ghost use Rattle.simplex_core.specs.linear_forms.RuleQuestions.{before_rule};
-ghost use Rattle.proof_tree.specs.rule_forms.Questions.{question_of, IsKindOf};
-ghost use Rattle.proof_tree.specs.rule_forms.SoughtParts.{sought_places};
+ghost use Rattle.cert_types.specs.rule_forms.Questions.{question_of, IsKindOf};
+ghost use Rattle.cert_types.specs.rule_forms.SoughtParts.{sought_places};
 ghost use Rattle.guard_prep.specs.Views.{prepared_of};
 ghost use Rattle.poly_terms.specs.Views.{form_of};
 ghost use Rattle.lp_builder.specs.Descriptions.{goal_forms, AreParameters};
@@ -22,26 +22,26 @@ use rule_questions::difference;
 use simplex_core::Problem;
 use std::alloc::Global;
 
-/// The problem that asks which form of a kind is at least a value on the points of a rule's rows.
+/// The problem of finding a form of a kind that is at least a value on the points of a rule's rows.
 pub(crate) fn kind_problem(
     alloc: Global,
-    prep: &RuleRows,
+    prepared_rule: &RuleRows,
     value: &Row,
     kind: Kind,
 ) -> Result<Problem, Memory>
-    requires prepared { IsPrepared prep.now }
-    requires value { IsValue prep.now (form_of value.now) }
-    requires kind { IsKindOf prep.now.left (kind_of kind) }
-    ensures { IfOk result (λ problem. IsProblemOf (question_of (local_forms (prepared_of prep.now)) (form_of value.now)
+    requires prepared { IsPrepared prepared_rule.now }
+    requires value { IsValue prepared_rule.now (form_of value.now) }
+    requires kind { IsKindOf prepared_rule.now.left (kind_of kind) }
+    ensures { IfOk result (λ problem. IsProblemOf (question_of (local_forms (prepared_of prepared_rule.now)) (form_of value.now)
         (kind_of kind)) problem) }
 {
-    let places = places_of(alloc, prep.left, kind)?;
+    let places = places_of(alloc, prepared_rule.left, kind)?;
     let goals = goals_of(alloc, &places)?;
     let costs = costs_of(alloc, &places)?;
     let fixed = fixed_row(alloc, kind)?;
     let rest = difference(alloc, &fixed, value)?;
     let mut builder = Builder::new(alloc, places.len() as u32);
-    builder.add_group(prep.unknowns, &prep.rows, &goals, &rest)?;
+    builder.add_group(prepared_rule.unknowns, &prepared_rule.rows, &goals, &rest)?;
     builder.finish(alloc, &costs)
 }
 
@@ -56,7 +56,7 @@ fn places_of(alloc: Global, left: u32, kind: Kind) -> Result<Vec<u32>, Memory>
     }
 }
 
-// So many places, and then the constant.
+// This many places, and then the constant.
 fn places_and_constant(alloc: Global, count: u32) -> Result<Vec<u32>, Memory>
     ensures { IfOk result (λ places. places.items ≡ range_with_len 1 count ++ (0 ∷ [])) }
 {
@@ -86,7 +86,7 @@ fn goals_of(alloc: Global, places: &[u32]) -> Result<Vec<Goal>, Memory>
     Ok(goals)
 }
 
-// What each place costs.
+// The cost of each place.
 fn costs_of(alloc: Global, places: &[u32]) -> Result<Vec<Cost>, Memory>
     ensures sizes { IfOk result (λ costs. map (λ c. c.size) costs.items
         ≡ map (λ i. if nat_eq i 0 then 0 else 1) places.now) }
@@ -100,7 +100,7 @@ fn costs_of(alloc: Global, places: &[u32]) -> Result<Vec<Cost>, Memory>
     Ok(costs)
 }
 
-// What a place costs: a left argument by its size, the constant by its height.
+// The cost of a place: a left argument has a size, the constant a height.
 fn cost_of(place: u32) -> Cost
     ensures size { result.size ≡ (if nat_eq place 0 then 0 else 1) }
     ensures height { result.height ≡ (if nat_eq place 0 then 1 else 0) }

@@ -1,39 +1,39 @@
-//! The arm that a solution of a kind's linear program gives.
+//! Builds the arm from a solution of a kind's linear program.
 
 ghost use Rattle.std.specs.Prelude.{◌≡◌, suc, ◌+◌, ◌*◌, ◌*ℤ◌, ◌≤◌, nat_eq, if◌then◌else◌, length, pos, nat_abs, IfOk};
 ghost use Rattle.simplex_core.specs.linear_forms.Forms.{at};
 ghost use Rattle.simplex_core.specs.linear_forms.Limits.{certificate_limit};
 ghost use Rattle.simplex_core.specs.linear_forms.Questions.{listed};
 ghost use Rattle.simplex_core.specs.linear_forms.QuestionLaws.{parameters_of};
-ghost use Rattle.proof_tree.specs.rule_forms.Kinds.{unit_of};
-ghost use Rattle.proof_tree.specs.rule_forms.Questions.{form_of};
-ghost use Rattle.proof_tree.specs.rule_forms.SoughtParts.{sought_places};
-ghost use Rattle.proof_tree.specs.proof_nodes.Nodes.{Linear};
-ghost use Rattle.proof_tree.specs.Views.{arm_of};
+ghost use Rattle.cert_types.specs.rule_forms.Kinds.{unit_of};
+ghost use Rattle.cert_types.specs.rule_forms.Questions.{form_of};
+ghost use Rattle.cert_types.specs.rule_forms.SoughtParts.{sought_places};
+ghost use Rattle.cert_types.specs.cert_rules.Nodes.{Linear};
+ghost use Rattle.cert_types.specs.Views.{side_bound_of};
 ghost use Rattle.simplex_core.specs.Scaling.{AreWithin};
 ghost use Rattle.local_size.specs.Asking.{kind_of, sign_of, coefficient_of, constant_of};
 
 use crate::kinds::{Kind, Sign};
+use cert_types::SideBound;
 use poly_terms::Memory;
-use proof_tree::Arm;
 use rule_questions::{multipliers_from, parameter_at};
 use simplex_core::Numerators;
 use std::alloc::Global;
 
 /// The arm that a solution gives: the form that its parameters stand for, over its denominator, with the multipliers of
-/// so many rows.
-pub(crate) fn arm_from(
+/// this many rows.
+pub(crate) fn side_bound_from(
     alloc: Global,
     left: u32,
     rows: usize,
     kind: Kind,
     solution: &Numerators,
-) -> Result<Arm, Memory>
+) -> Result<SideBound, Memory>
     requires within { AreWithin certificate_limit (length solution.now.numbers.items) solution.now.numbers.items }
     requires den { solution.now.den ≤ certificate_limit }
     requires few { left ≤ 96 }
     requires room { 2 * length (sought_places left (kind_of kind)) + rows ≤ length solution.now.numbers.items }
-    ensures { IfOk result (λ arm. arm_of arm ≡ Linear solution.now.den
+    ensures { IfOk result (λ side_bound. side_bound_of side_bound ≡ Linear solution.now.den
         (form_of left (kind_of kind) (parameters_of (at solution.now.numbers.items)) (pos solution.now.den))
         (listed rows (λ j. nat_abs (at solution.now.numbers.items
         (2 * length (sought_places left (kind_of kind)) + j))))) }
@@ -43,7 +43,7 @@ pub(crate) fn arm_from(
     let constant = constant_from(left, kind, &solution.numbers);
     let start = 2 * sought_count(left, kind);
     let multipliers = multipliers_from(alloc, &solution.numbers, start, rows)?;
-    Ok(Arm::Linear {
+    Ok(SideBound::Linear {
         den,
         coefs,
         constant,

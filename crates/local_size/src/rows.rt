@@ -1,13 +1,13 @@
-//! The rows that the questions of a place are made of.
+//! The rows of the questions about a place.
 
 ghost use Rattle.std.specs.Prelude.{◌≡◌, ◌≤◌, map, negsuc, nat_abs, ◌*ℤ◌, IfOk};
 ghost use Rattle.simplex_core.specs.linear_forms.Combinations.{form_sum, form_times};
 ghost use Rattle.simplex_core.specs.linear_forms.RuleQuestions.{before_rule, opposite};
-ghost use Rattle.proof_tree.specs.rule_forms.Kinds.{unit_of};
+ghost use Rattle.cert_types.specs.rule_forms.Kinds.{unit_of};
 ghost use Rattle.poly_terms.specs.model.Limits.{coefficient_limit};
 ghost use Rattle.poly_terms.specs.Views.{form_of};
 ghost use Rattle.rule_questions.specs.SmallForms.{IsSmall};
-ghost use Rattle.proof_tree.specs.rule_forms.SoughtParts.{fixed_part};
+ghost use Rattle.cert_types.specs.rule_forms.SoughtParts.{fixed_part};
 ghost use Rattle.local_size.specs.Asking.{kind_of, sign_of};
 
 use crate::kinds::{Kind, Sign};
@@ -48,7 +48,7 @@ pub(crate) fn argument_row(alloc: Global, place: u32) -> Result<Row, Memory>
     unit_row(alloc, place - 1)
 }
 
-/// The part of a form of a kind that isn't sought.
+/// The fixed part of a form of a kind.
 pub(crate) fn fixed_row(alloc: Global, kind: Kind) -> Result<Row, Memory>
     ensures { IfOk result (λ row. form_of row ≡ fixed_part (kind_of kind)) }
 {

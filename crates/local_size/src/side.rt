@@ -14,35 +14,35 @@ use guard_prep::RuleRows;
 use poly_terms::Memory;
 use std::alloc::Global;
 
-/// A side of a new value: what it is at most, or what its negation is.
+/// A side of a new value: upper bounds of the value, or of its negation.
 #[derive(Clone, Copy, Debug, PartialEq, Eq)]
 pub enum Side {
     Up,
     Low,
 }
 
-/// What the questions of a side of a place come to: which form of the first of its kinds of which there is one is at
-/// least the new value, or its negation on the low side.
+/// The result of the questions of a side of a place: a form that is at least the new value, or its negation on the low
+/// side, of the first of its kinds that has one.
 pub(crate) fn search_side(
     alloc: Global,
-    prep: &RuleRows,
+    prepared_rule: &RuleRows,
     side: Side,
     place: u32,
     kinds: &[Kind],
     pivots: u32,
 ) -> Result<SideAnswer, Memory>
-    requires prepared { IsPrepared prep.now }
-    requires place { (1 ≤ place) × (place ≤ length prep.now.news.items) }
-    requires kinds { map kind_of kinds.now ≡ kinds_asked (prepared_of prep.now) place }
+    requires prepared { IsPrepared prepared_rule.now }
+    requires place { (1 ≤ place) × (place ≤ length prepared_rule.now.new_values.items) }
+    requires kinds { map kind_of kinds.now ≡ kinds_asked (prepared_of prepared_rule.now) place }
     ensures { IfOk result (λ answer.
-        SideComesTo (prepared_of prep.now) place pivots (side_of side) (side_outcome_of answer)) }
+        SideComesTo (prepared_of prepared_rule.now) place pivots (side_of side) (side_outcome_of answer)) }
 {
-    let value = &prep.news[place as usize - 1];
+    let value = &prepared_rule.new_values[place as usize - 1];
     match side {
-        Side::Up => search_kinds(alloc, prep, value, kinds, pivots),
+        Side::Up => search_kinds(alloc, prepared_rule, value, kinds, pivots),
         Side::Low => {
             let negation = negated(alloc, value)?;
-            search_kinds(alloc, prep, &negation, kinds, pivots)
+            search_kinds(alloc, prepared_rule, &negation, kinds, pivots)
         }
     }
 }

@@ -6,7 +6,7 @@ use Rattle.std.specs.List.{range_with_len}
 use Rattle.std.proofs.lemmas.List.{drop_more, take-map, map-append, append-nil}
 use Rattle.poly_terms.specs.model.Programs.{Atom}
 use Rattle.poly_terms.specs.model.Terms.{Variable, Negation, Subtraction}
-use Rattle.proof_tree.proofs.Numbers.{numbers-more}
+use Rattle.cert_types.proofs.Numbers.{numbers-more}
 use Rattle.location_facts.specs.declared.fact.LocFact.{LocFact}
 use Rattle.location_facts.specs.Strengthening.{difference_term, greater, greatest_least, atom_by, atoms_with_plus}
 use Rattle.location_facts.specs.Strengthening.{atoms_with}

@@ -1,4 +1,4 @@
--- The list of the facts that are tried has each of them, in order, and no others.
+-- The list of the candidate facts has each of them, in order, and no others.
 use Rattle.std.proofs.Common.{◌≡◌, ◌≢◌, ◌⊎◌, inl, inr, ℕ, zero, suc, ◌+◌, ◌*◌, ◌<◌, ◌≤◌, refl, arith, subst, ap, ◌∙◌}
 use Rattle.std.proofs.Common.{eq-eqb}
 use Rattle.std.proofs.Common.{List, [], ◌∷◌, ◌++◌, length, Bool, true, false, if◌then◌else◌, Some}
@@ -15,7 +15,7 @@ use Rattle.location_facts.specs.Candidates.{last_place, IsCandidate, order_numbe
 use Rattle.location_facts.specs.Candidates.{candidates_at, candidates_among, candidates}
 use Rattle.location_facts.specs.Laws.{CandidatesAreListed}
 
--- facts that are tried, each with a number over that of the one before, from k on and below n
+-- candidate facts, each with a number over that of the one before, from k on and below n
 abbrev pub Between : Program → ℕ → ℕ → List LocFact → Type 0
 Between p k n [] = k ≤ n
 Between p k n (f ∷ facts) = IsCandidate p f × (k ≤ order_number f) × Between p (suc (order_number f)) n facts
@@ -29,7 +29,7 @@ higher : (p : Program) (k m n : ℕ) (facts : List LocFact) → m ≤ n → Betw
 higher p k m n [] l h = omega (arith, l, h)
 higher p k m n (f ∷ facts) l (c, g, h) = (c, g, higher p (suc (order_number f)) m n facts l h)
 
--- two lists, one behind the other
+-- two lists, one after the other
 joined : (p : Program) (k m n : ℕ) (facts more : List LocFact) → Between p k m facts → Between p m n more
     → Between p k n (facts ++ more)
 joined p k m n [] more h g = lower p k m n more h g
@@ -238,11 +238,11 @@ in-among p f (suc n) a l m h =
         Contains-append_left (candidates_at p a) (candidates_among p (range_with_len (a + 1) n)) f
         (subst (λ (x : ℕ). Contains (candidates_at p x) f) (let same : f.symbol ≡ a = omega (arith, l, k) in same) h)
 
--- all facts that are tried are between 0 and the number behind the last symbol
+-- all candidate facts are between 0 and the number behind the last symbol
 pub all-between : (p : Program) → Between p (0 * 243) ((0 + length p.symbols) * 243) (candidates p)
 all-between p = among-between p (length p.symbols) 0 (omega arith)
 
--- the list of the facts that are tried has each of them, in order, and no others
+-- the list of the candidate facts has each of them, in order, and no others
 pub candidates-are-listed : CandidatesAreListed
 candidates-are-listed = record {
   listed = λ p f. (

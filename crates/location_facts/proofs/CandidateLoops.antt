@@ -1,4 +1,4 @@
--- The facts that are tried, as loops make them.
+-- The candidate facts, as loops make them.
 use Rattle.std.proofs.Common.{◌≡◌, ℕ, suc, ◌+◌, refl, sym, ap, ◌∙◌, arith, List, [], ◌∷◌, ◌++◌, append_assoc, eq-eqb}
 use Rattle.std.proofs.Common.{Bool, true, false, if◌then◌else◌}
 use Rattle.std.specs.Prelude.{pos, negsuc, nat_eq}
@@ -6,11 +6,11 @@ use Rattle.std.specs.List.{range_with_len}
 use Rattle.std.proofs.lemmas.Bool.{eqb-true}
 use Rattle.std.proofs.lemmas.List.{append-nil}
 use Rattle.poly_terms.specs.model.Programs.{Program}
-use Rattle.proof_tree.proofs.Numbers.{numbers-more}
+use Rattle.cert_types.proofs.Numbers.{numbers-more}
 use Rattle.location_facts.specs.declared.fact.LocFact.{LocFact}
 use Rattle.location_facts.specs.Candidates.{last_place, with_places, with_symbol, candidates_at}
 
--- lists by number, one behind the other
+-- lists by number, one after the other
 module _ {A : Type 0} (all : List ℕ → List A) (each : ℕ → List A) (none : all [] ≡ [])
     (more : (j : ℕ) (js : List ℕ) → all (j ∷ js) ≡ each j ++ all js) where
   lists-joined : (js ks : List ℕ) → all (js ++ ks) ≡ all js ++ all ks
@@ -20,7 +20,7 @@ module _ {A : Type 0} (all : List ℕ → List A) (each : ℕ → List A) (none 
       ∙ (ap (λ (xs : List A). each j ++ xs) (lists-joined js ks)
       ∙ (sym (append_assoc (each j) (all js) (all ks)) ∙ ap (λ (xs : List A). xs ++ all ks) (sym (more j js))))
 
-  -- the list of the next number stands behind those so far
+  -- the list of the next number is appended to those so far
   pub lists-pushed : (n : ℕ) (base old new : List A) → old ≡ base ++ all (range_with_len 0 n) → new ≡ old ++ each n
       → new ≡ base ++ all (range_with_len 0 (n + 1))
   lists-pushed n base old new e h =
@@ -36,7 +36,7 @@ module _ {A : Type 0} (all : List ℕ → List A) (each : ℕ → List A) (none 
           ∙ ap (λ (xs : List A). all (range_with_len 0 n) ++ xs)
           (more n [] ∙ (ap (λ (xs : List A). each n ++ xs) none ∙ append-nil (each n)))))
 
-  -- before the first number nothing stands behind
+  -- before the first number nothing has been appended
   pub lists-none : (base : List A) → base ≡ base ++ all (range_with_len 0 0)
   lists-none base = sym (ap (λ (xs : List A). base ++ xs) none ∙ append-nil base)
 

@@ -18,13 +18,13 @@ use Rattle.its_model.specs.declared.program.Program.{Program}
 use Rattle.its_model.specs.Valid.{IsValid}
 use Rattle.its_model.specs.Views.{rule_of, program_of}
 use Rattle.farkas_cert.specs.Sizes.{AreSmall, HasRowNumbers, row_limit}
-use Rattle.proof_tree.specs.Composing.{AreRowsOf}
-use Rattle.proof_tree.specs.guard_prep.declared.rule_rows.RuleRows.{RuleRows}
-use Rattle.proof_tree.specs.guard_prep.Laws.{IsSmallForm}
-use Rattle.proof_tree.specs.guard_prep.Prepared.{Prepared, prepared, rows_of, unknowns_of}
-use Rattle.proof_tree.specs.guard_prep.Views.{prepared_of}
-use Rattle.proof_tree.proofs.guard_prep.SizeLaws.{rows-are-small}
-use Rattle.proof_tree.proofs.guard_prep.StepLaws.{preparable}
+use Rattle.cert_types.specs.Composing.{AreRowsOf}
+use Rattle.cert_types.specs.guard_prep.declared.rule_rows.RuleRows.{RuleRows}
+use Rattle.cert_types.specs.guard_prep.Laws.{IsSmallForm}
+use Rattle.cert_types.specs.guard_prep.Prepared.{Prepared, prepared, rows_of, unknowns_of}
+use Rattle.cert_types.specs.guard_prep.Views.{prepared_of}
+use Rattle.cert_types.proofs.guard_prep.SizeLaws.{rows-are-small}
+use Rattle.cert_types.proofs.guard_prep.StepLaws.{preparable}
 use Rattle.rule_questions.specs.EmptyAnswers.{IsPrepared}
 use Rattle.rule_questions.specs.ProgramQuestions.{forms_in}
 use Rattle.location_facts.specs.declared.fact.LocFact.{LocFact}
@@ -36,30 +36,30 @@ use Rattle.location_facts.proofs.Counting.{few-facts}
 use Rattle.location_facts.proofs.FactSizes.{combined-small}
 
 -- what is prepared at a position is that of the rule there
-pub prepared-at : (p : plain.Program) (preps : List RuleRows) (i : ℕ) (m : RuleRows) (r : plain.Rule) → AreRowsOf preps p
-    → slice_get preps i ≡ Some m → slice_get p.rules i ≡ Some r → prepared_of m ≡ prepared r
-prepared-at p preps i m r rows e f =
+pub prepared-at : (p : plain.Program) (prepared_rules : List RuleRows) (i : ℕ) (m : RuleRows) (r : plain.Rule) → AreRowsOf prepared_rules p
+    → slice_get prepared_rules i ≡ Some m → slice_get p.rules i ≡ Some r → prepared_of m ≡ prepared r
+prepared-at p prepared_rules i m r rows e f =
     some_same (prepared_of m) (prepared r)
-    (sym (slice_get-map prepared_of preps i ∙ ap (λ (o : Option RuleRows). option_map prepared_of o) e)
+    (sym (slice_get-map prepared_of prepared_rules i ∙ ap (λ (o : Option RuleRows). option_map prepared_of o) e)
     ∙ (ap (λ (ms : List Prepared). slice_get ms i) rows
     ∙ (slice_get-map prepared p.rules i ∙ ap (λ (o : Option plain.Rule). option_map prepared o) f)))
 
 -- there are as many as rules
-pub prepared-many : (p : plain.Program) (preps : List RuleRows) → AreRowsOf preps p → length preps ≡ length p.rules
-prepared-many p preps rows =
-    sym (length-map preps prepared_of)
+pub prepared-many : (p : plain.Program) (prepared_rules : List RuleRows) → AreRowsOf prepared_rules p → length prepared_rules ≡ length p.rules
+prepared-many p prepared_rules rows =
+    sym (length-map prepared_rules prepared_of)
     ∙ (ap (λ (ms : List Prepared). length ms) rows ∙ length-map p.rules prepared)
 
 -- so each is prepared of a preparable rule
-pub is-prepared : (p : plain.Program) (preps : List RuleRows) (i : ℕ) (m : RuleRows) → IsValid p → AreRowsOf preps p
-    → slice_get preps i ≡ Some m → IsPrepared m
-is-prepared p preps i m valid rows e =
+pub is-prepared : (p : plain.Program) (prepared_rules : List RuleRows) (i : ℕ) (m : RuleRows) → IsValid p → AreRowsOf prepared_rules p
+    → slice_get prepared_rules i ≡ Some m → IsPrepared m
+is-prepared p prepared_rules i m valid rows e =
     let (r, there) = slice_get-there p.rules i
-    (let l = slice_get_within preps i m e in let n = prepared-many p preps rows in omega (arith, l, n)) in
+    (let l = slice_get_within prepared_rules i m e in let n = prepared-many p prepared_rules rows in omega (arith, l, n)) in
     record {
       rule = r;
       preparable = preparable p (suc i) r valid there;
-      same = prepared-at p preps i m r rows e there;
+      same = prepared-at p prepared_rules i m r rows e there;
     }
 
 -- the combined rows of a rule
@@ -67,14 +67,14 @@ abbrev rows_by : List LocFact → plain.Rule → List Form
 rows_by kept q = combined (forms_in (Some q)) kept
 
 -- the combined rows of one rule more
-pub combined-pushed : (p : Program) (preps : List RuleRows) (kept : List LocFact) (i : ℕ) (m : RuleRows) (r : Rule)
-    (old new : List (Vec Row Global)) (v : Vec Row Global) → AreRowsOf preps (program_of p)
-    → slice_get preps i ≡ Some m → slice_get p.rules.items i ≡ Some r
+pub combined-pushed : (p : Program) (prepared_rules : List RuleRows) (kept : List LocFact) (i : ℕ) (m : RuleRows) (r : Rule)
+    (old new : List (Vec Row Global)) (v : Vec Row Global) → AreRowsOf prepared_rules (program_of p)
+    → slice_get prepared_rules i ≡ Some m → slice_get p.rules.items i ≡ Some r
     → map forms_of_rows old ≡ map (λ q. combined (forms_in (Some q)) kept) (take i (program_of p).rules)
     → new ≡ old ++ v ∷ []
     → map form_of v.items ≡ map form_of m.rows.items ++ map row_before (facts_at r.source kept)
     → map forms_of_rows new ≡ map (λ q. combined (forms_in (Some q)) kept) (take (i + 1) (program_of p).rules)
-combined-pushed p preps kept i m r old new v rows e f g h made =
+combined-pushed p prepared_rules kept i m r old new v rows e f g h made =
     ap (map forms_of_rows) h
     ∙ (map-append forms_of_rows old (v ∷ [])
     ∙ (ap (λ (xs : List (List Form)). xs ++ forms_of_rows v ∷ []) g
@@ -93,7 +93,7 @@ combined-pushed p preps kept i m r old new v rows e f g h made =
     last =
         made
         ∙ ap (λ (fs : List Form). fs ++ map row_before (facts_at r.source kept))
-        (ap (λ (q : Prepared). q.rows) (prepared-at (program_of p) preps i m (rule_of r) rows e there))
+        (ap (λ (q : Prepared). q.rows) (prepared-at (program_of p) prepared_rules i m (rule_of r) rows e there))
 
 -- the rows at a position are the combined rows of the rule there
 pub combined-at : (p : plain.Program) (kept : List LocFact) (rows : List (Vec Row Global)) (i : ℕ) (v : Vec Row Global)

@@ -1,4 +1,5 @@
--- Rules under a list of facts, where they are due: at which of them nothing went, and what is told of a fact by each.
+-- Rules under a list of facts, where they are due (to be queried again): at the source of the others no fact was
+-- dropped; and each rule's answer on a fact.
 use Rattle.std.proofs.Common.{◌≡◌, ◌≢◌, ◌⊎◌, inl, inr, ℕ, zero, suc, ◌+◌, ◌-◌, ◌<◌, ◌≤◌, ap, arith, refl, sym, ◌∙◌, subst}
 use Rattle.std.proofs.Common.{List, [], ◌∷◌, ◌++◌, length, length-append, map, get_or, Option, Some, None, Bool, true, false, replicate}
 use Rattle.std.proofs.Common.{if◌then◌else◌}
@@ -13,15 +14,15 @@ use Rattle.poly_terms.specs.linear_forms.RuleQuestions.{RuleForms}
 use Rattle.poly_terms.specs.model.Programs as plain
 use Rattle.poly_terms.specs.Views.{form_of}
 use Rattle.poly_terms.proofs.model.Cases.{some_same, slice_get-there}
-use Rattle.proof_tree.specs.Composing.{AreRowsOf}
-use Rattle.proof_tree.specs.guard_prep.declared.rule_rows.RuleRows.{RuleRows}
-use Rattle.proof_tree.specs.guard_prep.Prepared.{prepared}
-use Rattle.proof_tree.specs.guard_prep.Views.{prepared_of}
+use Rattle.cert_types.specs.Composing.{AreRowsOf}
+use Rattle.cert_types.specs.guard_prep.declared.rule_rows.RuleRows.{RuleRows}
+use Rattle.cert_types.specs.guard_prep.Prepared.{prepared}
+use Rattle.cert_types.specs.guard_prep.Views.{prepared_of}
 use Rattle.rule_questions.specs.ProgramQuestions.{forms_in, forms_at}
 use Rattle.location_facts.specs.declared.fact.LocFact.{LocFact}
 use Rattle.location_facts.specs.declared.fact.FactProof.{FactProof}
 use Rattle.location_facts.specs.declared.implied.Answered.{Answered}
-use Rattle.location_facts.specs.declared.implied.Under.{Under}
+use Rattle.location_facts.specs.declared.implied.RuleUnderFacts.{RuleUnderFacts}
 use Rattle.location_facts.specs.Certificates.{IsWithinLimit}
 use Rattle.location_facts.specs.Faults.{rules_into}
 use Rattle.location_facts.specs.Implied.{TellsEmpty, TellsGoal, HasProofs, AreProofsUnder, proof_in}
@@ -62,36 +63,36 @@ module _ (Keeps : LocFact → Type 0) (s : ℕ) where
   nothing-went facts those h e = those-all Keeps (facts_at s facts) (facts_at s those) (those-at facts those h) (sym e)
 
 module _ (pivots n : ℕ) (rows : List Form) (goal : Form) where
-  -- of a rule that isn't under a list it is told by the earlier proof
-  pub told-none : (o : Option Under) (earlier x : Option FactProof) → o ≡ None → x ≡ earlier
+  -- for a rule that isn't due the earlier proof is the answer
+  pub none-sound : (o : Option RuleUnderFacts) (earlier x : Option FactProof) → o ≡ None → x ≡ earlier
       → TellsAgain pivots n rows goal o earlier → TellsGoal pivots n rows goal x
-  told-none o earlier x e same told =
+  none-sound o earlier x e same verdict =
       subst (TellsGoal pivots n rows goal) (sym same)
-      (go earlier (subst (λ (w : Option Under). TellsAgain pivots n rows goal w earlier) e told))
+      (go earlier (subst (λ (w : Option RuleUnderFacts). TellsAgain pivots n rows goal w earlier) e verdict))
     where
       go : (y : Option FactProof) → TellsEarlier pivots n rows goal y → TellsGoal pivots n rows goal y
       go None h = absurd h
       go (Some proof) h = h
 
-  -- and what is told over the rows of a list is told over these
-  pub again-told : (u : Under) (earlier o : Option FactProof) → TellsAgain pivots n rows goal (Some u) earlier
+  -- and an answer over the rows of a list is the answer over these
+  pub again-sound : (u : RuleUnderFacts) (earlier o : Option FactProof) → TellsAgain pivots n rows goal (Some u) earlier
       → (TellsEmpty pivots n (map form_of u.rows.items) u.empty → TellsGoal pivots n (map form_of u.rows.items) goal o)
       → TellsGoal pivots n rows goal o
-  again-told u earlier o (same, empty) told = subst (λ (fs : List Form). TellsGoal pivots n fs goal o) same (told empty)
+  again-sound u earlier o (same, empty) verdict = subst (λ (fs : List Form). TellsGoal pivots n fs goal o) same (verdict empty)
 
--- what was told of a rule makes it so
+-- a rule's answer is true
 pub if-due : (pivots : ℕ) (kept : List LocFact) (m : RuleRows) (r : plain.Rule) (due points : List Bool) (i : ℕ)
-    (asked : Wanted) (o : Option Under) → prepared_of m ≡ prepared r
+    (asked : Wanted) (o : Option RuleUnderFacts) → prepared_of m ≡ prepared r
     → length (map form_of m.rows.items ++ map row_before (facts_at r.source kept)) ≤ 371 → IsWanted due points i asked
     → TellsRule pivots m.unknowns (map form_of m.rows.items ++ map row_before (facts_at r.source kept)) asked o
     → IsUnderIfDue pivots (forms_in (Some r)) (slice_get due i) kept o
-if-due pivots kept m r due points i Nothing None same few wanted told = wanted
-if-due pivots kept m r due points i Facts None same few wanted told = absurd told
-if-due pivots kept m r due points i Everything None same few wanted told = absurd told
+if-due pivots kept m r due points i Nothing None same few wanted verdict = wanted
+if-due pivots kept m r due points i Facts None same few wanted verdict = absurd verdict
+if-due pivots kept m r due points i Everything None same few wanted verdict = absurd verdict
 if-due pivots kept m r due points i asked (Some u) same few wanted (rows, writable, empty) =
     is-under pivots kept m r u same rows writable few empty
 
--- where facts alone are asked of a rule with a mark, its rows have a point
+-- where only facts are queried of a marked rule, its rows have a point
 pub known-point : (due points : List Bool) (i : ℕ) (asked : Wanted) (rows : List Form)
     → (slice_get points i ≡ Some true → HasPoint rows) → IsWanted due points i asked → HasKnownPoint asked rows
 known-point due points i Nothing rows has wanted = tt
@@ -99,26 +100,26 @@ known-point due points i Facts rows has wanted = has wanted
 known-point due points i Everything rows has wanted = tt
 
 -- the rules so far, one by one
-abbrev pub EachUnder : plain.Program → ℕ → List Bool → List LocFact → List (Option Under) → Type 0
+abbrev pub EachUnder : plain.Program → ℕ → List Bool → List LocFact → List (Option RuleUnderFacts) → Type 0
 EachUnder p pivots due kept us =
-    (k : ℕ) (o : Option Under) (r : plain.Rule) → slice_get us k ≡ Some o → slice_get p.rules k ≡ Some r
+    (k : ℕ) (o : Option RuleUnderFacts) (r : plain.Rule) → slice_get us k ≡ Some o → slice_get p.rules k ≡ Some r
     → IsUnderIfDue pivots (forms_in (Some r)) (slice_get due k) kept o
 
 -- one rule more
-pub under-pushed : (p : plain.Program) (pivots : ℕ) (due : List Bool) (kept : List LocFact) (us new : List (Option Under)) (i : ℕ)
-    (o : Option Under) (r : plain.Rule) → length us ≡ i → EachUnder p pivots due kept us → slice_get p.rules i ≡ Some r
+pub under-pushed : (p : plain.Program) (pivots : ℕ) (due : List Bool) (kept : List LocFact) (us new : List (Option RuleUnderFacts)) (i : ℕ)
+    (o : Option RuleUnderFacts) (r : plain.Rule) → length us ≡ i → EachUnder p pivots due kept us → slice_get p.rules i ≡ Some r
     → IsUnderIfDue pivots (forms_in (Some r)) (slice_get due i) kept o → new ≡ us ++ o ∷ [] → EachUnder p pivots due kept new
 under-pushed p pivots due kept us new i o r many each there is made k v q e f = go (cases_lt k (length us))
   where
     e-there : slice_get (us ++ o ∷ []) k ≡ Some v
-    e-there = subst (λ (ws : List (Option Under)). slice_get ws k ≡ Some v) made e
+    e-there = subst (λ (ws : List (Option RuleUnderFacts)). slice_get ws k ≡ Some v) made e
 
     within : k < length (us ++ o ∷ [])
     within = slice_get_within (us ++ o ∷ []) k v e-there
 
     here : k ≡ length us → IsUnderIfDue pivots (forms_in (Some q)) (slice_get due k) kept v
     here same =
-        subst (λ (w : Option Under). IsUnderIfDue pivots (forms_in (Some q)) (slice_get due k) kept w)
+        subst (λ (w : Option RuleUnderFacts). IsUnderIfDue pivots (forms_in (Some q)) (slice_get due k) kept w)
         (some_same o v (sym (slice-last us o) ∙ (ap (slice_get (us ++ o ∷ [])) (sym same) ∙ e-there)))
         (subst (λ (w : plain.Rule). IsUnderIfDue pivots (forms_in (Some w)) (slice_get due k) kept o)
         (some_same r q (sym there ∙ (ap (slice_get p.rules) (sym (same ∙ many)) ∙ f)))
@@ -128,15 +129,15 @@ under-pushed p pivots due kept us new i o r many each there is made k v q e f = 
     go (inl l) = each k v q (sym (slice-before us (o ∷ []) k l) ∙ e-there) f
     go (inr l) = here (let a = length-append us (o ∷ []) in omega (arith, a, within, l))
 
-pub under-more : (us new : List (Option Under)) (i : ℕ) (o : Option Under) → length us ≡ i → new ≡ us ++ o ∷ []
+pub under-more : (us new : List (Option RuleUnderFacts)) (i : ℕ) (o : Option RuleUnderFacts) → length us ≡ i → new ≡ us ++ o ∷ []
     → length new ≡ i + 1
 under-more us new i o many made =
-    let a = ap (λ (ws : List (Option Under)). length ws) made in let b = length-append us (o ∷ []) in
+    let a = ap (λ (ws : List (Option RuleUnderFacts)). length ws) made in let b = length-append us (o ∷ []) in
     omega (arith, many, a, b)
 
 -- a rule that is read is so
-pub under-read : (p : plain.Program) (pivots : ℕ) (due : List Bool) (kept : List LocFact) (us : List (Option Under)) (t : ℕ)
-    (o : Option Under) → (1 ≤ t) × (t ≤ length p.rules) → AreUnder p pivots due kept us → o ≡ get_or us (t - 1) o
+pub under-read : (p : plain.Program) (pivots : ℕ) (due : List Bool) (kept : List LocFact) (us : List (Option RuleUnderFacts)) (t : ℕ)
+    (o : Option RuleUnderFacts) → (1 ≤ t) × (t ≤ length p.rules) → AreUnder p pivots due kept us → o ≡ get_or us (t - 1) o
     → IsUnderIfDue pivots (forms_at p t) (slice_get due (t - 1)) kept o
 under-read p pivots due kept us zero o (l, h) are e = absurd (omega (arith, l))
 under-read p pivots due kept us (suc i) o (l, h) are e =
@@ -149,65 +150,65 @@ under-read p pivots due kept us (suc i) o (l, h) are e =
     (are.each i o r at-o there))
 
 -- its rows are few and can be written
-pub few-rows : (pivots : ℕ) (r : RuleForms) (due : Option Bool) (kept : List LocFact) (o : Option Under)
+pub few-rows : (pivots : ℕ) (r : RuleForms) (due : Option Bool) (kept : List LocFact) (o : Option RuleUnderFacts)
     → IsUnderIfDue pivots r due kept o → HasRows r.unknowns o
 few-rows pivots r due kept None h = tt
 few-rows pivots r due kept (Some u) h = (h.few, h.writable)
 
--- what is told of a fact by an earlier proof, or over the rows of the code, is told of the rule
-pub told-later : (p : plain.Program) (preps : List RuleRows) (pivots : ℕ) (due : Option Bool) (kept : List LocFact)
-    (t : ℕ) (m : RuleRows) (o : Option Under) (f : LocFact) (earlier x : Option FactProof) → AreRowsOf preps p
-    → (1 ≤ t) × (t ≤ length p.rules) → m ≡ get_or preps (t - 1) m → IsUnderIfDue pivots (forms_at p t) due kept o
+-- the answer on a fact by an earlier proof, or over the rows of the code, is that of the rule
+pub later-sound : (p : plain.Program) (prepared_rules : List RuleRows) (pivots : ℕ) (due : Option Bool) (kept : List LocFact)
+    (t : ℕ) (m : RuleRows) (o : Option RuleUnderFacts) (f : LocFact) (earlier x : Option FactProof) → AreRowsOf prepared_rules p
+    → (1 ≤ t) × (t ≤ length p.rules) → m ≡ get_or prepared_rules (t - 1) m → IsUnderIfDue pivots (forms_at p t) due kept o
     → (due ≡ Some false
-    → TellsEarlier pivots (forms_at p t).unknowns (combined (forms_at p t) kept) (row_after (forms_at p t).news f) earlier)
-    → ((rows : List Form) → TellsAgain pivots m.unknowns rows (row_after (map form_of m.news.items) f) o earlier
-    → TellsGoal pivots m.unknowns rows (row_after (map form_of m.news.items) f) x)
-    → TellsGoal pivots (forms_at p t).unknowns (combined (forms_at p t) kept) (row_after (forms_at p t).news f) x
-told-later p preps pivots due kept t m o f earlier x are within at-m is stands told =
-    subst (λ (n : ℕ). TellsGoal pivots n (combined (forms_at p t) kept) (row_after (forms_at p t).news f) x) same.0
+    → TellsEarlier pivots (forms_at p t).unknowns (combined (forms_at p t) kept) (row_after (forms_at p t).new_values f) earlier)
+    → ((rows : List Form) → TellsAgain pivots m.unknowns rows (row_after (map form_of m.new_values.items) f) o earlier
+    → TellsGoal pivots m.unknowns rows (row_after (map form_of m.new_values.items) f) x)
+    → TellsGoal pivots (forms_at p t).unknowns (combined (forms_at p t) kept) (row_after (forms_at p t).new_values f) x
+later-sound p prepared_rules pivots due kept t m o f earlier x are within at-m is stands verdict =
+    subst (λ (n : ℕ). TellsGoal pivots n (combined (forms_at p t) kept) (row_after (forms_at p t).new_values f) x) same.0
     (subst (λ (fs : List Form). TellsGoal pivots m.unknowns (combined (forms_at p t) kept) (row_after fs f) x) same.1
-    (told (combined (forms_at p t) kept)
+    (verdict (combined (forms_at p t) kept)
     (subst (λ (fs : List Form). TellsAgain pivots m.unknowns (combined (forms_at p t) kept) (row_after fs f) o earlier) (sym same.1)
-    (subst (λ (n : ℕ). TellsAgain pivots n (combined (forms_at p t) kept) (row_after (forms_at p t).news f) o earlier) (sym same.0)
+    (subst (λ (n : ℕ). TellsAgain pivots n (combined (forms_at p t) kept) (row_after (forms_at p t).new_values f) o earlier) (sym same.0)
     (again o is)))))
   where
-    same : (m.unknowns ≡ (forms_at p t).unknowns) × (map form_of m.news.items ≡ (forms_at p t).news)
-    same = forms-read p preps t m are within at-m
+    same : (m.unknowns ≡ (forms_at p t).unknowns) × (map form_of m.new_values.items ≡ (forms_at p t).new_values)
+    same = forms-read p prepared_rules t m are within at-m
 
-    again : (w : Option Under) → IsUnderIfDue pivots (forms_at p t) due kept w
-        → TellsAgain pivots (forms_at p t).unknowns (combined (forms_at p t) kept) (row_after (forms_at p t).news f) w earlier
+    again : (w : Option RuleUnderFacts) → IsUnderIfDue pivots (forms_at p t) due kept w
+        → TellsAgain pivots (forms_at p t).unknowns (combined (forms_at p t) kept) (row_after (forms_at p t).new_values f) w earlier
     again None e = stands e
     again (Some u) h =
         (h.rows, subst (λ (fs : List Form). TellsEmpty pivots (forms_at p t).unknowns fs u.empty) (sym h.rows) h.empty)
 
 -- the rows of the code are few and can be written
-pub rows-read : (p : plain.Program) (preps : List RuleRows) (pivots : ℕ) (due : Option Bool) (kept : List LocFact) (t : ℕ)
-    (m : RuleRows) (o : Option Under) → AreRowsOf preps p → (1 ≤ t) × (t ≤ length p.rules) → m ≡ get_or preps (t - 1) m
+pub rows-read : (p : plain.Program) (prepared_rules : List RuleRows) (pivots : ℕ) (due : Option Bool) (kept : List LocFact) (t : ℕ)
+    (m : RuleRows) (o : Option RuleUnderFacts) → AreRowsOf prepared_rules p → (1 ≤ t) × (t ≤ length p.rules) → m ≡ get_or prepared_rules (t - 1) m
     → IsUnderIfDue pivots (forms_at p t) due kept o → HasRows m.unknowns o
-rows-read p preps pivots due kept t m o are within at-m is =
-    subst (λ (n : ℕ). HasRows n o) (sym (forms-read p preps t m are within at-m).0)
+rows-read p prepared_rules pivots due kept t m o are within at-m is =
+    subst (λ (n : ℕ). HasRows n o) (sym (forms-read p prepared_rules t m are within at-m).0)
     (few-rows pivots (forms_at p t) due kept o is)
 
--- so it is told of a fact by each rule into its symbol, and by its answer
-pub told-answer : (p : plain.Program) (preps : List RuleRows) (pivots : ℕ) (due : List Bool) (kept : List LocFact)
-    (f : LocFact) (ps : List FactProof) (into : List ℕ) (k t : ℕ) (m : RuleRows) (o : Option Under)
-    (a b : Answered) → a ≡ b → AreRowsOf preps p → into ≡ rules_into p f.symbol → k < length into → t ≡ get_or into k t
-    → (1 ≤ t) × (t ≤ length p.rules) → m ≡ get_or preps (t - 1) m
+-- the same for the answers of all rules into the fact's symbol
+pub answer-sound : (p : plain.Program) (prepared_rules : List RuleRows) (pivots : ℕ) (due : List Bool) (kept : List LocFact)
+    (f : LocFact) (ps : List FactProof) (into : List ℕ) (k t : ℕ) (m : RuleRows) (o : Option RuleUnderFacts)
+    (a b : Answered) → a ≡ b → AreRowsOf prepared_rules p → into ≡ rules_into p f.symbol → k < length into → t ≡ get_or into k t
+    → (1 ≤ t) × (t ≤ length p.rules) → m ≡ get_or prepared_rules (t - 1) m
     → IsUnderIfDue pivots (forms_at p t) (slice_get due (t - 1)) kept o → IsShownEarlier p pivots due kept f ps
     → (earlier : Option FactProof) → earlier ≡ slice_get ps k
-    → ((rows : List Form) → TellsAgain pivots m.unknowns rows (row_after (map form_of m.news.items) f) o earlier
-    → TellsGoal pivots m.unknowns rows (row_after (map form_of m.news.items) f) (proof_in a))
-    → TellsGoal pivots (forms_at p t).unknowns (combined (forms_at p t) kept) (row_after (forms_at p t).news f)
+    → ((rows : List Form) → TellsAgain pivots m.unknowns rows (row_after (map form_of m.new_values.items) f) o earlier
+    → TellsGoal pivots m.unknowns rows (row_after (map form_of m.new_values.items) f) (proof_in a))
+    → TellsGoal pivots (forms_at p t).unknowns (combined (forms_at p t) kept) (row_after (forms_at p t).new_values f)
     (proof_in b)
-told-answer p preps pivots due kept f ps into k t m o a b same are e l g within at-m is stand earlier taken told =
+answer-sound p prepared_rules pivots due kept f ps into k t m o a b same are e l g within at-m is stand earlier taken verdict =
     subst (λ (y : Answered). TellsGoal pivots (forms_at p t).unknowns (combined (forms_at p t) kept)
-    (row_after (forms_at p t).news f) (proof_in y)) same
-    (told-later p preps pivots (slice_get due (t - 1)) kept t m o f earlier (proof_in a) are within at-m is
+    (row_after (forms_at p t).new_values f) (proof_in y)) same
+    (later-sound p prepared_rules pivots (slice_get due (t - 1)) kept t m o f earlier (proof_in a) are within at-m is
     (λ not. subst (λ (x : Option FactProof). TellsEarlier pivots (forms_at p t).unknowns (combined (forms_at p t) kept)
-    (row_after (forms_at p t).news f) x) (sym taken) (stand.each k t (read (rules_into p f.symbol) k t (subst (λ (ts : List ℕ). k < length ts) e l)
-    (subst (λ (ts : List ℕ). t ≡ get_or ts k t) e g)) not)) told)
+    (row_after (forms_at p t).new_values f) x) (sym taken) (stand.each k t (read (rules_into p f.symbol) k t (subst (λ (ts : List ℕ). k < length ts) e l)
+    (subst (λ (ts : List ℕ). t ≡ get_or ts k t) e g)) not)) verdict)
 
--- where no list came before, each rule is due, so nothing has to stand
+-- where there was no earlier list, each rule is due, so no earlier answer is needed
 pub all-due : (p : plain.Program) (pivots n : ℕ) (due : List Bool) (kept : List LocFact) (proofs : List (List FactProof))
     → due ≡ replicate n true → AreShownEarlier p pivots due kept proofs
 all-due p pivots n due kept proofs e = record {
@@ -237,7 +238,7 @@ module _ (p : plain.Program) (pivots : ℕ) (old new : List LocFact) (proofs : L
 
   stands-on : (f : LocFact) (ps : List FactProof) → IsImpliedByAll p pivots old f → HasProofs p old f ps → (k t : ℕ)
       → slice_get (rules_into p f.symbol) k ≡ Some t → slice_get due (t - 1) ≡ Some false
-      → TellsEarlier pivots (forms_at p t).unknowns (combined (forms_at p t) new) (row_after (forms_at p t).news f)
+      → TellsEarlier pivots (forms_at p t).unknowns (combined (forms_at p t) new) (row_after (forms_at p t).new_values f)
       (slice_get ps k)
   stands-on f ps all has k t at not =
       let low : k < length (rules_into p f.symbol) = slice_get_within (rules_into p f.symbol) k t at in
@@ -248,8 +249,8 @@ module _ (p : plain.Program) (pivots : ℕ) (old new : List LocFact) (proofs : L
       let limit : IsWithinLimit proof = subst IsWithinLimit (get_or_from_slice_get ps k proof proof there)
       (All-get_or IsWithinLimit ps k proof few has.numbers) in
       subst (λ (o : Option FactProof). TellsEarlier pivots (forms_at p t).unknowns (combined (forms_at p t) new)
-      (row_after (forms_at p t).news f) o) (sym there)
-      (subst (λ (fs : List Form). TellsGoal pivots (forms_at p t).unknowns fs (row_after (forms_at p t).news f) (Some proof))
+      (row_after (forms_at p t).new_values f) o) (sym there)
+      (subst (λ (fs : List Form). TellsGoal pivots (forms_at p t).unknowns fs (row_after (forms_at p t).new_values f) (Some proof))
       (same-rows t within not) (
         implied-at p pivots old f k t low read-t all,
         limit,
@@ -264,13 +265,13 @@ module _ (p : plain.Program) (pivots : ℕ) (old new : List LocFact) (proofs : L
           let (ps, listed) = slice_get-there proofs i l in
           subst (λ (o : Option (List FactProof)). (k t : ℕ) → slice_get (rules_into p f.symbol) k ≡ Some t
           → slice_get due (t - 1) ≡ Some false → TellsEarlier pivots (forms_at p t).unknowns
-          (combined (forms_at p t) new) (row_after (forms_at p t).news f) (slice_get (listed_in o) k)) (sym listed)
+          (combined (forms_at p t) new) (row_after (forms_at p t).new_values f) (slice_get (listed_in o) k)) (sym listed)
           (stands-on f ps (those-keep (IsImpliedByAll p pivots old) old new next i f there)
           (are.each i f ps (record { fact = there; listed = listed })));
     };
   }
 
--- before a rule is passed nothing is said of any
+-- before any rule has been passed, nothing is claimed of any
 pub due-none : (p : plain.Program) (old new : List LocFact) → AreDue p old new []
 due-none p old new = record { each = λ i r not there. cc }
 

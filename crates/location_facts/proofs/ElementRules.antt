@@ -20,18 +20,18 @@ use Rattle.poly_terms.specs.linear_forms.Points.{Meets}
 use Rattle.farkas_cert.specs.declared.scaled.Scaled.{Scaled}
 use Rattle.farkas_cert.specs.Scales.{numerators_of}
 use Rattle.farkas_cert.specs.Sizes.{HasRowNumbers, row_limit}
-use Rattle.proof_tree.specs.Composing.{AreRowsOf}
-use Rattle.proof_tree.specs.guard_prep.declared.rule_rows.RuleRows.{RuleRows}
+use Rattle.cert_types.specs.Composing.{AreRowsOf}
+use Rattle.cert_types.specs.guard_prep.declared.rule_rows.RuleRows.{RuleRows}
 use Rattle.rule_questions.specs.EmptyAnswers.{IsPrepared}
 use Rattle.rule_questions.specs.ProgramQuestions.{forms_at}
 use Rattle.rule_questions.specs.SmallForms.{IsSmall}
 use Rattle.rule_questions.proofs.EmptyProblems.{few-unknowns}
-use Rattle.rule_questions.proofs.NewValues.{news-small}
+use Rattle.rule_questions.proofs.NewValues.{new_values-small}
 use Rattle.poly_terms.specs.linear_forms.RuleQuestions.{constant_form}
 use Rattle.location_facts.specs.declared.fact.LocFact.{LocFact}
 use Rattle.location_facts.specs.declared.elements.Element.{Element}
 use Rattle.location_facts.specs.declared.implied.Answered.TheVariants.{Against}
-use Rattle.location_facts.specs.declared.implied.Under.{Under}
+use Rattle.location_facts.specs.declared.implied.RuleUnderFacts.{RuleUnderFacts}
 use Rattle.location_facts.specs.Elements.{IsMeasured, IsElement, AreElements}
 use Rattle.location_facts.specs.Implied.{TellsGoal}
 use Rattle.location_facts.specs.Kept.{IsImplied, IsImpliedByAll}
@@ -42,7 +42,7 @@ use Rattle.location_facts.proofs.GoalProblems.{rows-fit}
 use Rattle.location_facts.proofs.RowForms.{after_none, after_found, after_missing}
 use Rattle.location_facts.proofs.RowValues.{margin-value}
 use Rattle.location_facts.proofs.ShownRules.{read, rule-count}
-use Rattle.location_facts.proofs.UnderRules.{forms-read, prep-read, rule-here}
+use Rattle.location_facts.proofs.UnderRules.{forms-read, prepared_rule-read, rule-here}
 use Rattle.location_facts.proofs.Writable.{goal-fits-after}
 
 -- what holds of all elements holds of those that are left where a symbol begins
@@ -51,10 +51,10 @@ begun-all P true es h = h
 begun-all P false es h = All-nil P
 
 -- the value at a place after a rule, by whether it is 0 or has a new value
-pub value_none : (v : ℤ) (news : List Form) (i : ℕ) (z : ℕ → ℤ) (d : ℤ) → i ≡ 0 → v ≡ pos 0
-    → v ≡ form_value (value_after news i) z d
-value_none v news i z d e h =
-    h ∙ (nothing d ∙ ap (λ (f : Form). form_value f z d) (after_none (constant_form (pos 0)) news i e refl))
+pub value_none : (v : ℤ) (new_values : List Form) (i : ℕ) (z : ℕ → ℤ) (d : ℤ) → i ≡ 0 → v ≡ pos 0
+    → v ≡ form_value (value_after new_values i) z d
+value_none v new_values i z d e h =
+    h ∙ (nothing d ∙ ap (λ (f : Form). form_value f z d) (after_none (constant_form (pos 0)) new_values i e refl))
   where
     nothing : (d : ℤ) → pos 0 ≡ pos 0 +ℤ pos 0 *ℤ d
     nothing d = omega (arith, ints)
@@ -91,8 +91,8 @@ new_numbers rows k r h e =
     }
 
 -- the new values of a rule have small numbers
-pub news_ready : (m : RuleRows) (rs : List Row) → IsPrepared m → rs ≡ m.news.items → All (λ r. IsSmall (form_of r)) rs
-news_ready m rs is e = subst (All (λ (r : Row). IsSmall (form_of r))) (sym e) (news-small m is)
+pub new_values_ready : (m : RuleRows) (rs : List Row) → IsPrepared m → rs ≡ m.new_values.items → All (λ r. IsSmall (form_of r)) rs
+new_values_ready m rs is e = subst (All (λ (r : Row). IsSmall (form_of r))) (sym e) (new_values-small m is)
 
 -- an element that is read has small numbers
 pub measured-at : (p : plain.Program) (es : List Element) (k : ℕ) (e : Element) → All (IsMeasured p) es → k < length es
@@ -105,12 +105,12 @@ pub element-at : (p : plain.Program) (pivots : ℕ) (kept : List LocFact) (es : 
 element-at p pivots kept es k e h l same = subst (IsElement p pivots kept) (sym same) (h k e l)
 
 -- the value of a fact after a rule is that at its plus less that at its minus, less its least
-pub fact-value : (news : List Form) (f : LocFact) (z : ℕ → ℤ) (d plus minus least : ℤ)
-    → plus ≡ form_value (value_after news f.plus) z d → minus ≡ form_value (value_after news f.minus) z d
-    → least ≡ d *ℤ f.least → form_value (row_after news f) z d ≡ (plus -ℤ minus) -ℤ least
-fact-value news f z d plus minus least e g h =
-    margin-value (value_after news f.plus) (value_after news f.minus) f.least z d
-    ∙ (ap (λ (x : ℤ). (x -ℤ form_value (value_after news f.minus) z d) -ℤ f.least *ℤ d) (sym e)
+pub fact-value : (new_values : List Form) (f : LocFact) (z : ℕ → ℤ) (d plus minus least : ℤ)
+    → plus ≡ form_value (value_after new_values f.plus) z d → minus ≡ form_value (value_after new_values f.minus) z d
+    → least ≡ d *ℤ f.least → form_value (row_after new_values f) z d ≡ (plus -ℤ minus) -ℤ least
+fact-value new_values f z d plus minus least e g h =
+    margin-value (value_after new_values f.plus) (value_after new_values f.minus) f.least z d
+    ∙ (ap (λ (x : ℤ). (x -ℤ form_value (value_after new_values f.minus) z d) -ℤ f.least *ℤ d) (sym e)
     ∙ (ap (λ (x : ℤ). (plus -ℤ x) -ℤ f.least *ℤ d) (sym g) ∙ ap (λ (x : ℤ). (plus -ℤ minus) -ℤ x) (mul_comm_ℤ f.least d ∙ sym h)))
 
 -- the rule of the code with a number is the program's
@@ -123,41 +123,41 @@ rule-numbered p (suc i) r (l, h) e =
     (e ∙ ap (λ (k : ℕ). get_or p.rules.items k r) less))
 
 -- where a fact is below 0 after a rule into its symbol, at an element of the rule, the rule doesn't imply it
-pub refuted : (p : plain.Program) (preps : List RuleRows) (e : Element) (m : RuleRows) (f : LocFact) (r : plain.Rule)
-    → IsValid p → AreRowsOf preps p → (1 ≤ e.rule) × (e.rule ≤ length p.rules) → m ≡ get_or preps (e.rule - 1) m
+pub refuted : (p : plain.Program) (prepared_rules : List RuleRows) (e : Element) (m : RuleRows) (f : LocFact) (r : plain.Rule)
+    → IsValid p → AreRowsOf prepared_rules p → (1 ≤ e.rule) × (e.rule ≤ length p.rules) → m ≡ get_or prepared_rules (e.rule - 1) m
     → plain.rule_at p e.rule ≡ Some r → r.target ≡ f.symbol
-    → form_value (row_after (map form_of m.news.items) f) (numerators_of e.at) (pos e.at.den) <ℤ pos 0
+    → form_value (row_after (map form_of m.new_values.items) f) (numerators_of e.at) (pos e.at.den) <ℤ pos 0
     → (pivots : ℕ) (kept : List LocFact) → IsElement p pivots kept e → ¬ IsImpliedByAll p pivots kept f
-refuted p preps e m f r valid rows within at-m there same below pivots kept is all =
+refuted p prepared_rules e m f r valid rows within at-m there same below pivots kept is all =
     go (all.each e.rule r there same)
   where
-    forms : (m.unknowns ≡ (forms_at p e.rule).unknowns) × (map form_of m.news.items ≡ (forms_at p e.rule).news)
-    forms = forms-read p preps e.rule m rows within at-m
+    forms : (m.unknowns ≡ (forms_at p e.rule).unknowns) × (map form_of m.new_values.items ≡ (forms_at p e.rule).new_values)
+    forms = forms-read p prepared_rules e.rule m rows within at-m
 
-    fits : length (row_after (forms_at p e.rule).news f).coefs ≤ (forms_at p e.rule).unknowns
+    fits : length (row_after (forms_at p e.rule).new_values f).coefs ≤ (forms_at p e.rule).unknowns
     fits =
-        subst (λ (n : ℕ). length (row_after (forms_at p e.rule).news f).coefs ≤ n) forms.0
+        subst (λ (n : ℕ). length (row_after (forms_at p e.rule).new_values f).coefs ≤ n) forms.0
         (subst (λ (fs : List Form). length (row_after fs f).coefs ≤ m.unknowns) forms.1
-        (goal-fits-after m (prep-read p preps e.rule m valid rows within at-m) f))
+        (goal-fits-after m (prepared_rule-read p prepared_rules e.rule m valid rows within at-m) f))
 
     go : IsImplied pivots (forms_at p e.rule) kept f → ⊥
     go (inl s) = is.not_empty s
     go (inr s) =
         against-excludes (forms_at p e.rule).unknowns (combined (forms_at p e.rule) kept)
-        (row_after (forms_at p e.rule).news f) is.fit fits (numerators_of e.at) (pos e.at.den)
+        (row_after (forms_at p e.rule).new_values f) is.fit fits (numerators_of e.at) (pos e.at.den)
         (omega (arith, ints)) is.meets
         (subst (λ (fs : List Form). form_value (row_after fs f) (numerators_of e.at) (pos e.at.den) <ℤ pos 0) forms.1
         below) s.solution
 
--- what stands against a goal over the rows of a rule is found
-module _ (p : plain.Program) (preps : List RuleRows) (pivots t : ℕ) (m : RuleRows) (f : LocFact) (o : Option Under)
+-- a point or ray that refutes a goal over the rows of a rule is found
+module _ (p : plain.Program) (prepared_rules : List RuleRows) (pivots t : ℕ) (m : RuleRows) (f : LocFact) (o : Option RuleUnderFacts)
     (z : Scaled) (within : (1 ≤ t) × (t ≤ length p.rules))
-    (stands : StandsOf m.unknowns (row_after (map form_of m.news.items) f) o (Against z)) where
+    (stands : StandsOf m.unknowns (row_after (map form_of m.new_values.items) f) o (Against z)) where
   -- its numbers are within the limit
   pub element-measured : IsPrepared m → IsMeasured p (record { rule = t; at = z })
   element-measured is = go o stands
     where
-      go : (w : Option Under) → StandsOf m.unknowns (row_after (map form_of m.news.items) f) w (Against z)
+      go : (w : Option RuleUnderFacts) → StandsOf m.unknowns (row_after (map form_of m.new_values.items) f) w (Against z)
           → IsMeasured p (record { rule = t; at = z })
       go None never = absurd never
       go (Some u) h = record {
@@ -169,11 +169,11 @@ module _ (p : plain.Program) (preps : List RuleRows) (pivots t : ℕ) (m : RuleR
 
   -- it is an element of the rule, where this one doesn't imply the fact
   pub element-found : (due : Option Bool) (kept : List LocFact) → IsUnderIfDue pivots (forms_at p t) due kept o
-      → TellsGoal pivots (forms_at p t).unknowns (combined (forms_at p t) kept) (row_after (forms_at p t).news f) None
+      → TellsGoal pivots (forms_at p t).unknowns (combined (forms_at p t) kept) (row_after (forms_at p t).new_values f) None
       → IsElement p pivots kept (record { rule = t; at = z })
   element-found due kept is not = go o stands is
     where
-      go : (w : Option Under) → StandsOf m.unknowns (row_after (map form_of m.news.items) f) w (Against z)
+      go : (w : Option RuleUnderFacts) → StandsOf m.unknowns (row_after (map form_of m.new_values.items) f) w (Against z)
           → IsUnderIfDue pivots (forms_at p t) due kept w → IsElement p pivots kept (record { rule = t; at = z })
       go None never l = absurd never
       go (Some u) h l = record {

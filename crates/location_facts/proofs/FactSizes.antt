@@ -11,7 +11,7 @@ use Rattle.std.proofs.lemmas.List.Elements.{All-head, All-tail, All-get_or, All-
 use Rattle.poly_terms.specs.linear_forms.Forms.{Form, at}
 use Rattle.poly_terms.specs.linear_forms.RuleQuestions.{opposite}
 use Rattle.poly_terms.proofs.linear_forms.CombinationLaws.{at-sum, at-times}
-use Rattle.proof_tree.proofs.rule_forms.Forms.{at-itself, at-other}
+use Rattle.cert_types.proofs.rule_forms.Forms.{at-itself, at-other}
 use Rattle.farkas_cert.specs.Sizes.{column_size, row_limit, HasRowNumbers, AreSmall}
 use Rattle.location_facts.specs.declared.fact.LocFact.{LocFact}
 use Rattle.location_facts.specs.Rows.{value_before, row_before, facts_at}

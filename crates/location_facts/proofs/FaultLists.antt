@@ -18,7 +18,7 @@ use Rattle.location_facts.specs.Candidates.{last_place}
 abbrev leads_to : plain.Program → ℕ → ℕ → Bool
 leads_to p s t = same_symbol (target_of p t) (Some s)
 
--- a rule that leads to the symbol stands behind those so far
+-- a rule that leads to the symbol is appended to those so far
 pub into_pushed : (p : plain.Program) (s n m : ℕ) (old new : List ℕ) → old ≡ filter (leads_to p s) (range_with_len 1 n)
     → m ≡ n + 1 → leads_to p s m ≡ true → new ≡ old ++ m ∷ [] → new ≡ filter (leads_to p s) (range_with_len 1 (n + 1))
 into_pushed p s n m old new e g h k =

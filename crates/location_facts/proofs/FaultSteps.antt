@@ -1,4 +1,4 @@
--- What is told of facts and their proofs, one position after the other.
+-- Faults of facts and their proofs, one position after the other.
 use Rattle.std.proofs.Common.{◌≡◌, ◌⊎◌, inl, inr, ℕ, suc, ◌+◌, ◌<◌, ◌≤◌, ap, arith, refl, sym, ◌∙◌, subst, List}
 use Rattle.std.proofs.Common.{length, get_or, Option, Some, None, option_map}
 use Rattle.std.specs.Prelude.{slice_get, Vec, MatchOption}
@@ -29,7 +29,7 @@ stands-at f i fact proofs e g = record {
       ∙ ap (λ (o : Option (Vec FactProof Global)). option_map (λ (v : Vec FactProof Global). v.items) o) g;
 }
 
--- what stands at a position is one fact with its proofs
+-- a position has one fact with its proofs
 pub fact-same : (kept : List LocFact) (proofs : List (List FactProof)) (i : ℕ) (f g : LocFact) (ps qs : List FactProof)
     → StandsAt kept proofs i f ps → StandsAt kept proofs i g qs → (f ≡ g) × (ps ≡ qs)
 fact-same kept proofs i f g ps qs h k =
@@ -108,12 +108,12 @@ pub uneven-fault : (p : Program) (f : LocFacts) (x : FactFault) → (length f.pr
 uneven-fault p f x n e g =
     inl (record { uneven = λ h. n (sym (proofs-many f) ∙ h); fact = e; rule = g })
 
--- what is told of proofs, where all facts and shapes are right, is the first fault, or that nothing is wrong
-pub fault-told : (p : Program) (f : LocFacts) (o : Option FactFault) → length f.proofs.items ≡ length f.kept.items
+-- the answer on proofs, where all facts and shapes are right, is the first fault, or that there is none
+pub fault-sound : (p : Program) (f : LocFacts) (o : Option FactFault) → length f.proofs.items ≡ length f.kept.items
     → AreRight p f.kept.items (proofs_of f) (length f.kept.items) → TellsFault p f.kept.items (proofs_of f) o
     → MatchOption o (AreProved p f.kept.items (proofs_of f)) (IsFirstFault p f.kept.items (proofs_of f))
-fault-told p f None e right shown = record { one_each = proofs-many f ∙ e; right = right; shown = shown }
-fault-told p f (Some x) e right h = inr (inr h)
+fault-sound p f None e right shown = record { one_each = proofs-many f ∙ e; right = right; shown = shown }
+fault-sound p f (Some x) e right h = inr (inr h)
 
 -- the first wrong fact is the first fault
 pub wrong-fault : (p : Program) (kept : List LocFact) (proofs : List (List FactProof)) (n : ℕ)
@@ -121,12 +121,12 @@ pub wrong-fault : (p : Program) (kept : List LocFact) (proofs : List (List FactP
 wrong-fault p kept proofs n h = inr (inl h)
 
 -- a wrong fact behind right ones is the first
-pub wrong-told : (p : Program) (f : LocFacts) (i n : ℕ) (fact : LocFact) (proofs : Vec FactProof Global)
+pub wrong-sound : (p : Program) (f : LocFacts) (i n : ℕ) (fact : LocFact) (proofs : Vec FactProof Global)
     → length f.proofs.items ≡ length f.kept.items → slice_get f.kept.items i ≡ Some fact
     → slice_get f.proofs.items i ≡ Some proofs → AreRight p f.kept.items (proofs_of f) i
     → (IsRight p (least_number f.kept.items i) fact proofs.items → ⊥) → n ≡ i + 1
     → TellsWrong p f.kept.items (proofs_of f) (Some n)
-wrong-told p f i n fact proofs e g h before wrong k = record {
+wrong-sound p f i n fact proofs e g h before wrong k = record {
   one_each = proofs-many f ∙ e;
   position = i;
   wrong = fact;
@@ -139,12 +139,12 @@ wrong-told p f i n fact proofs e g h before wrong k = record {
 }
 
 -- an unshown fact behind shown ones is the first
-pub unshown-told : (p : Program) (f : LocFacts) (i t : ℕ) (x : FactFault) (fact : LocFact) (proofs : Vec FactProof Global)
+pub unshown-sound : (p : Program) (f : LocFacts) (i t : ℕ) (x : FactFault) (fact : LocFact) (proofs : Vec FactProof Global)
     → length f.proofs.items ≡ length f.kept.items → AreRight p f.kept.items (proofs_of f) (length f.kept.items)
     → slice_get f.kept.items i ≡ Some fact → slice_get f.proofs.items i ≡ Some proofs
     → AreShown p f.kept.items (proofs_of f) i → IsUnshownBy p f.kept.items fact proofs.items t
     → x.fact ≡ i + 1 → x.rule ≡ t → TellsFault p f.kept.items (proofs_of f) (Some x)
-unshown-told p f i t x fact proofs e right g h before by k l = record {
+unshown-sound p f i t x fact proofs e right g h before by k l = record {
   one_each = proofs-many f ∙ e;
   right = right;
   position = i;
@@ -221,6 +221,6 @@ pub unshown-next : (p : Program) (f : LocFacts) (i t : ℕ) (x : FactFault) (fac
     → IsUnshownBy p f.kept.items fact ps t → x.fact ≡ i + 1 → x.rule ≡ t
     → TellsFault p f.kept.items (proofs_of f) (Some x)
 unshown-next p f i t x fact v ps l one_each e g h right before by k m =
-    unshown-told p f i t x fact v one_each right (read f.kept.items i fact l e)
+    unshown-sound p f i t x fact v one_each right (read f.kept.items i fact l e)
     (read f.proofs.items i v (omega (arith, l, one_each)) g) before
     (subst (λ (qs : List FactProof). IsUnshownBy p f.kept.items fact qs t) h by) k m

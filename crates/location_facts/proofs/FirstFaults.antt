@@ -33,7 +33,7 @@ module _ (p : Program) (kept : List LocFact) where
       (subst (λ (x : LocFact). IsProofFor p x qs k t proof) e
       (subst (λ (xs : List FactProof). IsProofFor p f xs k t proof) h for))))
 
-  -- the rule of a proof is told by its position
+  -- the rule of a proof is determined by its position
   rule-same : (f g : LocFact) (ps qs : List FactProof) (k m t u : ℕ) (a b : FactProof) → f ≡ g → k ≡ m
       → IsProofFor p f ps k t a → IsProofFor p g qs m u b → t ≡ u
   rule-same f g ps qs k m t u a b e h for other =
@@ -43,7 +43,7 @@ module _ (p : Program) (kept : List LocFact) where
       ∙ (ap (λ (n : ℕ). slice_get (rules_into p g.symbol) n) h ∙ other.rule)))
 
   module _ (proofs : List (List FactProof)) where
-    -- a fact that stands at a position is one of the list
+    -- a fact at a position is one of the list
     inside : (i : ℕ) (f : LocFact) (ps : List FactProof) → StandsAt kept proofs i f ps → i < length kept
     inside i f ps stands = slice_get_within kept i f stands.fact
 

@@ -107,7 +107,7 @@ module _ (n : ℕ) (rows : List Form) (goal : Form) (rows-fit : All (λ r. lengt
       nonneg : pos 0 ≤ℤ at numbers n
       nonneg = refuted.elements.0.0
 
-      -- the numbers stand against the goal
+      -- the numbers refute the goal
       pub dual-against : (parts : List ℤ) (d : ℕ) → parts ≡ listed n (λ u. at numbers (0 + u))
           → d ≡ nat_abs (at numbers (0 + n)) → IsAgainst n rows goal parts d
       dual-against parts d e f = record {

@@ -8,12 +8,12 @@ use Rattle.poly_terms.specs.linear_forms.Forms.{Form, at}
 use Rattle.poly_terms.specs.linear_forms.ProgramLaws.{Agree}
 use Rattle.poly_terms.specs.linear_forms.Limits.{certificate_limit}
 use Rattle.poly_terms.specs.linear_forms.Questions.{listed, program_of_question}
-use Rattle.poly_terms.specs.linear_forms.declared.trip_cause.TripCause.{TripCause}
+use Rattle.poly_terms.specs.linear_forms.declared.limit_cause.LimitCause.{LimitCause}
 use Rattle.poly_terms.specs.declared.poly.Row.{Row}
 use Rattle.poly_terms.specs.Views.{form_of}
 use Rattle.farkas_cert.specs.declared.scaled.Scaled.{Scaled}
 use Rattle.lp_builder.specs.simplex_core.declared.answers.Answer.{Answer}
-use Rattle.lp_builder.specs.simplex_core.declared.answers.Answer.TheVariants.{Solution, Dual, Tripped}
+use Rattle.lp_builder.specs.simplex_core.declared.answers.Answer.TheVariants.{Solution, Dual, OutOfLimits}
 use Rattle.lp_builder.specs.simplex_core.declared.problem.Problem.{Problem}
 use Rattle.lp_builder.specs.simplex_core.declared.scaling.Numerators.{Numerators}
 use Rattle.lp_builder.specs.simplex_core.Problem.{program_of}
@@ -101,7 +101,7 @@ module _ (n : ℕ) (rows : List Row) (goal : Row) (writable : All (λ r. IsWrita
       s.numbers.items s.den (moved (Dual s) h) in
       omega (arith, l, ap (λ (xs : List ℤ). length xs) e)
 
-  -- a point or a ray stands against the goal
+  -- a point or a ray refutes the goal
   pub goal-fails : (s : Numerators) (ns : List ℤ) (z : Scaled) → IsWholeAnswer (program_of problem) pivots (Dual s)
       → ns ≡ s.numbers.items → z.parts.items ≡ listed n (λ u. at ns (0 + u)) → z.den ≡ nat_abs (at ns (0 + n))
       → (¬ IsSolvedWithin pivots (goal_program n (map form_of rows) (form_of goal)))
@@ -114,7 +114,7 @@ module _ (n : ℕ) (rows : List Row) (goal : Row) (writable : All (λ r. IsWrita
   )
 
   -- a trip solves nothing
-  pub goal-trips : (c : TripCause) → IsWholeAnswer (program_of problem) pivots (Tripped c)
+  pub goal-trips : (c : LimitCause) → IsWholeAnswer (program_of problem) pivots (OutOfLimits c)
       → ¬ IsSolvedWithin pivots (goal_program n (map form_of rows) (form_of goal))
   goal-trips c h =
-      (solved-by (goal_program n (map form_of rows) (form_of goal)) pivots (Tripped c) (moved (Tripped c) h)).1
+      (solved-by (goal_program n (map form_of rows) (form_of goal)) pivots (OutOfLimits c) (moved (OutOfLimits c) h)).1

@@ -1,4 +1,4 @@
--- What is told of goals by what is asked.
+-- What the answers of linear programs say of goals.
 use Rattle.std.proofs.Common.{◌≡◌, inl, inr, ℕ, ◌<◌, ◌≤◌, ◌^◌, arith, sym, subst, List}
 use Rattle.std.specs.Prelude.{ℤ, pos, negsuc, ◌*ℤ◌, ◌≤ℤ◌, unsigned_abs, Vec, None, Some}
 use Rattle.std.specs.declared.alloc.Global.{Global}
@@ -37,9 +37,9 @@ minus-one-follows rows ms times l h = record {
 
 module _ (pivots n : ℕ) (rows : List Form) (goal : Form) where
   -- rows have no point where -1 follows
-  pub empty-told : (v : Vec ℕ Global) (times : ℕ) → goal ≡ minus_one
+  pub empty-worked : (v : Vec ℕ Global) (times : ℕ) → goal ≡ minus_one
       → IsReply pivots n rows goal (replies.Follows v times) → TellsEmpty pivots n rows (Some v)
-  empty-told v times e (solved, follows) = (
+  empty-worked v times e (solved, follows) = (
     subst (λ (g : Form). IsSolvedWithin pivots (goal_program n rows g)) e solved,
     follows.within,
     minus-one-follows rows v.items times follows.least
@@ -47,14 +47,14 @@ module _ (pivots n : ℕ) (rows : List Form) (goal : Form) where
   )
 
   -- where it doesn't, nothing says so
-  pub nothing-told : goal ≡ minus_one → ¬ IsSolvedWithin pivots (goal_program n rows goal)
+  pub nothing-sound : goal ≡ minus_one → ¬ IsSolvedWithin pivots (goal_program n rows goal)
       → TellsEmpty pivots n rows None
-  nothing-told e h = subst (λ (g : Form). ¬ IsSolvedWithin pivots (goal_program n rows g)) e h
+  nothing-sound e h = subst (λ (g : Form). ¬ IsSolvedWithin pivots (goal_program n rows g)) e h
 
   -- a goal that follows is implied
-  pub goal-told : (v : Vec ℕ Global) (times : ℕ) → IsReply pivots n rows goal (replies.Follows v times)
+  pub goal-sound : (v : Vec ℕ Global) (times : ℕ) → IsReply pivots n rows goal (replies.Follows v times)
       → TellsGoal pivots n rows goal (Some (proofs.Implied v times))
-  goal-told v times (solved, follows) =
+  goal-sound v times (solved, follows) =
       (inr solved, (follows.within, follows.least, follows.most), follows.shows)
 
   -- one that doesn't follow from rows of which nothing says that they have no point isn't

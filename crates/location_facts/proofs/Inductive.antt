@@ -16,10 +16,10 @@ use Rattle.poly_terms.specs.model.Programs.{Program, arity_of}
 use Rattle.poly_terms.specs.model.Runs.{Config, Step, IsStep, IsRun, Begins, place_value}
 use Rattle.poly_terms.proofs.model.StepLaws.{values}
 use Rattle.its_model.specs.Valid.{IsValid}
-use Rattle.proof_tree.specs.guard_prep.Laws.{IsPointOfStep, point_of}
-use Rattle.proof_tree.specs.guard_prep.Prepared.{rows_of, news_of}
-use Rattle.proof_tree.proofs.guard_prep.StepLaws.{steps-are-points}
-use Rattle.proof_tree.proofs.guard_prep.its_model.ValidLaws.{arities_agree}
+use Rattle.cert_types.specs.guard_prep.Laws.{IsPointOfStep, point_of}
+use Rattle.cert_types.specs.guard_prep.Prepared.{rows_of, new_values_of}
+use Rattle.cert_types.proofs.guard_prep.StepLaws.{steps-are-points}
+use Rattle.cert_types.proofs.guard_prep.its_model.ValidLaws.{arities_agree}
 use Rattle.poly_terms.specs.linear_forms.RuleQuestions.{RuleForms}
 use Rattle.rule_questions.specs.ProgramQuestions.{forms_in}
 use Rattle.location_facts.specs.declared.fact.LocFact.{LocFact}
@@ -50,17 +50,17 @@ met-row f c z h l m same met =
     (met same)
 
 -- a goal that is at least 0 is a fact that is met
-goal-met : (f : LocFact) (news : List Form) (c : Config) (z : ℕ → ℤ)
-    → map (λ g. form_value g z (pos 1)) news ≡ c.values
+goal-met : (f : LocFact) (new_values : List Form) (c : Config) (z : ℕ → ℤ)
+    → map (λ g. form_value g z (pos 1)) new_values ≡ c.values
     → f.plus ≤ length c.values → f.minus ≤ length c.values
-    → pos 0 ≤ℤ form_value (row_after news f) z (pos 1)
+    → pos 0 ≤ℤ form_value (row_after new_values f) z (pos 1)
     → f.least ≤ℤ (place_value c f.plus -ℤ place_value c f.minus)
-goal-met f news c z e l m above =
-    below (place_value c f.plus -ℤ place_value c f.minus) f.least (form_value (row_after news f) z (pos 1))
-    (margin-value (value_after news f.plus) (value_after news f.minus) f.least z (pos 1)
-    ∙ (ap (λ (x : ℤ). (x -ℤ form_value (value_after news f.minus) z (pos 1)) -ℤ f.least *ℤ pos 1)
-    (after-value news c z f.plus e l)
-    ∙ ap (λ (x : ℤ). (place_value c f.plus -ℤ x) -ℤ f.least *ℤ pos 1) (after-value news c z f.minus e m)))
+goal-met f new_values c z e l m above =
+    below (place_value c f.plus -ℤ place_value c f.minus) f.least (form_value (row_after new_values f) z (pos 1))
+    (margin-value (value_after new_values f.plus) (value_after new_values f.minus) f.least z (pos 1)
+    ∙ (ap (λ (x : ℤ). (x -ℤ form_value (value_after new_values f.minus) z (pos 1)) -ℤ f.least *ℤ pos 1)
+    (after-value new_values c z f.plus e l)
+    ∙ ap (λ (x : ℤ). (place_value c f.plus -ℤ x) -ℤ f.least *ℤ pos 1) (after-value new_values c z f.minus e m)))
     above
 
 -- the rows of the facts of a symbol, of all of which something is known
@@ -96,11 +96,11 @@ module _ (p : Program) (valid : IsValid p) (kept : List LocFact) (known : AreInd
       → length b.values ≡ arity_of p b.at → length c.values ≡ arity_of p c.at
       → ((f : LocFact) → Contains kept f → IsMetAt f b) → (f : LocFact) → Contains kept f → IsMetAt f c
   step-met b c s step long long-after met f member here =
-      goal-met f (news_of step.rule) c z point.news (reach f.plus (known.plus f member))
+      goal-met f (new_values_of step.rule) c z point.new_values (reach f.plus (known.plus f member))
       (reach f.minus (known.minus f member))
       (shown-goal (combined (forms_in (Some step.rule)) kept)
-      (row_after (news_of step.rule) f) by.proof z by.within
-      (subst (λ (r : RuleForms). Shows (combined r kept) (row_after r.news f) by.proof)
+      (row_after (new_values_of step.rule) f) by.proof z by.within
+      (subst (λ (r : RuleForms). Shows (combined r kept) (row_after r.new_values f) by.proof)
       (ap forms_in step.numbered) by.shows)
       (record {
         each = All-append (λ r. pos 0 ≤ℤ form_value r z (pos 1)) (rows_of step.rule)

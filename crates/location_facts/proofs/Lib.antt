@@ -10,7 +10,7 @@ pub mod Strengthened
 pub mod StrongValid
 pub mod StrongLaws
 pub mod AtomLists
--- the facts that are tried, and what answers tell of them
+-- the candidate facts, and what answers say of them
 pub mod CandidateList
 pub mod ProgramAnswers
 -- the first fault of facts and their proofs
@@ -24,7 +24,7 @@ pub mod ShownRules
 -- whether a goal follows from rows
 pub mod GoalAnswers
 pub mod GoalProblems
--- the facts that are tried as loops make them, and lists of facts round by round
+-- the candidate facts as loops make them, and lists of facts round by round
 pub mod CandidateLoops
 pub mod KeptLists
 -- facts that rules imply under a list
@@ -39,7 +39,7 @@ pub mod FirstFaults
 -- rules that are due, and tables by symbol
 pub mod DueRules
 pub mod SymbolTables
--- points and rays that stand against facts, and points that are kept
+-- points and rays that refute facts, and points that are kept
 pub mod ElementRules
 pub mod PointRules
 -- values that were worked out by hand
@@ -47,3 +47,4 @@ pub mod WorkedFacts
 pub mod WorkedFaults
 pub mod WorkedKept
 pub mod WorkedPivots
+pub mod WorkedSomeKept

@@ -31,10 +31,10 @@ module _ (p : Program) (pivots : ℕ) (kept : List LocFact) (n : ℕ) (d : LocFa
       subst (λ (fs : List LocFact). HasThose (IsImpliedByAll p pivots kept) fs new) (sym one-more)
       (subst (HasThose (IsImpliedByAll p pivots kept) (take n kept ++ get_or kept n d ∷ [])) (sym same)
       (those-passed (IsImpliedByAll p pivots kept) (take n kept) found (get_or kept n d) h not))
-  next-pushed (Some v) found new lists new_lists h told (same, same_lists) =
+  next-pushed (Some v) found new lists new_lists h verdict (same, same_lists) =
       subst (λ (fs : List LocFact). HasThose (IsImpliedByAll p pivots kept) fs new) (sym one-more)
       (subst (HasThose (IsImpliedByAll p pivots kept) (take n kept ++ get_or kept n d ∷ [])) (sym same)
-      (those-kept (IsImpliedByAll p pivots kept) (take n kept) found (get_or kept n d) h told.0))
+      (those-kept (IsImpliedByAll p pivots kept) (take n kept) found (get_or kept n d) h verdict.0))
 
   -- and their proofs
   pub shown-pushed : (o : Option (Vec FactProof Global)) (found new : List LocFact)
@@ -44,14 +44,14 @@ module _ (p : Program) (pivots : ℕ) (kept : List LocFact) (n : ℕ) (d : LocFa
   shown-pushed None found new lists new_lists h not (same, same_lists) =
       subst (λ (fs : List LocFact). AreProofsUnder p kept fs (lists_of new_lists)) (sym same)
       (subst (λ (vs : List (Vec FactProof Global)). AreProofsUnder p kept found (lists_of vs)) (sym same_lists) h)
-  shown-pushed (Some v) found new lists new_lists h told (same, same_lists) =
+  shown-pushed (Some v) found new lists new_lists h verdict (same, same_lists) =
       subst (λ (fs : List LocFact). AreProofsUnder p kept fs (lists_of new_lists)) (sym same)
       (subst (λ (vs : List (Vec FactProof Global)). AreProofsUnder p kept (found ++ get_or kept n d ∷ []) (lists_of vs))
       (sym same_lists)
       (subst (AreProofsUnder p kept (found ++ get_or kept n d ∷ []))
       (sym (map-append (λ (w : Vec FactProof Global). w.items) lists (v ∷ [])))
       (proofs-pushed p kept found (lists_of lists) (get_or kept n d) v.items h
-      (record { one_each = told.1; numbers = told.2; shown = told.3 }))))
+      (record { one_each = verdict.1; numbers = verdict.2; shown = verdict.3 }))))
 
 -- the first list is in order
 pub first-ordered : (p : Program) (kept : List LocFact) → kept ≡ candidates p → AreInOrder p kept

@@ -1,4 +1,4 @@
--- Points that are kept: what they say of rows, and that they stand under fewer facts.
+-- Points that are kept: what they say of rows, and that they remain points under fewer facts.
 use Rattle.std.proofs.Common.{◌≡◌, ◌⊎◌, inl, inr, ℕ, zero, suc, ◌<◌, ◌≤◌, ap, arith, refl, sym, ◌∙◌, subst, List, [], ◌∷◌, ◌++◌}
 use Rattle.std.proofs.Common.{map, length, Bool, true, false, replicate, Some, None}
 use Rattle.std.specs.Prelude.{ℤ, pos, negsuc, ◌+ℤ◌, ◌*ℤ◌, ◌<ℤ◌, ◌≤ℤ◌, slice_get, slice_set, nat_eq}
@@ -14,9 +14,9 @@ use Rattle.farkas_cert.specs.Scales.{numerators_of}
 use Rattle.farkas_cert.specs.declared.scaled.Scaled.{Scaled}
 use Rattle.poly_terms.proofs.model.Cases.{some_same}
 use Rattle.simplex_core.proofs.Positions.{slice_get-set_other}
-use Rattle.proof_tree.specs.guard_prep.declared.rule_rows.RuleRows.{RuleRows}
-use Rattle.proof_tree.specs.guard_prep.Prepared.{Prepared, prepared}
-use Rattle.proof_tree.specs.guard_prep.Views.{prepared_of}
+use Rattle.cert_types.specs.guard_prep.declared.rule_rows.RuleRows.{RuleRows}
+use Rattle.cert_types.specs.guard_prep.Prepared.{Prepared, prepared}
+use Rattle.cert_types.specs.guard_prep.Views.{prepared_of}
 use Rattle.rule_questions.specs.ProgramQuestions.{forms_in}
 use Rattle.location_facts.specs.declared.fact.LocFact.{LocFact}
 use Rattle.location_facts.specs.Implied.{TellsEmpty}
@@ -41,7 +41,7 @@ point-excludes pivots n rows fit h s =
     against-excludes n rows minus_one fit (let l : 0 ≤ n = omega arith in l) h.at h.den (let l = h.is.denominator in omega (arith, ints, l))
     h.is.meets (below-there h.den h.is.denominator) s.solution
 
--- what stands against -1 is a point
+-- a point that refutes -1 is a point of the rows
 pub point-shown : (n : ℕ) (rows : List Form) (goal : Form) (z : Scaled) → goal ≡ minus_one → IsAgainst n rows goal z.parts.items z.den → HasPoint rows
 point-shown n rows goal z e h = record {
   at = numerators_of z;
@@ -61,7 +61,7 @@ all-those P Keeps (g ∷ facts) those (inl (keeps, (rest, e, h))) all =
     (all-those P Keeps facts rest h (All-tail P (row_before g) (map row_before facts) all)))
 all-those P Keeps (g ∷ facts) those (inr (drops, h)) all = all-those P Keeps facts those h (All-tail P (row_before g) (map row_before facts) all)
 
--- so it is behind rows of another kind
+-- the same behind rows of another kind
 all-behind : (P : Form → Type 0) (own xs ys : List Form) → (All P xs → All P ys) → All P (own ++ xs) → All P (own ++ ys)
 all-behind P [] xs ys f all = f all
 all-behind P (r ∷ own) xs ys f all =
@@ -83,7 +83,7 @@ point-stays Keeps own s old new those h = record {
   };
 }
 
--- so the marks of rules with a point stand under the next list
+-- so the marks of rules with a point remain right under the next list
 pub pointed-next : (p : plain.Program) (pivots : ℕ) (old new : List LocFact) (marks : List Bool) → IsNext p pivots old new → ArePointed p old marks → ArePointed p new marks
 pointed-next p pivots old new marks next are = record {
   each = λ i r marked there.

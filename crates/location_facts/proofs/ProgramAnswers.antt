@@ -1,4 +1,4 @@
--- What answers of linear programs tell of facts that are implied.
+-- What answers of linear programs say of facts that are implied.
 use Rattle.std.proofs.Common.{◌⊎◌, inl, inr, ℕ, List}
 use Rattle.std.specs.Prelude.{pos, ◌↔◌}
 use Rattle.poly_terms.specs.linear_forms.Certificates.{minus_one}
@@ -7,7 +7,7 @@ use Rattle.poly_terms.specs.linear_forms.Forms.{at}
 use Rattle.poly_terms.specs.linear_forms.LinearProgram.{LinearProgram}
 use Rattle.poly_terms.specs.linear_forms.RuleQuestions.{RuleForms}
 use Rattle.lp_builder.specs.simplex_core.declared.answers.Answer.{Answer}
-use Rattle.lp_builder.specs.simplex_core.declared.answers.Answer.TheVariants.{Solution, Dual, Tripped}
+use Rattle.lp_builder.specs.simplex_core.declared.answers.Answer.TheVariants.{Solution, Dual, OutOfLimits}
 use Rattle.lp_builder.specs.simplex_core.Trips.{IsWholeAnswer}
 use Rattle.lp_builder.proofs.simplex_core.Certificates.{dual-excludes}
 use Rattle.rule_questions.proofs.Trips.{solution-untripped}
@@ -27,20 +27,20 @@ solved-by q pivots (Solution s) h = (
   λ _. tt,
 )
 solved-by q pivots (Dual s) h = (λ no. absurd no, λ k. dual-excludes q (at s.numbers.items) h.certified k.solution)
-solved-by q pivots (Tripped c) h = (λ no. absurd no, λ k. k.untripped.each (cause_of c) h)
+solved-by q pivots (OutOfLimits c) h = (λ no. absurd no, λ k. k.untripped.each (cause_of c) h)
 
--- so it is with the two programs of a rule and a fact
+-- the same for the two linear programs of a rule and a fact
 implied-by : (pivots : ℕ) (r : RuleForms) (kept : List LocFact) (f : LocFact) (a b : Answer)
     → IsWholeAnswer (goal_program r.unknowns (combined r kept) minus_one) pivots a
-    → IsWholeAnswer (goal_program r.unknowns (combined r kept) (row_after r.news f)) pivots b
+    → IsWholeAnswer (goal_program r.unknowns (combined r kept) (row_after r.new_values f)) pivots b
     → (SaysSolution a ⊎ SaysSolution b) ↔ IsImplied pivots r kept f
 implied-by pivots r kept f a b g h = (there, back)
   where
     first : SaysSolution a ↔ IsSolvedWithin pivots (goal_program r.unknowns (combined r kept) minus_one)
     first = solved-by (goal_program r.unknowns (combined r kept) minus_one) pivots a g
 
-    second : SaysSolution b ↔ IsSolvedWithin pivots (goal_program r.unknowns (combined r kept) (row_after r.news f))
-    second = solved-by (goal_program r.unknowns (combined r kept) (row_after r.news f)) pivots b h
+    second : SaysSolution b ↔ IsSolvedWithin pivots (goal_program r.unknowns (combined r kept) (row_after r.new_values f))
+    second = solved-by (goal_program r.unknowns (combined r kept) (row_after r.new_values f)) pivots b h
 
     there : SaysSolution a ⊎ SaysSolution b → IsImplied pivots r kept f
     there (inl s) = inl (first.0 s)
@@ -50,6 +50,6 @@ implied-by pivots r kept f a b g h = (there, back)
     back (inl s) = inl (first.1 s)
     back (inr s) = inr (second.1 s)
 
--- what answers the two linear programs of a rule and a fact tells whether the rule implies the fact
+-- the answers of the two linear programs of a rule and a fact decide whether the rule implies the fact
 pub answers-tell-implied : AnswersTellImplied
 answers-tell-implied = record { solved = solved-by; implied = implied-by }

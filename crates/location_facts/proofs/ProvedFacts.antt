@@ -1,4 +1,4 @@
--- Facts with proofs of which nothing is wrong hold by induction, and so on every run.
+-- Facts with proofs without faults hold by induction, and so on every run.
 use Rattle.std.proofs.Common.{◌≡◌, ℕ, zero, suc, ◌<◌, ◌≤◌, ap, arith, refl, sym, ◌∙◌, subst, List, length}
 use Rattle.std.proofs.Common.{Some, true, min, get_or}
 use Rattle.std.specs.List.{All, Contains, range_with_len}

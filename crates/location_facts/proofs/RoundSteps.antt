@@ -45,7 +45,7 @@ ascend-lower : (p : Program) (j k : ℕ) (facts : List LocFact) → j ≤ k → 
 ascend-lower p j k [] l h = tt
 ascend-lower p j k (f ∷ facts) l (c, m, h) = (c, omega (arith, l, m), h)
 
--- so are those of them that meet a condition
+-- the same for those of them that meet a condition
 pub those-ascend : (Keeps : LocFact → Type 0) (p : Program) (k : ℕ) (facts those : List LocFact)
     → HasThose Keeps facts those → Ascend p k facts → Ascend p k those
 those-ascend Keeps p k [] those h b = subst (Ascend p k) (sym h) tt
@@ -165,10 +165,10 @@ implied-all p pivots kept f proofs h = record { each = λ t r e same. go t (into
     go : (t : ℕ) → Contains (rules_into p f.symbol) t → IsImplied pivots (forms_at p t) kept f
     go t (k, low, is) = h.implied k t low (slice_get_read (rules_into p f.symbol) _ k t refl low (sym is))
 
--- two symbols that are told to be the same
-same_told : (o : Option ℕ) (a : ℕ) → same_symbol o (Some a) ≡ true → o ≡ Some a
-same_told None a h = absurd (let none : ⊥ = cc in none)
-same_told (Some b) a h = ap Some (eqb-true b a h)
+-- two symbols for which the test of equality succeeds
+same_symbol-sound : (o : Option ℕ) (a : ℕ) → same_symbol o (Some a) ≡ true → o ≡ Some a
+same_symbol-sound None a h = absurd (let none : ⊥ = cc in none)
+same_symbol-sound (Some b) a h = ap Some (eqb-true b a h)
 
 -- a number of a rule into a symbol is that of a rule that leads there
 rule-there : (p : Program) (s t : ℕ) → (1 ≤ t) × (t ≤ length p.rules) → same_symbol (target_of p t) (Some s) ≡ true
@@ -176,7 +176,7 @@ rule-there : (p : Program) (s t : ℕ) → (1 ≤ t) × (t ≤ length p.rules) �
 rule-there p s zero (l, h) e = absurd (omega (arith, l))
 rule-there p s (suc i) (l, h) e =
     let (r, there) = slice_get-there p.rules i (omega (arith, h)) in
-    (r, there, some_same r.target s (sym (target_of-rule p (suc i) r there) ∙ same_told (target_of p (suc i)) s e))
+    (r, there, some_same r.target s (sym (target_of-rule p (suc i) r there) ∙ same_symbol-sound (target_of p (suc i)) s e))
 
 -- where every rule implies it, each of those into its symbol does
 pub implied-at : (p : Program) (pivots : ℕ) (kept : List LocFact) (f : LocFact) (k t : ℕ)

@@ -36,8 +36,8 @@ pub unknown_small : (f : Form) (u : ℕ) → f ≡ unknown_form u → IsSmall f
 unknown_small f u h = subst IsSmall (sym h) (unknown-small u)
 
 -- the value at a place after a rule, by whether it is 0 or has a new value
-pub after_none : (f : Form) (news : List Form) (i : ℕ) → i ≡ 0 → f ≡ constant_form (pos 0) → f ≡ value_after news i
-after_none f news i e h = h ∙ ap (value_after news) (sym e)
+pub after_none : (f : Form) (new_values : List Form) (i : ℕ) → i ≡ 0 → f ≡ constant_form (pos 0) → f ≡ value_after new_values i
+after_none f new_values i e h = h ∙ ap (value_after new_values) (sym e)
 
 pub after_found : (f : Form) (rows : List Row) (i : ℕ) (r : Row) → (i ≡ 0 → ⊥) → slice_get rows (i - 1) ≡ Some r
     → f ≡ form_of r → f ≡ value_after (map form_of rows) i
@@ -94,8 +94,8 @@ row_before_made f r plus minus h e g =
     h
     ∙ (ap (λ (x : Form). margin x minus f.least) e ∙ ap (λ (x : Form). margin (value_before f.plus) x f.least) g)
 
-pub row_after_made : (news : List Form) (f : LocFact) (r plus minus : Form) → r ≡ margin plus minus f.least
-    → plus ≡ value_after news f.plus → minus ≡ value_after news f.minus → r ≡ row_after news f
-row_after_made news f r plus minus h e g =
+pub row_after_made : (new_values : List Form) (f : LocFact) (r plus minus : Form) → r ≡ margin plus minus f.least
+    → plus ≡ value_after new_values f.plus → minus ≡ value_after new_values f.minus → r ≡ row_after new_values f
+row_after_made new_values f r plus minus h e g =
     h
-    ∙ (ap (λ (x : Form). margin x minus f.least) e ∙ ap (λ (x : Form). margin (value_after news f.plus) x f.least) g)
+    ∙ (ap (λ (x : Form). margin x minus f.least) e ∙ ap (λ (x : Form). margin (value_after new_values f.plus) x f.least) g)

@@ -11,7 +11,7 @@ use Rattle.poly_terms.proofs.linear_forms.ColumnLaws.{get_or-map}
 use Rattle.poly_terms.proofs.linear_forms.CombinationLaws.{form_value-sum, form_value-times}
 use Rattle.poly_terms.proofs.linear_forms.SolutionLaws.{length-map}
 use Rattle.poly_terms.specs.model.Runs.{Config, place_value}
-use Rattle.proof_tree.proofs.rule_forms.Rays.{unknown_form-value}
+use Rattle.cert_types.proofs.rule_forms.Rays.{unknown_form-value}
 use Rattle.location_facts.specs.Rows.{value_before, value_after, lowered, margin}
 
 -- the value of a form less a number
@@ -46,13 +46,13 @@ before-value c z d zero h l = zero-value d
 before-value c z d (suc i) h l = unknown_form-value i z d ∙ h i (omega (arith, l))
 
 -- at a point where the new values are those of a configuration, so is the value at a place after the rule
-pub after-value : (news : List Form) (c : Config) (z : ℕ → ℤ) (i : ℕ)
-    → map (λ f. form_value f z (pos 1)) news ≡ c.values → i ≤ length c.values
-    → form_value (value_after news i) z (pos 1) ≡ place_value c i
-after-value news c z zero e l = zero-value (pos 1)
-after-value news c z (suc i) e l =
-    sym (get_or-map (λ f. form_value f z (pos 1)) news i (pos 0) zero_form low) ∙ ap (λ (xs : List ℤ). at xs i) e
+pub after-value : (new_values : List Form) (c : Config) (z : ℕ → ℤ) (i : ℕ)
+    → map (λ f. form_value f z (pos 1)) new_values ≡ c.values → i ≤ length c.values
+    → form_value (value_after new_values i) z (pos 1) ≡ place_value c i
+after-value new_values c z zero e l = zero-value (pos 1)
+after-value new_values c z (suc i) e l =
+    sym (get_or-map (λ f. form_value f z (pos 1)) new_values i (pos 0) zero_form low) ∙ ap (λ (xs : List ℤ). at xs i) e
   where
-    low : i < length news
-    low = let m = length-map (λ (f : Form). form_value f z (pos 1)) news in
+    low : i < length new_values
+    low = let m = length-map (λ (f : Form). form_value f z (pos 1)) new_values in
         let n = ap (λ (xs : List ℤ). length xs) e in omega (arith, l, m, n)

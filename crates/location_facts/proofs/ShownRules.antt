@@ -19,12 +19,12 @@ use Rattle.its_model.specs.declared.program.Program.{Program}
 use Rattle.its_model.specs.Valid.{IsValid}
 use Rattle.its_model.specs.Views.{rule_of, program_of}
 use Rattle.farkas_cert.specs.Sizes.{AreSmall}
-use Rattle.proof_tree.specs.Composing.{AreRowsOf}
-use Rattle.proof_tree.specs.guard_prep.declared.rule_rows.RuleRows.{RuleRows}
-use Rattle.proof_tree.specs.guard_prep.Prepared.{Prepared}
+use Rattle.cert_types.specs.Composing.{AreRowsOf}
+use Rattle.cert_types.specs.guard_prep.declared.rule_rows.RuleRows.{RuleRows}
+use Rattle.cert_types.specs.guard_prep.Prepared.{Prepared}
 use Rattle.rule_questions.specs.ProgramQuestions.{forms_in, forms_at}
 use Rattle.rule_questions.specs.SmallForms.{IsSmall}
-use Rattle.rule_questions.proofs.NewValues.{news-small}
+use Rattle.rule_questions.proofs.NewValues.{new_values-small}
 use Rattle.location_facts.specs.declared.fact.LocFact.{LocFact}
 use Rattle.location_facts.specs.declared.fact.FactProof.{FactProof}
 use Rattle.location_facts.specs.Certificates.{Shows}
@@ -67,59 +67,59 @@ into-rule p s k t into e l g =
     (subst (All (λ (u : ℕ). (1 ≤ u) × (u ≤ length p.rules))) (sym e) (into-rules p s) k t l)
 
 -- what is prepared of it has small new values
-pub news-read : (p : plain.Program) (preps : List RuleRows) (t : ℕ) (m : RuleRows) (news : List Row) → IsValid p
-    → AreRowsOf preps p → (1 ≤ t) × (t ≤ length p.rules) → m ≡ get_or preps (t - 1) m → news ≡ m.news.items
-    → All (λ r. IsSmall (form_of r)) news
-news-read p preps t m news valid rows (l, h) e g =
+pub new_values-read : (p : plain.Program) (prepared_rules : List RuleRows) (t : ℕ) (m : RuleRows) (new_values : List Row) → IsValid p
+    → AreRowsOf prepared_rules p → (1 ≤ t) × (t ≤ length p.rules) → m ≡ get_or prepared_rules (t - 1) m → new_values ≡ m.new_values.items
+    → All (λ r. IsSmall (form_of r)) new_values
+new_values-read p prepared_rules t m new_values valid rows (l, h) e g =
     subst (All (λ (r : Row). IsSmall (form_of r))) (sym g)
-    (news-small m (is-prepared p preps (t - 1) m valid rows
-    (read preps (t - 1) m (let n = prepared-many p preps rows in omega (arith, l, h, n)) e)))
+    (new_values-small m (is-prepared p prepared_rules (t - 1) m valid rows
+    (read prepared_rules (t - 1) m (let n = prepared-many p prepared_rules rows in omega (arith, l, h, n)) e)))
 
 -- the rows and the goal that are read of a rule are its combined rows and the fact at its new values
-rows-read : (p : plain.Program) (preps : List RuleRows) (kept : List LocFact) (rows : List (Vec Row Global)) (t : ℕ)
+rows-read : (p : plain.Program) (prepared_rules : List RuleRows) (kept : List LocFact) (rows : List (Vec Row Global)) (t : ℕ)
     (m : RuleRows) (v : Vec Row Global) → (1 ≤ t) × (t ≤ length p.rules) → length rows ≡ length p.rules
-    → AreRowsOf preps p → AreCombined p kept rows → m ≡ get_or preps (t - 1) m → v ≡ get_or rows (t - 1) v
-    → (map form_of v.items ≡ combined (forms_at p t) kept) × (map form_of m.news.items ≡ (forms_at p t).news)
-rows-read p preps kept rows zero m v (l, h) many are combine e g = absurd (omega (arith, l))
-rows-read p preps kept rows (suc i) m v (l, h) many are combine e g =
+    → AreRowsOf prepared_rules p → AreCombined p kept rows → m ≡ get_or prepared_rules (t - 1) m → v ≡ get_or rows (t - 1) v
+    → (map form_of v.items ≡ combined (forms_at p t) kept) × (map form_of m.new_values.items ≡ (forms_at p t).new_values)
+rows-read p prepared_rules kept rows zero m v (l, h) many are combine e g = absurd (omega (arith, l))
+rows-read p prepared_rules kept rows (suc i) m v (l, h) many are combine e g =
     let (r, there) = slice_get-there p.rules i (omega (arith, h)) in
     let less : suc i - 1 ≡ i = omega arith in
-    let at-m : slice_get preps i ≡ Some m = read preps i m (let n = prepared-many p preps are in omega (arith, h, n))
-    (e ∙ ap (λ (k : ℕ). get_or preps k m) less) in
+    let at-m : slice_get prepared_rules i ≡ Some m = read prepared_rules i m (let n = prepared-many p prepared_rules are in omega (arith, h, n))
+    (e ∙ ap (λ (k : ℕ). get_or prepared_rules k m) less) in
     let at-v : slice_get rows i ≡ Some v = read rows i v (omega (arith, h, many))
     (g ∙ ap (λ (k : ℕ). get_or rows k v) less) in (
       combined-at p kept rows i v r combine at-v there
           ∙ ap (λ (o : Option plain.Rule). combined (forms_in o) kept) (sym there),
-      ap (λ (q : Prepared). q.news) (prepared-at p preps i m r are at-m there)
-          ∙ ap (λ (o : Option plain.Rule). (forms_in o).news) (sym there),
+      ap (λ (q : Prepared). q.new_values) (prepared-at p prepared_rules i m r are at-m there)
+          ∙ ap (λ (o : Option plain.Rule). (forms_in o).new_values) (sym there),
     )
 
 -- what is shown over what is read is shown of the rule, and the other way round
-module _ (p : plain.Program) (preps : List RuleRows) (kept : List LocFact) (rows : List (Vec Row Global)) (t : ℕ)
-    (m : RuleRows) (v : Vec Row Global) (fact : LocFact) (proof : FactProof) (own news : List Row) (goal : Form)
-    (within : (1 ≤ t) × (t ≤ length p.rules)) (many : length rows ≡ length p.rules) (are : AreRowsOf preps p)
-    (combine : AreCombined p kept rows) (at-m : m ≡ get_or preps (t - 1) m) (at-v : v ≡ get_or rows (t - 1) v)
-    (own-is : own ≡ v.items) (news-is : news ≡ m.news.items) (goal-is : goal ≡ row_after (map form_of news) fact) where
-  both : (map form_of v.items ≡ combined (forms_at p t) kept) × (map form_of m.news.items ≡ (forms_at p t).news)
-  both = rows-read p preps kept rows t m v within many are combine at-m at-v
+module _ (p : plain.Program) (prepared_rules : List RuleRows) (kept : List LocFact) (rows : List (Vec Row Global)) (t : ℕ)
+    (m : RuleRows) (v : Vec Row Global) (fact : LocFact) (proof : FactProof) (own new_values : List Row) (goal : Form)
+    (within : (1 ≤ t) × (t ≤ length p.rules)) (many : length rows ≡ length p.rules) (are : AreRowsOf prepared_rules p)
+    (combine : AreCombined p kept rows) (at-m : m ≡ get_or prepared_rules (t - 1) m) (at-v : v ≡ get_or rows (t - 1) v)
+    (own-is : own ≡ v.items) (new_values-is : new_values ≡ m.new_values.items) (goal-is : goal ≡ row_after (map form_of new_values) fact) where
+  both : (map form_of v.items ≡ combined (forms_at p t) kept) × (map form_of m.new_values.items ≡ (forms_at p t).new_values)
+  both = rows-read p prepared_rules kept rows t m v within many are combine at-m at-v
 
   own-rows : map form_of own ≡ combined (forms_at p t) kept
   own-rows = ap (λ (rs : List Row). map form_of rs) own-is ∙ both.0
 
-  own-goal : goal ≡ row_after (forms_at p t).news fact
+  own-goal : goal ≡ row_after (forms_at p t).new_values fact
   own-goal =
       goal-is
-      ∙ ap (λ (fs : List Form). row_after fs fact) (ap (λ (rs : List Row). map form_of rs) news-is ∙ both.1)
+      ∙ ap (λ (fs : List Form). row_after fs fact) (ap (λ (rs : List Row). map form_of rs) new_values-is ∙ both.1)
 
   pub shown-there : Shows (map form_of own) goal proof → ShowsFact p kept fact t proof
   shown-there s =
-      subst (λ (fs : List Form). Shows fs (row_after (forms_at p t).news fact) proof) own-rows
+      subst (λ (fs : List Form). Shows fs (row_after (forms_at p t).new_values fact) proof) own-rows
       (subst (λ (g : Form). Shows (map form_of own) g proof) own-goal s)
 
   pub shown-here : ShowsFact p kept fact t proof → Shows (map form_of own) goal proof
   shown-here s =
       subst (λ (g : Form). Shows (map form_of own) g proof) (sym own-goal)
-      (subst (λ (fs : List Form). Shows fs (row_after (forms_at p t).news fact) proof) (sym own-rows) s)
+      (subst (λ (fs : List Form). Shows fs (row_after (forms_at p t).new_values fact) proof) (sym own-rows) s)
 
 -- a proof that is read stands for the rule that is read
 pub proof-read : (p : plain.Program) (fact : LocFact) (ps : List FactProof) (k t : ℕ) (proof : FactProof)

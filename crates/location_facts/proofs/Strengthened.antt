@@ -6,8 +6,8 @@ use Rattle.std.specs.List.{Contains}
 use Rattle.std.proofs.lemmas.List.Elements.{All-append, All-take, All-contains}
 use Rattle.std.proofs.lemmas.Option.{slice_get-map}
 use Rattle.poly_terms.specs.model.Bounds.{Bound, val}
-use Rattle.poly_terms.specs.model.Costs.{cost_by, updated, values_after, step_cost, spent}
-use Rattle.poly_terms.specs.model.Facts.{Fact, Time, Size, Cost, Holds, HoldsTotal}
+use Rattle.poly_terms.specs.model.Spending.{cost_by, updated, values_after, step_cost, spent}
+use Rattle.poly_terms.specs.model.Facts.{Fact, Time, Size, Cost, Holds, HoldsLength}
 use Rattle.poly_terms.specs.model.Programs.{Program, Rule, rule_at, arity_of, AtomHolds, GuardHolds}
 use Rattle.poly_terms.specs.model.Runs.{Config, Step, Leads, IsStep, IsRun, sizes_of_start}
 use Rattle.poly_terms.specs.model.RunLaws.{AritiesAgree}
@@ -67,7 +67,7 @@ run-back kept p start (s ∷ earlier) c (b, run, step) =
     (b, run-back kept p start earlier b run, step-back kept p b s c step)
 
 module _ (p : Program) (agree : AritiesAgree p) (kept : List LocFact) (held : AreHeld p kept) where
-  -- the atoms that a rule gets hold where a run stands at its source
+  -- the atoms that a rule gets hold where a run is at its source
   atoms-hold : (start : List ℤ) (steps : List Step) (c : Config) → IsRun p start steps c → (free : List ℤ) (s : ℕ)
       → c.at ≡ s → GuardHolds (c.values ++ free) (strongest_atoms (facts_at s kept))
   atoms-hold start steps c run free s at =
@@ -163,5 +163,5 @@ module _ (p : Program) (agree : AritiesAgree p) (kept : List LocFact) (held : Ar
         (h.each start steps c (run-on start steps c run));
   }
 
-  pub total-carries : (bound : Bound) → HoldsTotal (strengthened kept p) bound → HoldsTotal p bound
+  pub total-carries : (bound : Bound) → HoldsLength (strengthened kept p) bound → HoldsLength p bound
   total-carries bound h = record { each = λ start steps c run. h.each start steps c (run-on start steps c run) }

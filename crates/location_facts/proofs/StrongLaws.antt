@@ -1,7 +1,7 @@
 -- What strengthening by facts that hold changes, and what it doesn't.
 use Rattle.std.proofs.Common.{Result, Ok, Err}
 use Rattle.std.specs.Prelude.{IfOk}
-use Rattle.proof_tree.proofs.guard_prep.its_model.ValidLaws.{arities_agree}
+use Rattle.cert_types.proofs.guard_prep.its_model.ValidLaws.{arities_agree}
 use Rattle.location_facts.specs.Laws.{StrengtheningChangesNoRun}
 use Rattle.location_facts.proofs.Strengthened.{run-on, run-back, bound-carries, total-carries}
 use Rattle.location_facts.proofs.StrongValid.{strong-valid}

@@ -1,4 +1,4 @@
--- A valid program that is strengthened by facts that are tried is valid.
+-- A valid program that is strengthened by candidate facts is valid.
 use Rattle.std.proofs.Common.{◌≡◌, ℕ, zero, suc, ◌+◌, ◌-◌, ◌≤◌, ◌||◌, ap, arith, refl, sym, ◌∙◌, subst, List, []}
 use Rattle.std.proofs.Common.{◌∷◌, ◌++◌, length, map, take, min, Bool, true, false, Option, Some, None}
 use Rattle.std.specs.Prelude.{ℤ, pos, negsuc, ◌≤ℤ◌, nat_eq, IsTrue}
@@ -14,8 +14,8 @@ use Rattle.poly_terms.specs.Checked.{ReadsBelow}
 use Rattle.poly_terms.specs.Faults.{Fault, first_fault}
 use Rattle.poly_terms.proofs.model.Membership.{contains-is_in, is_in-numbers}
 use Rattle.its_model.specs.Valid.{difference_of, cost_atoms, IsValidAtom, IsValidRule, IsValid}
-use Rattle.proof_tree.proofs.guard_prep.its_model.CostSteps.{joined-hold}
-use Rattle.proof_tree.proofs.guard_prep.its_model.ListLaws.{all-from}
+use Rattle.cert_types.proofs.guard_prep.its_model.CostSteps.{joined-hold}
+use Rattle.cert_types.proofs.guard_prep.its_model.ListLaws.{all-from}
 use Rattle.location_facts.specs.declared.fact.LocFact.{LocFact}
 use Rattle.location_facts.specs.Candidates.{IsCandidate}
 use Rattle.location_facts.specs.Rows.{facts_at}
@@ -28,7 +28,7 @@ abbrev has_none : Option Fault → Bool
 has_none None = true
 has_none (Some f) = false
 
--- the leasts of facts that are tried
+-- the leasts of candidate facts
 abbrev leasts : List ℤ
 leasts = negsuc 0 ∷ pos 0 ∷ pos 1 ∷ []
 
@@ -36,7 +36,7 @@ leasts = negsuc 0 ∷ pos 0 ∷ pos 1 ∷ []
 abbrev expands_at : ℕ → ℕ → ℤ → Bool
 expands_at i j k = has_none (first_fault (difference_of (difference_term i j) AtLeast (Literal k)))
 
--- all atoms of facts that are tried can be expanded: there are no more than these
+-- all atoms of candidate facts can be expanded: there are no more than these
 all-expand : list_all (λ i. list_all (λ j. list_all (λ k. expands_at i j k) leasts) (range_with_len 0 9))
     (range_with_len 0 9) ≡ true
 all-expand = refl
@@ -60,7 +60,7 @@ least-listed (pos (suc (suc n))) l h = absurd (omega (arith, ints, h))
 least-listed (negsuc zero) l h = (0, omega arith, refl)
 least-listed (negsuc (suc n)) l h = absurd (omega (arith, ints, l))
 
--- so the atom of a fact that is tried has no fault
+-- so the atom of a candidate fact has no fault
 atom-expands : (i j : ℕ) (k : ℤ) → i ≤ 8 → j ≤ 8 → negsuc 0 ≤ℤ k → k ≤ℤ pos 1
     → first_fault (difference_of (difference_term i j) AtLeast (Literal k)) ≡ None
 atom-expands i j k l m low high =

@@ -107,7 +107,7 @@ module _ (P : Atom → Type 0) (facts : List LocFact) (each : (i j : ℕ) (k : �
     pub strongest-all : All P (strongest_atoms facts)
     strongest-all = with-all (range_with_len 0 9)
 
--- the value of a difference at the values of a configuration, whatever values stand behind these
+-- the value of a difference at the values of a configuration, whatever values follow these
 pub difference-value : (c : Config) (free : List ℤ) (i j : ℕ) → i ≤ length c.values → j ≤ length c.values
     → value (difference_term i j) (c.values ++ free) ≡ place_value c i -ℤ place_value c j
 difference-value c free zero zero l m = omega (arith, ints)

@@ -15,16 +15,16 @@ use Rattle.its_model.specs.declared.program.Program.{Program}
 use Rattle.its_model.specs.Valid.{IsValid}
 use Rattle.its_model.specs.Views.{rule_of, program_of}
 use Rattle.lp_builder.specs.Descriptions.{IsWritable}
-use Rattle.proof_tree.specs.Composing.{AreRowsOf}
-use Rattle.proof_tree.specs.guard_prep.declared.rule_rows.RuleRows.{RuleRows}
-use Rattle.proof_tree.specs.guard_prep.Prepared.{Prepared, prepared}
-use Rattle.proof_tree.specs.guard_prep.Views.{prepared_of}
-use Rattle.proof_tree.proofs.guard_prep.SizeLaws.{rows-are-small}
-use Rattle.proof_tree.proofs.guard_prep.StepLaws.{preparable}
+use Rattle.cert_types.specs.Composing.{AreRowsOf}
+use Rattle.cert_types.specs.guard_prep.declared.rule_rows.RuleRows.{RuleRows}
+use Rattle.cert_types.specs.guard_prep.Prepared.{Prepared, prepared}
+use Rattle.cert_types.specs.guard_prep.Views.{prepared_of}
+use Rattle.cert_types.proofs.guard_prep.SizeLaws.{rows-are-small}
+use Rattle.cert_types.proofs.guard_prep.StepLaws.{preparable}
 use Rattle.rule_questions.specs.EmptyAnswers.{IsPrepared}
 use Rattle.rule_questions.specs.ProgramQuestions.{forms_in, forms_at}
 use Rattle.location_facts.specs.declared.fact.LocFact.{LocFact}
-use Rattle.location_facts.specs.declared.implied.Under.{Under}
+use Rattle.location_facts.specs.declared.implied.RuleUnderFacts.{RuleUnderFacts}
 use Rattle.location_facts.specs.Implied.{TellsEmpty, IsUnder, AreInOrder}
 use Rattle.location_facts.specs.Rows.{row_before, facts_at, combined}
 use Rattle.location_facts.proofs.CombinedLists.{prepared-at, prepared-many, is-prepared}
@@ -54,8 +54,8 @@ under-few p m is s kept ordered =
     sums : (a b whole : ℕ) → whole ≡ a + b → a ≤ 128 → b ≤ 243 → whole ≤ 371
     sums a b whole e l h = omega (arith, e, l, h)
 
--- a rule whose rows were asked is the rule under the list
-pub is-under : (pivots : ℕ) (kept : List LocFact) (m : RuleRows) (r : plain.Rule) (u : Under)
+-- a rule whose rows were queried is the rule under the list
+pub is-under : (pivots : ℕ) (kept : List LocFact) (m : RuleRows) (r : plain.Rule) (u : RuleUnderFacts)
     → prepared_of m ≡ prepared r
     → map form_of u.rows.items ≡ map form_of m.rows.items ++ map row_before (facts_at r.source kept)
     → All (λ w. IsWritable m.unknowns (form_of w)) u.rows.items
@@ -80,27 +80,27 @@ is-under pivots kept m r u same made writable few empty = record {
         ∙ ap (λ (fs : List Form). fs ++ map row_before (facts_at r.source kept)) (ap (λ (q : Prepared). q.rows) same)
 
 -- what is prepared of a rule that is read
-module _ (p : plain.Program) (preps : List RuleRows) (t : ℕ) (m : RuleRows) (valid : IsValid p) (are : AreRowsOf preps p)
-    (within : (1 ≤ t) × (t ≤ length p.rules)) (at-m : m ≡ get_or preps (t - 1) m) where
-  pub prep-read : IsPrepared m
-  prep-read =
-      is-prepared p preps (t - 1) m valid are
-      (read preps (t - 1) m (let n = prepared-many p preps are in let l = within.0 in let h = within.1 in
+module _ (p : plain.Program) (prepared_rules : List RuleRows) (t : ℕ) (m : RuleRows) (valid : IsValid p) (are : AreRowsOf prepared_rules p)
+    (within : (1 ≤ t) × (t ≤ length p.rules)) (at-m : m ≡ get_or prepared_rules (t - 1) m) where
+  pub prepared_rule-read : IsPrepared m
+  prepared_rule-read =
+      is-prepared p prepared_rules (t - 1) m valid are
+      (read prepared_rules (t - 1) m (let n = prepared-many p prepared_rules are in let l = within.0 in let h = within.1 in
       omega (arith, l, h, n)) at-m)
 
 -- its unknowns and new values
-pub forms-read : (p : plain.Program) (preps : List RuleRows) (t : ℕ) (m : RuleRows) → AreRowsOf preps p
-    → (1 ≤ t) × (t ≤ length p.rules) → m ≡ get_or preps (t - 1) m
-    → (m.unknowns ≡ (forms_at p t).unknowns) × (map form_of m.news.items ≡ (forms_at p t).news)
-forms-read p preps zero m are (l, h) e = absurd (omega (arith, l))
-forms-read p preps (suc i) m are (l, h) e =
+pub forms-read : (p : plain.Program) (prepared_rules : List RuleRows) (t : ℕ) (m : RuleRows) → AreRowsOf prepared_rules p
+    → (1 ≤ t) × (t ≤ length p.rules) → m ≡ get_or prepared_rules (t - 1) m
+    → (m.unknowns ≡ (forms_at p t).unknowns) × (map form_of m.new_values.items ≡ (forms_at p t).new_values)
+forms-read p prepared_rules zero m are (l, h) e = absurd (omega (arith, l))
+forms-read p prepared_rules (suc i) m are (l, h) e =
     let (r, there) = slice_get-there p.rules i (omega (arith, h)) in
     let less : suc i - 1 ≡ i = omega arith in
-    let at-m : slice_get preps i ≡ Some m = read preps i m (let n = prepared-many p preps are in omega (arith, h, n))
-    (e ∙ ap (λ (k : ℕ). get_or preps k m) less) in
-    let same = prepared-at p preps i m r are at-m there in (
+    let at-m : slice_get prepared_rules i ≡ Some m = read prepared_rules i m (let n = prepared-many p prepared_rules are in omega (arith, h, n))
+    (e ∙ ap (λ (k : ℕ). get_or prepared_rules k m) less) in
+    let same = prepared-at p prepared_rules i m r are at-m there in (
       ap (λ (q : Prepared). q.unknowns) same ∙ ap (λ (o : Option plain.Rule). (forms_in o).unknowns) (sym there),
-      ap (λ (q : Prepared). q.news) same ∙ ap (λ (o : Option plain.Rule). (forms_in o).news) (sym there),
+      ap (λ (q : Prepared). q.new_values) same ∙ ap (λ (o : Option plain.Rule). (forms_in o).new_values) (sym there),
     )
 
 -- the rule of the code at a position is the program's
@@ -109,20 +109,20 @@ pub rule-here : (p : Program) (i : ℕ) (r : Rule) → slice_get p.rules.items i
 rule-here p i r e = slice_get-map rule_of p.rules.items i ∙ ap (λ (o : Option Rule). option_map rule_of o) e
 
 -- what is prepared at a position is that of the rule there
-pub prepared-here : (p : plain.Program) (preps : List RuleRows) (i : ℕ) (m : RuleRows) (r : plain.Rule) → IsValid p
-    → AreRowsOf preps p → slice_get preps i ≡ Some m → slice_get p.rules i ≡ Some r → IsPrepared m
-prepared-here p preps i m r valid rows e there = record {
+pub prepared-here : (p : plain.Program) (prepared_rules : List RuleRows) (i : ℕ) (m : RuleRows) (r : plain.Rule) → IsValid p
+    → AreRowsOf prepared_rules p → slice_get prepared_rules i ≡ Some m → slice_get p.rules i ≡ Some r → IsPrepared m
+prepared-here p prepared_rules i m r valid rows e there = record {
   rule = r;
   preparable = preparable p (suc i) r valid there;
-  same = prepared-at p preps i m r rows e there;
+  same = prepared-at p prepared_rules i m r rows e there;
 }
 
 -- its combined rows under facts in order can be written
-pub writable-here : (p : plain.Program) (preps : List RuleRows) (i : ℕ) (m : RuleRows) (r : plain.Rule)
-    (kept : List LocFact) → IsValid p → AreRowsOf preps p → slice_get preps i ≡ Some m → slice_get p.rules i ≡ Some r
+pub writable-here : (p : plain.Program) (prepared_rules : List RuleRows) (i : ℕ) (m : RuleRows) (r : plain.Rule)
+    (kept : List LocFact) → IsValid p → AreRowsOf prepared_rules p → slice_get prepared_rules i ≡ Some m → slice_get p.rules i ≡ Some r
     → AreInOrder p kept
     → All (IsWritable m.unknowns) (map form_of m.rows.items ++ map row_before (facts_at r.source kept))
 unfolding prepared-here
-writable-here p preps i m r kept valid rows e there ordered =
-    combined-writable p (suc i) r m (prepared-here p preps i m r valid rows e there) kept valid there refl
+writable-here p prepared_rules i m r kept valid rows e there ordered =
+    combined-writable p (suc i) r m (prepared-here p prepared_rules i m r valid rows e there) kept valid there refl
     (ascend-tried p 0 kept ordered)

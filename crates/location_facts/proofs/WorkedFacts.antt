@@ -1,4 +1,4 @@
--- Facts of a small program are what was worked out by hand.
+-- Facts of a small program agree with values worked out by hand.
 use Rattle.std.proofs.Common.{◌≡◌, inl, inr, ℕ, zero, suc, ◌<◌, ◌≤◌, ap, arith, refl, sym, subst, List, [], ◌∷◌, ◌++◌}
 use Rattle.std.proofs.Common.{length, Some}
 use Rattle.std.specs.Prelude.{ℤ, pos, negsuc, ◌+ℤ◌, ◌-ℤ◌, ◌*ℤ◌, ◌≤ℤ◌, slice_index_or, Vec}
@@ -16,7 +16,7 @@ use Rattle.poly_terms.specs.model.Runs.{Config, Step, Leads, IsStep, IsRun, plac
 use Rattle.poly_terms.specs.model.Terms.{Variable, Literal}
 use Rattle.poly_terms.proofs.model.Cases.{none_some, some_same}
 use Rattle.farkas_cert.specs.Sizes.{AreWithinLimit}
-use Rattle.proof_tree.specs.guard_prep.Tightening.{divisor_of}
+use Rattle.cert_types.specs.guard_prep.Tightening.{divisor_of}
 use Rattle.location_facts.specs.declared.fact.LocFact.{LocFact}
 use Rattle.location_facts.specs.declared.fact.FactProof.{FactProof}
 use Rattle.location_facts.specs.declared.fact.FactProof.TheVariants.{Empty, Implied}
@@ -25,8 +25,8 @@ use Rattle.location_facts.specs.Certificates.{IsWithinLimit, Shows, IsShownBy}
 use Rattle.location_facts.specs.Facts.{IsMetAt}
 use Rattle.location_facts.specs.Kept.{HasThose}
 use Rattle.location_facts.specs.Worked.{natural, positive, line, fact, counting, wide, entering, falling, two_rows}
-use Rattle.location_facts.specs.Worked.{CandidatesAreTold, FactsAreMet, RowsAreTold, CertificatesAreTold}
-use Rattle.location_facts.specs.Worked.{StrengtheningIsTold, ThoseAreTold, FactsAreWorkedOut}
+use Rattle.location_facts.specs.Worked.{CandidatesAreWorkedOut, FactsAreMet, RowsAreWorked, CertificatesAreWorked}
+use Rattle.location_facts.specs.Worked.{StrengtheningIsWorkedOut, ThoseAreWorkedOut, FactsAreWorkedOut}
 
 -- a fact is tried
 tried : (p : Program) (s i j : ℕ) (k : ℤ) → s < length p.symbols → (s ≡ p.start → ⊥) → i ≤ last_place p s
@@ -47,8 +47,8 @@ tried-one k low high =
     tried counting 1 1 0 k (omega arith) (λ e. omega (arith, e)) (omega arith) (omega arith) (λ e. omega (arith, e)) low
     high
 
-candidates-told : CandidatesAreTold
-candidates-told = record {
+candidates-worked : CandidatesAreWorkedOut
+candidates-worked = record {
   all = refl;
   first_number = refl;
   last_number = refl;
@@ -98,7 +98,7 @@ falling-natural b c free h =
     after-falling (first_value c.values) (first_value (b.values ++ free)) (ap first_value h.values)
     (All-head (AtomHolds (b.values ++ free)) (Compare (Variable 0) AtLeast (Literal (pos 1))) [] h.guard)
 
--- so does each rule of the program, by its number
+-- the same for each rule of the program, by its number
 step-natural : (t : ℕ) (r : Rule) (b c : Config) (free : List ℤ) → rule_at counting t ≡ Some r → Leads r b free c
     → pos 0 ≤ℤ (place_value c 1 -ℤ place_value c 0)
 step-natural zero r b c free e h = absurd (none_some r e)
@@ -163,9 +163,9 @@ facts-met = record {
       second-step,
     )
 
-rows-told : RowsAreTold
+rows-worked : RowsAreWorked
 unfolding divisor_of
-rows-told = record {
+rows-worked = record {
   before = refl;
   after = refl;
   before_minus = refl;
@@ -273,9 +273,9 @@ natural-shown first e = record {
         All-cons (λ (m : ℕ). m ≤ certificate_limit) 1 (0 ∷ []) (omega arith)
         (All-cons (λ (m : ℕ). m ≤ certificate_limit) 0 [] (omega arith) (All-nil (λ (m : ℕ). m ≤ certificate_limit)))
 
-certificates-told : CertificatesAreTold
+certificates-worked : CertificatesAreWorked
 unfolding divisor_of
-certificates-told = record {
+certificates-worked = record {
   by_first = one-follows;
   by_second = second-follows;
   shown = natural-shown;
@@ -290,7 +290,7 @@ certificates-told = record {
   not_empty = λ first e h. zero-one ((subst (As shut_rows minus_one) e h).coefs 0);
   limit = λ most e. (
     subst AreWithinLimit (sym e)
-        (All-cons (λ (m : ℕ). m ≤ certificate_limit) 36028797018963968 [] (omega arith)
+        (All-cons (λ (m : ℕ). m ≤ certificate_limit) 72057594037927936 [] (omega arith)
         (All-nil (λ (m : ℕ). m ≤ certificate_limit))),
     omega arith,
     omega arith,
@@ -300,14 +300,14 @@ certificates-told = record {
   over_den = λ one e h. let l = h.2 in omega (arith, l);
 }
   where
-    too-large : AreWithinLimit (36028797018963969 ∷ []) → ⊥
+    too-large : AreWithinLimit (72057594037927937 ∷ []) → ⊥
     too-large h =
-        let l : 36028797018963969 ≤ certificate_limit =
-        All-head (λ (m : ℕ). m ≤ certificate_limit) 36028797018963969 [] h in
+        let l : 72057594037927937 ≤ certificate_limit =
+        All-head (λ (m : ℕ). m ≤ certificate_limit) 72057594037927937 [] h in
         omega (arith, l)
 
-strengthening-told : StrengtheningIsTold
-strengthening-told = record {
+strengthening-worked : StrengtheningIsWorkedOut
+strengthening-worked = record {
   greatest = refl;
   ordered = refl;
   last_places = refl;
@@ -356,8 +356,8 @@ turned-fails (inl (nil, (rest, e, h))) = first rest e
         → ◌≡◌ {A = List LocFact} (fact 1 0 1 (pos 0) ∷ natural ∷ []) (natural ∷ rest) → ⊥
     first rest e = let same : 0 ≡ 1 = ap (λ (xs : List LocFact). head_plus xs) e in omega (arith, same)
 
-those-told : ThoseAreTold
-those-told = record {
+those-worked : ThoseAreWorkedOut
+those-worked = record {
   those = inl (refl, (fact 1 0 1 (pos 0) ∷ [], refl, inr (one-zero, inl (refl, ([], refl, refl)))));
   turned = turned-fails;
   less = less-fails;
@@ -366,10 +366,10 @@ those-told = record {
 
 pub facts-are-worked-out : FactsAreWorkedOut
 facts-are-worked-out = record {
-  candidates_are = candidates-told;
+  candidates_are = candidates-worked;
   met = facts-met;
-  rows = rows-told;
-  certificates = certificates-told;
-  strengthening = strengthening-told;
-  those = those-told;
+  rows = rows-worked;
+  certificates = certificates-worked;
+  strengthening = strengthening-worked;
+  those = those-worked;
 }

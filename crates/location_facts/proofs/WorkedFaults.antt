@@ -1,4 +1,4 @@
--- What is wrong first with facts of a small program is what was worked out by hand.
+-- What is wrong first with facts of a small program agrees with values worked out by hand.
 use Rattle.std.proofs.Common.{◌≡◌, inl, inr, ℕ, zero, suc, ◌≤◌, arith, refl, sym, subst, List, [], ◌∷◌, length}
 use Rattle.std.specs.Prelude.{ℤ, pos, negsuc, ◌+ℤ◌, ◌*ℤ◌, ◌≤ℤ◌, Vec}
 use Rattle.std.specs.declared.alloc.Global.{Global}
@@ -9,7 +9,7 @@ use Rattle.poly_terms.specs.linear_forms.Certificates.{Implies, combined_coef}
 use Rattle.poly_terms.specs.linear_forms.Forms.{Form, at}
 use Rattle.poly_terms.specs.linear_forms.Limits.{certificate_limit}
 use Rattle.farkas_cert.specs.Sizes.{AreWithinLimit}
-use Rattle.proof_tree.specs.guard_prep.Tightening.{divisor_of}
+use Rattle.cert_types.specs.guard_prep.Tightening.{divisor_of}
 use Rattle.location_facts.specs.declared.fact.LocFact.{LocFact}
 use Rattle.location_facts.specs.declared.fact.FactProof.{FactProof}
 use Rattle.location_facts.specs.declared.fact.FactProof.TheVariants.{Implied}
@@ -17,7 +17,7 @@ use Rattle.location_facts.specs.Certificates.{IsWithinLimit}
 use Rattle.location_facts.specs.Faults.{IsRight, AreRight, ShowsFact, ProofsShow}
 use Rattle.location_facts.specs.Faults.{IsFirstFault, least_number}
 use Rattle.location_facts.specs.Worked.{counting, natural, positive, fact, line}
-use Rattle.location_facts.specs.WorkedFaults.{two_proofs, fault, ProvedIsTold, ShapesAreTold, UnshownIsTold}
+use Rattle.location_facts.specs.WorkedFaults.{two_proofs, fault, ProvedIsWorkedOut, ShapesAreWorkedOut, UnshownIsWorkedOut}
 use Rattle.location_facts.specs.WorkedFaults.{FaultsAreWorkedOut}
 use Rattle.location_facts.proofs.FaultSteps.{right-none, right-more, shown-none, shown-more, proofs-none, proofs-more}
 use Rattle.location_facts.proofs.WorkedFacts.{tried-one, one-follows, second-follows}
@@ -64,7 +64,7 @@ positive-right least ps l e h = record {
   numbers = h;
 }
 
--- so is the first fact of a list
+-- the same for the first fact of a list
 first-right : (f : LocFact) (kept : List LocFact) (ps : List FactProof) (proofs : List (List FactProof))
     → IsRight counting 0 f ps → AreRight counting (f ∷ kept) (ps ∷ proofs) 1
 first-right f kept ps proofs h =
@@ -128,8 +128,8 @@ natural-second-short one e h =
     omega (arith, long)
 
 -- nothing is wrong
-proved-told : ProvedIsTold
-proved-told = record {
+proved-worked : ProvedIsWorkedOut
+proved-worked = record {
   nothing = record {
     one_each = refl;
     right = right-none counting [] [];
@@ -182,8 +182,8 @@ second-wrong f g ps qs right wrong =
       rule = refl;
     }))
 
-shapes-told : ShapesAreTold
-shapes-told = record {
+shapes-worked : ShapesAreWorkedOut
+shapes-worked = record {
   missing = inl (record { uneven = λ e. omega (arith, e); fact = refl; rule = refl });
   too_many = λ proofs. inl (record { uneven = λ e. omega (arith, e); fact = refl; rule = refl });
   one_proof = λ any. first-wrong natural [] (Implied any 1 ∷ []) [] refl
@@ -194,10 +194,10 @@ shapes-told = record {
       (λ h. let w : IsWithinLimit (Implied one 0) =
       All-head IsWithinLimit (Implied one 0) (Implied any 1 ∷ []) h.numbers in
       let l = w.1 in omega (arith, l));
-  large_denominator = λ one any. first-wrong natural [] (Implied one 1 ∷ Implied any 36028797018963969 ∷ []) [] refl
-      (λ h. let w : IsWithinLimit (Implied any 36028797018963969) =
-      All-head IsWithinLimit (Implied any 36028797018963969) []
-      (All-tail IsWithinLimit (Implied one 1) (Implied any 36028797018963969 ∷ []) h.numbers) in
+  large_denominator = λ one any. first-wrong natural [] (Implied one 1 ∷ Implied any 72057594037927937 ∷ []) [] refl
+      (λ h. let w : IsWithinLimit (Implied any 72057594037927937) =
+      All-head IsWithinLimit (Implied any 72057594037927937) []
+      (All-tail IsWithinLimit (Implied one 1) (Implied any 72057594037927937 ∷ []) h.numbers) in
       let l = w.2 in omega (arith, l));
   large_multiplier = λ more any e. first-wrong natural [] (two_proofs more any) [] refl
       (λ h. let w : IsWithinLimit (Implied more 1) =
@@ -214,8 +214,9 @@ shapes-told = record {
   uneven_first = inl (record { uneven = λ e. omega (arith, e); fact = refl; rule = refl });
 }
   where
-    too-large : AreWithinLimit (36028797018963969 ∷ []) → ⊥
-    too-large h = let l : 36028797018963969 ≤ certificate_limit = All-head Few 36028797018963969 [] h in omega (arith, l)
+    too-large : AreWithinLimit (72057594037927937 ∷ []) → ⊥
+    too-large h =
+        let l : 72057594037927937 ≤ certificate_limit = All-head Few 72057594037927937 [] h in omega (arith, l)
 
     within : (none first : Vec ℕ Global) → none.items ≡ 0 ∷ [] → first.items ≡ 1 ∷ 0 ∷ []
         → All IsWithinLimit (two_proofs none first)
@@ -342,7 +343,7 @@ natural-second-not-both : (zeros : Vec ℕ Global) → zeros.items ≡ 0 ∷ 0 �
 unfolding divisor_of
 natural-second-not-both zeros e h = one-zero ((subst (Follows three_rows (line (pos 1) (negsuc 0))) e h).coefs 0)
 
--- so the first fact's second proof is the first that doesn't show it, whatever is told of the second fact
+-- so the first fact's second proof is the first one that is wrong, whatever holds of the second fact
 by-fact : (one zeros none first : Vec ℕ Global) → one.items ≡ 1 ∷ [] → zeros.items ≡ 0 ∷ 0 ∷ 0 ∷ []
     → none.items ≡ 0 ∷ [] → first.items ≡ 1 ∷ 0 ∷ 0 ∷ []
     → IsFirstFault counting two_facts (two_proofs one zeros ∷ two_proofs none first ∷ []) (fault 1 2)
@@ -374,8 +375,8 @@ by-fact one zeros none first e g h k =
       fact = refl;
     }))
 
-unshown-told : UnshownIsTold
-unshown-told = record {
+unshown-sound : UnshownIsWorkedOut
+unshown-sound = record {
   first_rule = λ none any e g.
       first-unshown none any
       (two-within none any (0 ∷ []) (0 ∷ 0 ∷ []) e g (one-few 0 (omega arith)) (two-few 0 0 (omega arith) (omega arith)))
@@ -393,4 +394,4 @@ unshown-told = record {
 }
 
 pub faults-are-worked-out : FaultsAreWorkedOut
-faults-are-worked-out = record { proved = proved-told; shapes = shapes-told; unshown = unshown-told }
+faults-are-worked-out = record { proved = proved-worked; shapes = shapes-worked; unshown = unshown-sound }

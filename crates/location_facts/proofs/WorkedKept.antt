@@ -1,4 +1,4 @@
--- Which facts of small programs are kept is what was worked out by hand.
+-- Which facts of small programs are kept agrees with values worked out by hand.
 use Rattle.std.proofs.Common.{◌≡◌, inl, inr, ℕ, zero, suc, ◌<◌, ap, arith, refl, ◌∙◌, List, [], ◌∷◌, Some}
 use Rattle.std.specs.Prelude.{ℤ, pos, negsuc}
 use Rattle.std.specs.List.{AllByRecursion}
@@ -10,7 +10,7 @@ use Rattle.poly_terms.specs.linear_forms.Questions.{program_of_question}
 use Rattle.poly_terms.specs.model.Programs.{Rule, rule_at}
 use Rattle.poly_terms.proofs.model.Cases.{none_some, some_same}
 use Rattle.lp_builder.proofs.simplex_core.Certificates.{dual-excludes}
-use Rattle.proof_tree.specs.guard_prep.Tightening.{divisor_of}
+use Rattle.cert_types.specs.guard_prep.Tightening.{divisor_of}
 use Rattle.rule_questions.specs.ProgramQuestions.{forms_at}
 use Rattle.location_facts.specs.declared.fact.LocFact.{LocFact}
 use Rattle.location_facts.specs.Candidates.{candidates}
@@ -19,7 +19,7 @@ use Rattle.location_facts.specs.Kept.{AreKept, Stays, GoesOn}
 use Rattle.location_facts.specs.Rows.{row_after, combined}
 use Rattle.location_facts.specs.Worked.{fact, positive}
 use Rattle.location_facts.specs.WorkedKept.{handing, passing, staying, falling_forms, empty_program, fact_program}
-use Rattle.location_facts.specs.WorkedKept.{KeptAreTold, FollowingIsTold, NotFollowingIsTold, EmptyIsTold}
+use Rattle.location_facts.specs.WorkedKept.{KeptAreWorkedOut, FollowingIsWorkedOut, NotFollowingIsWorkedOut, EmptyIsWorkedOut}
 
 -- what holds at 0, and at 0 and 1, and so on
 pub below-one : (P : ℕ → Type 0) → P 0 → (i : ℕ) → i < 1 → P i
@@ -51,7 +51,7 @@ those-none K (f ∷ facts) (k, h) = inr (k, those-none K facts h)
 abbrev passed_program : LocFact → LinearProgram
 passed_program f =
     goal_program (forms_at passing 1).unknowns (combined (forms_at passing 1) (candidates passing))
-    (row_after (forms_at passing 1).news f)
+    (row_after (forms_at passing 1).new_values f)
 
 abbrev passed_empty : LinearProgram
 passed_empty = goal_program (forms_at passing 1).unknowns (combined (forms_at passing 1) (candidates passing)) minus_one
@@ -135,12 +135,12 @@ all-kept pivots = Stays refl next
           ),
         )
 
-pub kept-told : KeptAreTold
-kept-told = record { none = none-kept; all = all-kept }
+pub kept-worked : KeptAreWorkedOut
+kept-worked = record { none = none-kept; all = all-kept }
 
-pub following-told : FollowingIsTold
+pub following-worked : FollowingIsWorkedOut
 unfolding program_of_question divisor_of
-following-told = record {
+following-worked = record {
   equations_are = refl;
   columns = refl;
   solved = record {
@@ -172,18 +172,18 @@ positive-not pivots (inl s) =
 positive-not pivots (inr s) =
     dual-excludes (fact_program (positive ∷ []) positive) (at (pos 1 ∷ pos 1 ∷ [])) positive-refuted s.solution
 
-pub not-following-told : NotFollowingIsTold
+pub not-following-worked : NotFollowingIsWorkedOut
 unfolding program_of_question divisor_of
-not-following-told = record {
+not-following-worked = record {
   equations_are = refl;
   refuted = positive-refuted;
   pointed = positive-pointed;
   not_implied = positive-not;
 }
 
-pub empty-told : EmptyIsTold
+pub empty-worked : EmptyIsWorkedOut
 unfolding program_of_question divisor_of
-empty-told = record {
+empty-worked = record {
   asked = λ r kept. refl;
   equations_are = refl;
   solved = record {

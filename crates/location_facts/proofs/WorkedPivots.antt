@@ -1,4 +1,4 @@
--- What is answered within no pivot is what was worked out by hand.
+-- What is answered within no pivot agrees with values worked out by hand.
 use Rattle.std.proofs.Common.{◌≡◌, ◌⊎◌, inl, inr, ℕ, zero, suc, ◌+◌, ◌<◌, ◌≤◌, ◌^◌, ap, arith, refl, sym, subst, ◌∙◌}
 use Rattle.std.proofs.Common.{[], ◌∷◌, length, Some, true, false}
 use Rattle.std.specs.Int.{◌∣◌}
@@ -17,14 +17,13 @@ use Rattle.lp_builder.specs.simplex_core.Outcome.{IsSmallRatio, IsInRange, Trips
 use Rattle.lp_builder.specs.simplex_core.Tableau.{Tableau, first_tableau, equation, cost, pivot}
 use Rattle.lp_builder.specs.simplex_core.Trips.{Trips, TripsSolution, TripsDual}
 use Rattle.lp_builder.proofs.simplex_core.Certificates.{dual-excludes}
-use Rattle.proof_tree.specs.guard_prep.Tightening.{divisor_of}
+use Rattle.cert_types.specs.guard_prep.Tightening.{divisor_of}
 use Rattle.rule_questions.specs.ProgramQuestions.{forms_at}
 use Rattle.location_facts.specs.Kept.{goal_program, IsSolvedWithin, IsImplied}
 use Rattle.location_facts.specs.Rows.{combined}
 use Rattle.location_facts.specs.Worked.{fact}
-use Rattle.location_facts.specs.WorkedKept.{resetting, reset_program, PivotsAreTold, KeptFactsAreWorkedOut}
+use Rattle.location_facts.specs.WorkedKept.{resetting, reset_program, PivotsAreWorkedOut}
 use Rattle.location_facts.proofs.WorkedKept.{below-one, below-two, below-three}
-use Rattle.location_facts.proofs.WorkedKept.{kept-told, following-told, not-following-told, empty-told}
 
 -- what holds at 0 to 3, and at 0 to 4
 below-four : (P : ℕ → Type 0) → P 0 → P 1 → P 2 → P 3 → (i : ℕ) → i < 4 → P i
@@ -193,7 +192,7 @@ zero-untripped (wide n) (l, e) = narrow l
 zero-untripped scale (fits, inl s) = zero-solution s
 zero-untripped scale (fits, inr d) = zero-dual d
 
-zero-solved : IsSolvedWithin 0 zero_program
+pub zero-solved : IsSolvedWithin 0 zero_program
 unfolding program_of_question divisor_of
 zero-solved = record {
   solution = record {
@@ -223,15 +222,15 @@ minus-goes-on = record {
 fits-eight : 8 ≤ 40000000000
 fits-eight = omega arith
 
-minus-tripped : IsSolvedWithin 0 minus_program → ⊥
+pub minus-tripped : IsSolvedWithin 0 minus_program → ⊥
 unfolding program_of_question divisor_of
 minus-tripped h = h.untripped.each (budget 0) (fits-eight, refl, minus-goes-on)
 
 -- that no row has no point is refuted
-abbrev reset_empty : LinearProgram
+abbrev pub reset_empty : LinearProgram
 reset_empty = goal_program (forms_at resetting 1).unknowns (combined (forms_at resetting 1) []) minus_one
 
-reset-pointed : IsDual reset_empty (at (pos 0 ∷ pos 1 ∷ []))
+pub reset-pointed : IsDual reset_empty (at (pos 0 ∷ pos 1 ∷ []))
 unfolding program_of_question divisor_of
 reset-pointed = record { columns = below-one _ (omega (arith, ints)); right = omega (arith, ints) }
 
@@ -239,9 +238,9 @@ minus-not-implied : IsImplied 0 (forms_at resetting 1) [] (fact 1 1 0 (negsuc 0)
 minus-not-implied (inl s) = dual-excludes reset_empty (at (pos 0 ∷ pos 1 ∷ [])) reset-pointed s.solution
 minus-not-implied (inr s) = minus-tripped s
 
-pub pivots-told : PivotsAreTold
+pub pivots-worked : PivotsAreWorkedOut
 unfolding program_of_question divisor_of
-pivots-told = record {
+pivots-worked = record {
   equations_are = refl;
   solved = zero-solved;
   implied = inr zero-solved;
@@ -252,13 +251,4 @@ pivots-told = record {
   };
   tripped = minus-tripped;
   not_implied = minus-not-implied;
-}
-
-pub kept-facts-are-worked-out : KeptFactsAreWorkedOut
-kept-facts-are-worked-out = record {
-  kept = kept-told;
-  following = following-told;
-  not_following = not-following-told;
-  empty = empty-told;
-  pivots = pivots-told;
 }

@@ -17,11 +17,11 @@ use Rattle.poly_terms.specs.model.Programs.{Program, Rule, arity_of, rule_at}
 use Rattle.poly_terms.specs.Views.{form_of}
 use Rattle.its_model.specs.Valid.{IsValid}
 use Rattle.lp_builder.specs.Descriptions.{IsWritable}
-use Rattle.proof_tree.specs.guard_prep.declared.rule_rows.RuleRows.{RuleRows}
-use Rattle.proof_tree.specs.guard_prep.Laws.{IsSmallForm}
-use Rattle.proof_tree.specs.guard_prep.Prepared.{Prepared, news_of, unknowns_of}
-use Rattle.proof_tree.proofs.guard_prep.SizeLaws.{rows-are-small}
-use Rattle.proof_tree.proofs.guard_prep.its_model.ValidLaws.{arities_agree}
+use Rattle.cert_types.specs.guard_prep.declared.rule_rows.RuleRows.{RuleRows}
+use Rattle.cert_types.specs.guard_prep.Laws.{IsSmallForm}
+use Rattle.cert_types.specs.guard_prep.Prepared.{Prepared, new_values_of, unknowns_of}
+use Rattle.cert_types.proofs.guard_prep.SizeLaws.{rows-are-small}
+use Rattle.cert_types.proofs.guard_prep.its_model.ValidLaws.{arities_agree}
 use Rattle.rule_questions.specs.EmptyAnswers.{IsPrepared}
 use Rattle.rule_questions.proofs.EmptyProblems.{rows-writable}
 use Rattle.location_facts.specs.declared.fact.LocFact.{LocFact}
@@ -59,7 +59,7 @@ fact-writable f n l m leasts = record {
 left-unknowns : (r : Rule) → r.left ≤ unknowns_of r
 left-unknowns r = omega arith
 
--- the combined rows of a rule under facts that are tried can be written
+-- the combined rows of a rule under candidate facts can be written
 pub combined-writable : (p : Program) (t : ℕ) (r : Rule) (m : RuleRows) (is : IsPrepared m) (kept : List LocFact)
     → IsValid p → rule_at p t ≡ Some r → r ≡ is.rule → All (IsCandidate p) kept
     → All (IsWritable m.unknowns) (map form_of m.rows.items ++ map row_before (facts_at r.source kept))
@@ -89,14 +89,14 @@ combined-writable p t r m is kept valid there same tried =
         (c.low, c.high)
 
 module _ (m : RuleRows) (is : IsPrepared m) where
-  widths : All (λ (h : Form). length h.coefs ≤ m.unknowns) (map form_of m.news.items)
+  widths : All (λ (h : Form). length h.coefs ≤ m.unknowns) (map form_of m.new_values.items)
   widths =
       subst (λ (fs : List Form). All (λ (h : Form). length h.coefs ≤ m.unknowns) fs)
-      (sym (ap (λ (q : Prepared). q.news) is.same))
+      (sym (ap (λ (q : Prepared). q.new_values) is.same))
       (All-weaker (IsSmallForm (unknowns_of is.rule)) (λ (h : Form). length h.coefs ≤ m.unknowns)
       (λ h s. let w = s.width in let u = ap (λ (q : Prepared). q.unknowns) is.same in omega (arith, w, u))
-      (news_of is.rule) (All-from_recursion (IsSmallForm (unknowns_of is.rule)) (news_of is.rule)
-      (rows-are-small.news is.rule is.preparable)))
+      (new_values_of is.rule) (All-from_recursion (IsSmallForm (unknowns_of is.rule)) (new_values_of is.rule)
+      (rows-are-small.new_values is.rule is.preparable)))
 
   in-list : (fs : List Form) (i : ℕ) → All (λ (h : Form). length h.coefs ≤ m.unknowns) fs
       → length (slice_index_or fs i zero_form).coefs ≤ m.unknowns
@@ -107,19 +107,19 @@ module _ (m : RuleRows) (is : IsPrepared m) where
       go (inr l) =
           subst (λ (x : Form). length x.coefs ≤ m.unknowns) (sym (get_or_past fs i zero_form l)) (omega arith)
 
-  new-width : (i : ℕ) → length (value_after (map form_of m.news.items) i).coefs ≤ m.unknowns
+  new-width : (i : ℕ) → length (value_after (map form_of m.new_values.items) i).coefs ≤ m.unknowns
   new-width zero = omega arith
-  new-width (suc i) = in-list (map form_of m.news.items) i widths
+  new-width (suc i) = in-list (map form_of m.new_values.items) i widths
 
   -- the goal of a fact has no coefficient past the unknowns
-  pub goal-fits-after : (f : LocFact) → length (row_after (map form_of m.news.items) f).coefs ≤ m.unknowns
+  pub goal-fits-after : (f : LocFact) → length (row_after (map form_of m.new_values.items) f).coefs ≤ m.unknowns
   goal-fits-after f =
-      length-sum (value_after (map form_of m.news.items) f.plus).coefs
-      (opposite (value_after (map form_of m.news.items) f.minus)).coefs m.unknowns (new-width f.plus)
-      (opposite-width (value_after (map form_of m.news.items) f.minus) m.unknowns (new-width f.minus))
+      length-sum (value_after (map form_of m.new_values.items) f.plus).coefs
+      (opposite (value_after (map form_of m.new_values.items) f.minus)).coefs m.unknowns (new-width f.plus)
+      (opposite-width (value_after (map form_of m.new_values.items) f.minus) m.unknowns (new-width f.minus))
 
   -- it can be written
-  pub goal-writable-after : (f : LocFact) (g : Form) → g ≡ row_after (map form_of m.news.items) f → IsGoalSmall g
+  pub goal-writable-after : (f : LocFact) (g : Form) → g ≡ row_after (map form_of m.new_values.items) f → IsGoalSmall g
       → IsWritable m.unknowns g
   goal-writable-after f g e small = record {
     fits = subst (λ (h : Form). length h.coefs ≤ m.unknowns) (sym e) (goal-fits-after f);

@@ -1,4 +1,4 @@
--- The facts that are tried at the symbols of a program, and their order.
+-- The candidate facts at the symbols of a program, and their order.
 use Rattle.std.specs.Prelude.{◌≢◌, ℕ, suc, ◌+◌, ◌*◌, ◌<◌, ◌≤◌, min, nat_abs, nat_eq, if◌then◌else◌, List, [], ◌∷◌}
 use Rattle.std.specs.Prelude.{◌++◌, map, length, pos, negsuc, ◌+ℤ◌, ◌≤ℤ◌}
 use Rattle.std.specs.List.{range_with_len}
@@ -39,7 +39,7 @@ abbrev pub with_symbol : ℕ → List ℕ → List ℕ → List LocFact
 with_symbol s [] js = []
 with_symbol s (i ∷ places) js = with_plus s i js ++ with_symbol s places js
 
--- the facts that are tried at a symbol: none at the start symbol
+-- the candidate facts at a symbol: none at the start symbol
 abbrev pub candidates_at : Program → ℕ → List LocFact
 candidates_at p s =
     let places = range_with_len 0 (suc (last_place p s)) in
@@ -50,6 +50,6 @@ abbrev pub candidates_among : Program → List ℕ → List LocFact
 candidates_among p [] = []
 candidates_among p (s ∷ symbols) = candidates_at p s ++ candidates_among p symbols
 
--- the facts that are tried: by symbol, then by plus, then by minus, then by least
+-- the candidate facts: by symbol, then by plus, then by minus, then by least
 abbrev pub candidates : Program → List LocFact
 candidates p = candidates_among p (range_with_len 0 (length p.symbols))

@@ -1,4 +1,4 @@
--- What shows facts after the rules into their symbols.
+-- The certificates of facts after the rules into their symbols.
 use Rattle.std.specs.Prelude.{◌≡◌, ◌≢◌, ℕ, ◌≤◌, List, Some, pos}
 use Rattle.std.specs.List.{Contains}
 use Rattle.poly_terms.specs.linear_forms.Forms.{Form}
@@ -13,7 +13,7 @@ use Rattle.location_facts.specs.declared.fact.FactProof.{FactProof}
 use Rattle.location_facts.specs.declared.fact.FactProof.TheVariants.{Empty, Implied}
 use Rattle.location_facts.specs.Rows.{row_after, combined}
 
--- the multipliers are at most 2^55, and the number by which the goal is multiplied is from 1 to 2^55
+-- the multipliers are at most 2^56, and the number by which the goal is multiplied is from 1 to 2^56
 abbrev pub IsWithinLimit : FactProof → Type 0
 IsWithinLimit (Empty multipliers) = AreWithinLimit multipliers.items
 IsWithinLimit (Implied multipliers den) = AreWithinLimit multipliers.items × (1 ≤ den) × (den ≤ certificate_limit)
@@ -27,7 +27,7 @@ Shows rows goal (Implied multipliers den) = Implies rows multipliers.items (form
 pub record IsShownBy (p : Program) (t : ℕ) (facts : List LocFact) (f : LocFact) : Type 0 where
   pub proof : FactProof
   pub within : IsWithinLimit proof
-  pub shows : Shows (combined (forms_at p t) facts) (row_after (forms_at p t).news f) proof
+  pub shows : Shows (combined (forms_at p t) facts) (row_after (forms_at p t).new_values f) proof
 
 -- the facts hold by induction along runs: each is one of another symbol than the start symbol, about places of it, and
 -- it is shown after each rule into its symbol, under the list

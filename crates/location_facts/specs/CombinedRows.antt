@@ -1,4 +1,4 @@
--- The combined rows of all rules as lists of the code, and what is told of facts and their proofs on the way.
+-- The combined rows of all rules as lists of the code, and the intermediate answers on facts and their proofs.
 use Rattle.std.specs.Prelude.{◌≡◌, ℕ, ◌≤◌, ◌^◌, List, map, length, nat_abs, Vec, Option, Some, None}
 use Rattle.std.specs.declared.alloc.Global.{Global}
 use Rattle.std.specs.List.{All}
@@ -32,7 +32,7 @@ abbrev pub TellsWrong : Program → List LocFact → List (List FactProof) → O
 TellsWrong p kept proofs None = AreRight p kept proofs (length kept)
 TellsWrong p kept proofs (Some n) = IsFirstWrong p kept proofs (record { fact = n; rule = 0 })
 
--- among the proofs of a fact that of this rule is the first that doesn't show it
+-- among the proofs of a fact that of this rule is the first that doesn't certify it
 pub record IsUnshownBy (p : Program) (kept : List LocFact) (f : LocFact) (ps : List FactProof) (t : ℕ) : Type 0 where
   pub position : ℕ
   pub proof : FactProof

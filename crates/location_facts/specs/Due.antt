@@ -1,4 +1,5 @@
--- Rules that are due under a list of facts, and of the others what was told before and stands.
+-- Rules that are due (to be queried again) under a list of facts, and the earlier answers of the others, which remain
+-- valid.
 use Rattle.std.specs.Prelude.{◌≡◌, ⊤, ℕ, ◌-◌, ◌≤◌, List, length, map, Vec, Option, Some, None, slice_get, [], ◌∷◌}
 use Rattle.std.specs.Prelude.{Bool, true, false}
 use Rattle.std.specs.declared.alloc.Global.{Global}
@@ -14,11 +15,11 @@ use Rattle.location_facts.specs.declared.fact.FactProof.{FactProof}
 use Rattle.location_facts.specs.declared.elements.Element.{Element}
 use Rattle.location_facts.specs.declared.implied.Answered.{Answered}
 use Rattle.location_facts.specs.declared.implied.Answered.TheVariants as answers
-use Rattle.location_facts.specs.declared.implied.Under.{Under}
+use Rattle.location_facts.specs.declared.implied.RuleUnderFacts.{RuleUnderFacts}
 use Rattle.location_facts.specs.declared.rules.Wanted.{Wanted}
 use Rattle.location_facts.specs.declared.rules.Wanted.TheVariants.{Nothing, Facts, Everything}
-use Rattle.location_facts.specs.declared.shown.Told.{Told}
-use Rattle.location_facts.specs.declared.shown.Told.TheVariants.{Shown, Against, Missed}
+use Rattle.location_facts.specs.declared.shown.FactVerdict.{FactVerdict}
+use Rattle.location_facts.specs.declared.shown.FactVerdict.TheVariants.{Shown, Against, Missed}
 use Rattle.location_facts.specs.Faults.{rules_into}
 use Rattle.location_facts.specs.Implied.{TellsEmpty, TellsGoal, IsUnder, StandsIn}
 use Rattle.location_facts.specs.Pointed.{HasPoint}
@@ -29,52 +30,52 @@ pub record AreDue (p : Program) (old new : List LocFact) (due : List Bool) : Typ
   pub each : (i : ℕ) (r : Rule) → slice_get due i ≡ Some false → slice_get p.rules i ≡ Some r
       → length (facts_at r.source old) ≡ length (facts_at r.source new)
 
--- what may be asked of the rule at a position: nothing where it isn't due, facts alone where it has a mark
+-- what may be queried of the rule at a position: nothing where it isn't due, only facts where it is marked
 abbrev pub IsWanted : List Bool → List Bool → ℕ → Wanted → Type 0
 IsWanted due points i Nothing = slice_get due i ≡ Some false
 IsWanted due points i Facts = slice_get points i ≡ Some true
 IsWanted due points i Everything = ⊤
 
--- where facts alone are asked the rows have a point
+-- where only facts are queried, the rows have a point
 abbrev pub HasKnownPoint : Wanted → List Form → Type 0
 HasKnownPoint Nothing rows = ⊤
 HasKnownPoint Facts rows = HasPoint rows
 HasKnownPoint Everything rows = ⊤
 
--- nothing is asked
+-- nothing is queried
 abbrev pub IsNothing : Wanted → Type 0
 IsNothing Nothing = ⊤
 IsNothing Facts = ⊥
 IsNothing Everything = ⊥
 
--- what is told of a rule with these combined rows: nothing, where nothing is asked; or it is under the list, and whether
--- it has a point was asked or is known
-abbrev pub TellsRule : ℕ → ℕ → List Form → Wanted → Option Under → Type 0
+-- the state of a rule with these combined rows: none, where nothing is queried; or it is under the list, and whether it
+-- has a point was queried or is known
+abbrev pub TellsRule : ℕ → ℕ → List Form → Wanted → Option RuleUnderFacts → Type 0
 TellsRule pivots unknowns rows asked None = IsNothing asked
 TellsRule pivots unknowns rows asked (Some u) =
     (map form_of u.rows.items ≡ rows) × All (λ w. IsWritable unknowns (form_of w)) u.rows.items
     × TellsEmpty pivots unknowns (map form_of u.rows.items) u.empty
 
 -- a rule is under a list, or it isn't due
-abbrev pub IsUnderIfDue : ℕ → RuleForms → Option Bool → List LocFact → Option Under → Type 0
+abbrev pub IsUnderIfDue : ℕ → RuleForms → Option Bool → List LocFact → Option RuleUnderFacts → Type 0
 IsUnderIfDue pivots r due kept None = due ≡ Some false
 IsUnderIfDue pivots r due kept (Some u) = IsUnder pivots r kept u
 
--- so it is with the rules of a program, in order
-pub record AreUnder (p : Program) (pivots : ℕ) (due : List Bool) (kept : List LocFact) (us : List (Option Under))
+-- the same for the rules of a program, in order
+pub record AreUnder (p : Program) (pivots : ℕ) (due : List Bool) (kept : List LocFact) (us : List (Option RuleUnderFacts))
     : Type 0 where
   pub many : length us ≡ length p.rules
-  pub each : (i : ℕ) (o : Option Under) (r : Rule) → slice_get us i ≡ Some o → slice_get p.rules i ≡ Some r
+  pub each : (i : ℕ) (o : Option RuleUnderFacts) (r : Rule) → slice_get us i ≡ Some o → slice_get p.rules i ≡ Some r
       → IsUnderIfDue pivots (forms_in (Some r)) (slice_get due i) kept o
 
 -- and with some list
-pub record AnyUnder (p : Program) (pivots : ℕ) (us : List (Option Under)) : Type 0 where
+pub record AnyUnder (p : Program) (pivots : ℕ) (us : List (Option RuleUnderFacts)) : Type 0 where
   pub due : List Bool
   pub kept : List LocFact
   pub are : AreUnder p pivots due kept us
 
 -- the rows of a rule that is under a list are few and can be written
-abbrev pub HasRows : ℕ → Option Under → Type 0
+abbrev pub HasRows : ℕ → Option RuleUnderFacts → Type 0
 HasRows unknowns None = ⊤
 HasRows unknowns (Some u) = (length u.rows.items ≤ 371) × All (λ w. IsWritable unknowns (form_of w)) u.rows.items
 
@@ -83,9 +84,9 @@ abbrev pub TellsEarlier : ℕ → ℕ → List Form → Form → Option FactProo
 TellsEarlier pivots unknowns rows goal None = ⊥
 TellsEarlier pivots unknowns rows goal (Some earlier) = TellsGoal pivots unknowns rows goal (Some earlier)
 
--- what is told of a goal over rows by a rule: that they are those of the list under which it is, or that an earlier
--- proof shows it
-abbrev pub TellsAgain : ℕ → ℕ → List Form → Form → Option Under → Option FactProof → Type 0
+-- a rule's answer on a goal over rows: they are the rows of the list under which the rule is, or an earlier proof
+-- certifies the goal
+abbrev pub TellsAgain : ℕ → ℕ → List Form → Form → Option RuleUnderFacts → Option FactProof → Type 0
 TellsAgain pivots unknowns rows goal None earlier = TellsEarlier pivots unknowns rows goal earlier
 TellsAgain pivots unknowns rows goal (Some u) earlier =
     (map form_of u.rows.items ≡ rows) × TellsEmpty pivots unknowns (map form_of u.rows.items) u.empty
@@ -94,7 +95,7 @@ TellsAgain pivots unknowns rows goal (Some u) earlier =
 pub record IsShownEarlier (p : Program) (pivots : ℕ) (due : List Bool) (kept : List LocFact) (f : LocFact)
     (ps : List FactProof) : Type 0 where
   pub each : (k t : ℕ) → slice_get (rules_into p f.symbol) k ≡ Some t → slice_get due (t - 1) ≡ Some false
-      → TellsEarlier pivots (forms_at p t).unknowns (combined (forms_at p t) kept) (row_after (forms_at p t).news f)
+      → TellsEarlier pivots (forms_at p t).unknowns (combined (forms_at p t) kept) (row_after (forms_at p t).new_values f)
       (slice_get ps k)
 
 -- lists of the code, as lists
@@ -120,19 +121,19 @@ HasNoElement (answers.Shown proof) = ⊤
 HasNoElement (answers.Against z) = ⊥
 HasNoElement answers.Missed = ⊤
 
--- the element of an answer, where it has one, stands against the goal over the rows of the rule, which was asked
-abbrev pub StandsOf : ℕ → Form → Option Under → Answered → Type 0
+-- the point or ray of an answer, where it has one, refutes the goal over the rows of the rule that was queried
+abbrev pub StandsOf : ℕ → Form → Option RuleUnderFacts → Answered → Type 0
 StandsOf unknowns goal None a = HasNoElement a
 StandsOf unknowns goal (Some u) a = StandsIn unknowns (map form_of u.rows.items) goal a
 
--- the proofs that are told, where there are some
-abbrev pub proofs_in : Told → Option (Vec FactProof Global)
+-- the proofs of an answer, where there are some
+abbrev pub proofs_in : FactVerdict → Option (Vec FactProof Global)
 proofs_in (Shown proofs) = Some proofs
 proofs_in (Against e) = None
 proofs_in Missed = None
 
--- the element that is told, where there is one
-abbrev pub elements_in : Told → List Element
+-- the point or ray of an answer, where there is one
+abbrev pub elements_in : FactVerdict → List Element
 elements_in (Shown proofs) = []
 elements_in (Against e) = e ∷ []
 elements_in Missed = []

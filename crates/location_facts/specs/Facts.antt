@@ -4,8 +4,8 @@ use Rattle.poly_terms.specs.model.Programs.{Program}
 use Rattle.poly_terms.specs.model.Runs.{Config, Step, IsRun, place_value}
 use Rattle.location_facts.specs.declared.fact.LocFact.{LocFact}
 
--- a configuration meets a fact: where it stands at the fact's symbol, the value at place plus, less the value at place
--- minus, is at least least; place 0 stands for the number 0
+-- a configuration meets a fact: if it is at the fact's symbol, the value at place plus, less the value at place minus,
+-- is at least least; place 0 represents the number 0
 abbrev pub IsMetAt : LocFact → Config → Type 0
 IsMetAt f c = c.at ≡ f.symbol → f.least ≤ℤ (place_value c f.plus -ℤ place_value c f.minus)
 

@@ -1,4 +1,4 @@
--- Facts with their proofs, and the first thing that is wrong with them.
+-- Facts with their proofs, and the first fault of these.
 use Rattle.std.specs.Prelude.{◌≡◌, ◌⊎◌, ℕ, zero, suc, ◌+◌, ◌<◌, ◌≤◌, List, map, filter, length, Option, Some, None}
 use Rattle.std.specs.Prelude.{slice_get}
 use Rattle.std.specs.List.{All, range_with_len}
@@ -30,7 +30,7 @@ abbrev pub least_number : List LocFact → ℕ → ℕ
 least_number kept zero = 0
 least_number kept (suc i) = suc (number_in (slice_get kept i))
 
--- at a position of the lists stands the fact with these proofs
+-- the fact with these proofs is at a position of the lists
 pub record StandsAt (kept : List LocFact) (proofs : List (List FactProof)) (i : ℕ) (f : LocFact) (ps : List FactProof)
     : Type 0 where
   pub fact : slice_get kept i ≡ Some f
@@ -57,9 +57,9 @@ pub record IsProofFor (p : Program) (f : LocFact) (ps : List FactProof) (k t : �
 
 -- the proof shows the fact after rule t
 abbrev pub ShowsFact : Program → List LocFact → LocFact → ℕ → FactProof → Type 0
-ShowsFact p kept f t proof = Shows (combined (forms_at p t) kept) (row_after (forms_at p t).news f) proof
+ShowsFact p kept f t proof = Shows (combined (forms_at p t) kept) (row_after (forms_at p t).new_values f) proof
 
--- the first n proofs of a fact show it
+-- the first n proofs of a fact certify it
 abbrev pub ProofsShow : Program → List LocFact → LocFact → List FactProof → ℕ → Type 0
 ProofsShow p kept f ps n =
     (k t : ℕ) (proof : FactProof) → k < n → IsProofFor p f ps k t proof → ShowsFact p kept f t proof
@@ -96,7 +96,7 @@ pub record IsFirstWrong (p : Program) (kept : List LocFact) (proofs : List (List
     pub fact : x.fact ≡ position + 1
     pub rule : x.rule ≡ 0
 
--- all facts and shapes are right, and the proof of this fact by this rule is the first that doesn't show it
+-- all facts and shapes are right, and the proof of this fact by this rule is the first that doesn't certify it
 pub record IsFirstUnshown (p : Program) (kept : List LocFact) (proofs : List (List FactProof)) (x : FactFault) : Type 0
   where
     pub one_each : length proofs ≡ length kept

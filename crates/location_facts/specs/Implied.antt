@@ -1,4 +1,4 @@
--- Rules under a list of facts, and what is told of facts and rules on the way to the next list.
+-- Rules under a list of facts, and the answers on facts and rules from which the next list is made.
 use Rattle.std.specs.Prelude.{◌≡◌, ◌⊎◌, ⊤, ℕ, suc, ◌<◌, ◌≤◌, List, [], ◌∷◌, ◌++◌, length, map, Vec, Option, Some, None}
 use Rattle.std.specs.Prelude.{slice_get}
 use Rattle.std.specs.declared.alloc.Global.{Global}
@@ -15,7 +15,7 @@ use Rattle.location_facts.specs.declared.fact.LocFact.{LocFact}
 use Rattle.location_facts.specs.declared.fact.FactProof.{FactProof}
 use Rattle.location_facts.specs.declared.implied.Answered.{Answered}
 use Rattle.location_facts.specs.declared.implied.Answered.TheVariants.{Shown, Against, Missed}
-use Rattle.location_facts.specs.declared.implied.Under.{Under}
+use Rattle.location_facts.specs.declared.implied.RuleUnderFacts.{RuleUnderFacts}
 use Rattle.location_facts.specs.Candidates.{IsCandidate, order_number}
 use Rattle.location_facts.specs.Certificates.{IsWithinLimit, Shows}
 use Rattle.location_facts.specs.Faults.{rules_into, StandsAt, ProofsShow}
@@ -50,21 +50,21 @@ proof_in (Shown proof) = Some proof
 proof_in (Against z) = None
 proof_in Missed = None
 
--- the point or ray of an answer, where it has one, stands against the goal
+-- the point or ray of an answer, where it has one, refutes the goal
 abbrev pub StandsIn : ℕ → List Form → Form → Answered → Type 0
 StandsIn unknowns rows goal (Shown proof) = ⊤
 StandsIn unknowns rows goal (Against z) = IsAgainst unknowns rows goal z.parts.items z.den
 StandsIn unknowns rows goal Missed = ⊤
 
 -- a rule under a list of facts: its combined rows, which can be written, and whether they have no point
-pub record IsUnder (pivots : ℕ) (r : RuleForms) (kept : List LocFact) (u : Under) : Type 0 where
+pub record IsUnder (pivots : ℕ) (r : RuleForms) (kept : List LocFact) (u : RuleUnderFacts) : Type 0 where
   pub rows : map form_of u.rows.items ≡ combined r kept
   pub writable : All (λ w. IsWritable r.unknowns (form_of w)) u.rows.items
   pub few : length u.rows.items ≤ 371
   pub empty : TellsEmpty pivots r.unknowns (combined r kept) u.empty
 
--- every rule into its symbol implies a fact under a list, and there is a proof for each that shows it, within the
--- limit; or one of them doesn't imply it
+-- every rule into its symbol implies a fact under a list, with a certificate for each within the limit; or one of them
+-- doesn't imply it
 abbrev pub TellsProofs : Program → ℕ → List LocFact → LocFact → Option (Vec FactProof Global) → Type 0
 TellsProofs p pivots kept f None = ¬ IsImpliedByAll p pivots kept f
 TellsProofs p pivots kept f (Some proofs) =
@@ -72,7 +72,7 @@ TellsProofs p pivots kept f (Some proofs) =
     × All IsWithinLimit proofs.items
     × ProofsShow p kept f proofs.items (length proofs.items)
 
--- facts that are tried, in their order, each once: each has a number over that of the one before, the first at least k
+-- candidate facts, in their order, each once: each has a number over that of the one before, the first at least k
 abbrev pub Ascend : Program → ℕ → List LocFact → Type 0
 Ascend p k [] = ⊤
 Ascend p k (f ∷ kept) = IsCandidate p f × (k ≤ order_number f) × Ascend p (suc (order_number f)) kept
@@ -91,7 +91,7 @@ pub record AreProofsUnder (p : Program) (kept found : List LocFact) (proofs : Li
   pub one_each : length proofs ≡ length found
   pub each : (i : ℕ) (f : LocFact) (ps : List FactProof) → StandsAt found proofs i f ps → HasProofs p kept f ps
 
--- the first n rules into a symbol imply a fact under a list, and proofs show it
+-- the first n rules into a symbol imply a fact under a list, with proofs that certify it
 pub record AreImplied (p : Program) (pivots : ℕ) (kept : List LocFact) (f : LocFact) (proofs : List FactProof) (n : ℕ)
     : Type 0 where
   pub numbers : All IsWithinLimit proofs
@@ -99,7 +99,7 @@ pub record AreImplied (p : Program) (pivots : ℕ) (kept : List LocFact) (f : Lo
   pub implied : (k t : ℕ) → k < n → slice_get (rules_into p f.symbol) k ≡ Some t
       → IsImplied pivots (forms_at p t) kept f
 
--- a fact that has proofs stands with them behind those that were there; one that has none doesn't
+-- a fact that has proofs is appended with them to those that were there; one that has none isn't
 abbrev pub IsPushed : LocFact → Option (Vec FactProof Global) → List LocFact → List LocFact
     → List (Vec FactProof Global) → List (Vec FactProof Global) → Type 0
 IsPushed f None facts then_facts lists then_lists = (then_facts ≡ facts) × (then_lists ≡ lists)

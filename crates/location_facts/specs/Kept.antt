@@ -12,7 +12,7 @@ use Rattle.location_facts.specs.declared.fact.LocFact.{LocFact}
 use Rattle.location_facts.specs.Candidates.{candidates}
 use Rattle.location_facts.specs.Rows.{row_after, combined}
 
--- whether a goal follows from rows over so many unknowns
+-- whether a goal follows from rows over this many unknowns
 abbrev pub goal_question : ℕ → List Form → Form → Question
 goal_question unknowns rows goal = record {
   parameters = 0;
@@ -35,7 +35,7 @@ pub record IsSolvedWithin (pivots : ℕ) (q : LinearProgram) : Type 0 where
 abbrev pub IsImplied : ℕ → RuleForms → List LocFact → LocFact → Type 0
 IsImplied pivots r kept f =
     IsSolvedWithin pivots (goal_program r.unknowns (combined r kept) minus_one)
-    ⊎ IsSolvedWithin pivots (goal_program r.unknowns (combined r kept) (row_after r.news f))
+    ⊎ IsSolvedWithin pivots (goal_program r.unknowns (combined r kept) (row_after r.new_values f))
 
 -- every rule into its symbol implies the fact under the list
 pub record IsImpliedByAll (p : Program) (pivots : ℕ) (kept : List LocFact) (f : LocFact) : Type 0 where
@@ -52,11 +52,11 @@ HasThose Keeps (f ∷ facts) those =
 abbrev pub IsNext : Program → ℕ → List LocFact → List LocFact → Type 0
 IsNext p pivots old new = HasThose (IsImpliedByAll p pivots old) old new
 
--- the sequence that goes on from a list ends with the first list of which all facts are kept
+-- the sequence that continues from a list ends with the first list all of whose facts are kept
 pub data EndsWith (p : Program) (pivots : ℕ) (end : List LocFact) : List LocFact → Type 0 where
   Stays : {kept : List LocFact} → kept ≡ end → IsNext p pivots kept kept → EndsWith p pivots end kept
   GoesOn : {old new : List LocFact} → IsNext p pivots old new → EndsWith p pivots end new → EndsWith p pivots end old
 
--- the facts that are kept: the end of the sequence that begins with all facts that are tried
+-- the facts that are kept: the end of the sequence that begins with all candidate facts
 abbrev pub AreKept : Program → ℕ → List LocFact → Type 0
 AreKept p pivots end = EndsWith p pivots end (candidates p)

@@ -1,14 +1,14 @@
--- Which facts are tried and kept, what proved ones are worth, and what strengthening changes.
+-- Laws of which facts are candidates and kept, of what proved ones imply, and of what strengthening changes.
 use Rattle.std.specs.Prelude.{◌≡◌, ◌↔◌, ◌⊎◌, ℕ, ◌+◌, ◌<◌, List, ℤ, Some, slice_get}
 use Rattle.std.specs.List.{All, Contains}
 use Rattle.poly_terms.specs.linear_forms.Certificates.{minus_one}
 use Rattle.poly_terms.specs.linear_forms.LinearProgram.{LinearProgram}
 use Rattle.poly_terms.specs.linear_forms.RuleQuestions.{RuleForms}
 use Rattle.lp_builder.specs.simplex_core.declared.answers.Answer.{Answer}
-use Rattle.lp_builder.specs.simplex_core.declared.answers.Answer.TheVariants.{Solution, Dual, Tripped}
+use Rattle.lp_builder.specs.simplex_core.declared.answers.Answer.TheVariants.{Solution, Dual, OutOfLimits}
 use Rattle.lp_builder.specs.simplex_core.Trips.{IsWholeAnswer}
 use Rattle.poly_terms.specs.model.Bounds.{Bound}
-use Rattle.poly_terms.specs.model.Facts.{Fact, Holds, HoldsTotal}
+use Rattle.poly_terms.specs.model.Facts.{Fact, Holds, HoldsLength}
 use Rattle.poly_terms.specs.model.Programs.{Program}
 use Rattle.poly_terms.specs.model.Runs.{Config, Step, IsRun}
 use Rattle.its_model.specs.Valid.{IsValid}
@@ -23,20 +23,20 @@ use Rattle.location_facts.specs.Kept.{IsNext, AreKept, EndsWith, goal_program, I
 use Rattle.location_facts.specs.Rows.{combined, row_after}
 use Rattle.location_facts.specs.Strengthening.{strengthened}
 
--- the list of the facts that are tried has each of them and no others, in order: each has a number over that of the one
+-- the list of the candidate facts has each of them and no others, in order: each has a number over that of the one
 -- before it
 pub record CandidatesAreListed : Type 0 where
   pub listed : (p : Program) (f : LocFact) → Contains (candidates p) f ↔ IsCandidate p f
   pub ordered : (p : Program) (i : ℕ) (f g : LocFact) → slice_get (candidates p) i ≡ Some f
       → slice_get (candidates p) (i + 1) ≡ Some g → order_number f < order_number g
 
--- facts that are tried and hold on every run of a program
+-- candidate facts and hold on every run of a program
 pub record AreHeld (p : Program) (kept : List LocFact) : Type 0 where
   pub candidates : All (IsCandidate p) kept
   pub hold : All (HoldsAlways p) kept
 
--- facts that hold by induction along runs hold on every run of a valid program; facts with proofs of which nothing is
--- wrong hold by induction, whoever found them, and so they hold on every run, and they are tried
+-- facts that hold by induction along runs hold on every run of a valid program; facts with faultless proofs hold by
+-- induction, whoever found them, and so they hold on every run, and they are candidates
 pub record ProvedFactsHold : Type 0 where
   pub inductive : (p : Program) (facts : List LocFact) → IsValid p → AreInductive p facts → All (HoldsAlways p) facts
   pub by_induction : (p : Program) (kept : List LocFact) (proofs : List (List FactProof)) → AreProved p kept proofs
@@ -51,8 +51,8 @@ pub record FaultsAreDecided : Type 0 where
   pub one : (p : Program) (kept : List LocFact) (proofs : List (List FactProof)) (x y : FactFault)
       → IsFirstFault p kept proofs x → IsFirstFault p kept proofs y → x ≡ y
 
--- strengthened by facts that are tried a valid program is valid; by such as hold, too, it has the same runs, and each
--- bound of it holds for the program itself
+-- strengthened by candidate facts a valid program is valid; by such as hold, too, it has the same runs, and each bound
+-- of it holds for the program itself
 pub record StrengtheningChangesNoRun : Type 0 where
   pub valid : (p : Program) (kept : List LocFact) → IsValid p → All (IsCandidate p) kept → IsValid (strengthened kept p)
   pub runs : (p : Program) (kept : List LocFact) → IsValid p → AreHeld p kept → (start : List ℤ) (steps : List Step)
@@ -60,7 +60,7 @@ pub record StrengtheningChangesNoRun : Type 0 where
   pub bounds : (p : Program) (kept : List LocFact) → IsValid p → AreHeld p kept → (fact : Fact)
       → Holds (strengthened kept p) fact → Holds p fact
   pub totals : (p : Program) (kept : List LocFact) → IsValid p → AreHeld p kept → (bound : Bound)
-      → HoldsTotal (strengthened kept p) bound → HoldsTotal p bound
+      → HoldsLength (strengthened kept p) bound → HoldsLength p bound
 
 -- a list has one next list at most, and the sequence that goes on from a list one end; so at most one list of facts is
 -- kept
@@ -76,14 +76,14 @@ pub record KeptFactsAreOne : Type 0 where
 abbrev pub SaysSolution : Answer → Type 0
 SaysSolution (Solution s) = Unit {0}
 SaysSolution (Dual s) = ⊥
-SaysSolution (Tripped c) = ⊥
+SaysSolution (OutOfLimits c) = ⊥
 
--- a linear program is solved within a number of pivots exactly where it is answered by a solution: a dual shows that it
--- has none. So what answers the two linear programs of a rule and a fact tells whether the rule implies the fact
+-- a linear program is solved within a number of pivots exactly where its answer is a solution: a dual shows that it has
+-- none. So the answers of the two linear programs of a rule and a fact decide whether the rule implies the fact
 pub record AnswersTellImplied : Type 0 where
   pub solved : (q : LinearProgram) (pivots : ℕ) (a : Answer) → IsWholeAnswer q pivots a
       → SaysSolution a ↔ IsSolvedWithin pivots q
   pub implied : (pivots : ℕ) (r : RuleForms) (kept : List LocFact) (f : LocFact) (a b : Answer)
       → IsWholeAnswer (goal_program r.unknowns (combined r kept) minus_one) pivots a
-      → IsWholeAnswer (goal_program r.unknowns (combined r kept) (row_after r.news f)) pivots b
+      → IsWholeAnswer (goal_program r.unknowns (combined r kept) (row_after r.new_values f)) pivots b
       → (SaysSolution a ⊎ SaysSolution b) ↔ IsImplied pivots r kept f

@@ -5,7 +5,7 @@ use Rattle.poly_terms.specs.linear_forms.Points.{IsPoint}
 use Rattle.poly_terms.specs.model.Programs.{Program, Rule}
 use Rattle.rule_questions.specs.ProgramQuestions.{forms_in}
 use Rattle.location_facts.specs.declared.fact.LocFact.{LocFact}
-use Rattle.location_facts.specs.declared.implied.Under.{Under}
+use Rattle.location_facts.specs.declared.implied.RuleUnderFacts.{RuleUnderFacts}
 use Rattle.location_facts.specs.Rows.{combined}
 
 -- rows have a point
@@ -15,7 +15,7 @@ pub record HasPoint (rows : List Form) : Type 0 where
   pub is : IsPoint rows at den
 
 -- where a rule that is under a list says that it has a point, these rows have one
-abbrev pub TellsPoint : List Form → Option Under → Type 0
+abbrev pub TellsPoint : List Form → Option RuleUnderFacts → Type 0
 TellsPoint rows None = ⊤
 TellsPoint rows (Some u) = u.has_point ≡ true → HasPoint rows
 

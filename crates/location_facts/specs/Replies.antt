@@ -1,4 +1,4 @@
--- What is answered of whether a goal follows from rows.
+-- The answers on whether a goal follows from rows.
 use Rattle.std.specs.Prelude.{◌≡◌, ℕ, ◌≤◌, List, length, ℤ, pos, ◌<ℤ◌, nat_abs}
 use Rattle.std.specs.List.{All}
 use Rattle.poly_terms.specs.linear_forms.Certificates.{Implies}
@@ -8,7 +8,7 @@ use Rattle.poly_terms.specs.linear_forms.Limits.{certificate_limit, point_limit}
 use Rattle.poly_terms.specs.linear_forms.Points.{Meets}
 use Rattle.farkas_cert.specs.Sizes.{AreWithinLimit}
 use Rattle.location_facts.specs.declared.asking.Reply.{Reply}
-use Rattle.location_facts.specs.declared.asking.Reply.TheVariants.{Follows, Fails, Tripped}
+use Rattle.location_facts.specs.declared.asking.Reply.TheVariants.{Follows, Fails, OutOfLimits}
 use Rattle.location_facts.specs.Kept.{goal_program, IsSolvedWithin}
 
 -- the goal, a number of times, follows from the rows by multipliers; number and multipliers are within the limit
@@ -27,11 +27,11 @@ pub record IsAgainst (unknowns : ℕ) (rows : List Form) (goal : Form) (parts : 
   pub meets : Meets rows (at parts) (pos den)
   pub below : form_value goal (at parts) (pos den) <ℤ pos 0
 
--- what an answer says, within a number of pivots: the linear program is solved, and by which multipliers the goal
--- follows; or it isn't, and a point or ray stands against the goal; or it isn't
+-- the meaning of an answer, within a number of pivots: the linear program is solved, with multipliers that certify the
+-- goal; or it isn't, and a point or ray refutes the goal; or it isn't
 abbrev pub IsReply : ℕ → ℕ → List Form → Form → Reply → Type 0
 IsReply pivots unknowns rows goal (Follows multipliers times) =
     IsSolvedWithin pivots (goal_program unknowns rows goal) × FollowsBy rows goal multipliers.items times
 IsReply pivots unknowns rows goal (Fails z) =
     (¬ IsSolvedWithin pivots (goal_program unknowns rows goal)) × IsAgainst unknowns rows goal z.parts.items z.den
-IsReply pivots unknowns rows goal Tripped = ¬ IsSolvedWithin pivots (goal_program unknowns rows goal)
+IsReply pivots unknowns rows goal OutOfLimits = ¬ IsSolvedWithin pivots (goal_program unknowns rows goal)

@@ -13,8 +13,8 @@ value_before (suc i) = unknown_form i
 
 -- the value at a place after a rule with these new values
 abbrev pub value_after : List Form → ℕ → Form
-value_after news zero = zero_form
-value_after news (suc i) = slice_index_or news i zero_form
+value_after new_values zero = zero_form
+value_after new_values (suc i) = slice_index_or new_values i zero_form
 
 -- a form less a number
 abbrev pub lowered : Form → ℤ → Form
@@ -30,7 +30,7 @@ row_before f = margin (value_before f.plus) (value_before f.minus) f.least
 
 -- a fact at the target of a rule with these new values, as a goal
 abbrev pub row_after : List Form → LocFact → Form
-row_after news f = margin (value_after news f.plus) (value_after news f.minus) f.least
+row_after new_values f = margin (value_after new_values f.plus) (value_after new_values f.minus) f.least
 
 -- the facts of a symbol, in order
 abbrev pub facts_at : ℕ → List LocFact → List LocFact

@@ -1,4 +1,4 @@
--- A program whose guards say, too, which facts hold at the sources of its rules.
+-- Programs strengthened by facts: each guard also states the facts that hold at the source of its rule.
 use Rattle.std.specs.Prelude.{ℕ, zero, suc, ◌+◌, ◌-◌, ◌&&◌, nat_eq, if◌then◌else◌, List, [], ◌∷◌, ◌++◌, map, take}
 use Rattle.std.specs.Prelude.{length}
 use Rattle.std.specs.Prelude.{Option, Some, None, ℤ, pos, int_lt}
@@ -55,7 +55,7 @@ strongest_atoms facts = atoms_with facts (range_with_len 0 9)
 abbrev pub room_for : Rule → ℕ
 room_for r = atom_limit - (length r.guard + cost_atoms r.cost)
 
--- behind the atoms of a rule's guard stand those of the facts at its source, as many as there is room for
+-- a rule whose guard is followed by the atoms of the facts at its source, as many as there is room for
 abbrev pub strengthened_rule : List LocFact → Rule → Rule
 strengthened_rule kept r = record {
   source = r.source;
@@ -68,7 +68,7 @@ strengthened_rule kept r = record {
   cost = r.cost;
 }
 
--- so it is with each rule of a program
+-- the same for each rule of a program
 abbrev pub strengthened : List LocFact → Program → Program
 strengthened kept p = record {
   symbols = p.symbols;

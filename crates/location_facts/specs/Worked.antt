@@ -77,11 +77,11 @@ branching = record counting {
 abbrev pub three : ℕ → ℕ → ℕ → List LocFact
 three s i j = fact s i j (negsuc 0) ∷ fact s i j (pos 0) ∷ fact s i j (pos 1) ∷ []
 
--- the facts that are tried are those of l1: first -A >= -1, 0 and 1, and then A >= -1, 0 and 1; the first has the
--- number 246 and the last one 272. None is of l0, of a second place, of twice the same place, or has the least 2 or -2.
--- Of two places come first those with plus 0, then those with plus 1, by minus, and then those with plus 2; those of l2
--- come behind those of l1. Of nine places the eighth is the last
-pub record CandidatesAreTold : Type 0 where
+-- the candidate facts are those of l1: first -A >= -1, 0 and 1, and then A >= -1, 0 and 1; the first has the number 246
+-- and the last one 272. None is of l0, of a second place, of twice the same place, or has the least 2 or -2. Of two
+-- places come first those with plus 0, then those with plus 1, by minus, and then those with plus 2; those of l2 come
+-- behind those of l1. Of nine places the eighth is the last
+pub record CandidatesAreWorkedOut : Type 0 where
   pub all : candidates counting
       ≡ fact 1 0 1 (negsuc 0) ∷ fact 1 0 1 (pos 0) ∷ fact 1 0 1 (pos 1)
       ∷ fact 1 1 0 (negsuc 0) ∷ fact 1 1 0 (pos 0) ∷ fact 1 1 0 (pos 1) ∷ []
@@ -108,8 +108,8 @@ pub record CandidatesAreTold : Type 0 where
   pub least_first : least_number (at_most_one ∷ positive ∷ []) 0 ≡ 0
   pub least_second : least_number (at_most_one ∷ positive ∷ []) 1 ≡ 247
 
--- l1(0) meets A >= 0 and -A >= -1, not A >= 1; l1(2) doesn't meet -A >= -1; l0(-5) meets what is said of l1. On every
--- run A >= 0 holds at l1; A >= 1 doesn't, as one from l0(1) comes to l1(0)
+-- l1(0) meets A >= 0 and -A >= -1, not A >= 1; l1(2) doesn't meet -A >= -1; l0(-5) meets all facts of l1. On every run
+-- A >= 0 holds at l1; A >= 1 doesn't, as a run from l0(1) reaches l1(0)
 pub record FactsAreMet : Type 0 where
   pub natural_met : IsMetAt natural (record { at = 1; values = pos 0 ∷ [] })
   pub at_most_one_met : IsMetAt at_most_one (record { at = 1; values = pos 0 ∷ [] })
@@ -122,11 +122,11 @@ pub record FactsAreMet : Type 0 where
 -- A >= 1 is the row A - 1 at the source, and after the second rule the goal A - 2; -A >= -1 is 1 - A, and 2 - A. The
 -- combined rows of the second rule are its own A - 1 and then A; the first one has no fact at its source. Both lead to
 -- l1, and none to l0
-pub record RowsAreTold : Type 0 where
+pub record RowsAreWorked : Type 0 where
   pub before : row_before positive ≡ line (pos 1) (negsuc 0)
-  pub after : row_after (forms_at counting 2).news positive ≡ line (pos 1) (negsuc 1)
+  pub after : row_after (forms_at counting 2).new_values positive ≡ line (pos 1) (negsuc 1)
   pub before_minus : row_before at_most_one ≡ line (negsuc 0) (pos 1)
-  pub after_minus : row_after (forms_at counting 2).news at_most_one ≡ line (negsuc 0) (pos 2)
+  pub after_minus : row_after (forms_at counting 2).new_values at_most_one ≡ line (negsuc 0) (pos 2)
   pub difference : row_before (fact 1 2 1 (negsuc 0)) ≡ record { coefs = negsuc 0 ∷ pos 1 ∷ []; constant = pos 1 }
   pub second : combined (forms_at counting 2) (natural ∷ []) ≡ line (pos 1) (negsuc 0) ∷ line (pos 1) (pos 0) ∷ []
   pub first : combined (forms_at counting 1) (natural ∷ []) ≡ line (pos 1) (negsuc 0) ∷ []
@@ -144,11 +144,11 @@ two_rows =
 -- and 1, and neither A >= 0 nor, with the second one 0, 2*A >= 0. That the rule can't be used is shown where its own
 -- row A - 1 and -A at its source, 1 and 1 times, make -1, and not by the first alone. By 1 and 0 the second rule shows
 -- A >= 0 under A >= 0
-pub record CertificatesAreTold : Type 0 where
+pub record CertificatesAreWorked : Type 0 where
   pub by_first : Implies (combined (forms_at counting 1) (natural ∷ [])) (1 ∷ [])
-      (row_after (forms_at counting 1).news natural)
+      (row_after (forms_at counting 1).new_values natural)
   pub by_second : Implies (combined (forms_at counting 2) (natural ∷ [])) (1 ∷ 0 ∷ [])
-      (row_after (forms_at counting 2).news natural)
+      (row_after (forms_at counting 2).new_values natural)
   pub shown : (first : Vec ℕ Global) → first.items ≡ 1 ∷ 0 ∷ [] → IsShownBy counting 2 (natural ∷ []) natural
   pub not_positive : ¬ (IsShownBy counting 2 (positive ∷ []) positive)
   pub twice : (ones : Vec ℕ Global) → ones.items ≡ 1 ∷ 1 ∷ [] → Shows two_rows (line (pos 1) (pos 0)) (Implied ones 2)
@@ -157,16 +157,16 @@ pub record CertificatesAreTold : Type 0 where
   pub not_by_first : (first : Vec ℕ Global) → first.items ≡ 1 ∷ 0 ∷ []
       → ¬ (Shows two_rows (line (pos 1) (pos 0)) (Implied first 2))
   pub empty : (ones : Vec ℕ Global) → ones.items ≡ 1 ∷ 1 ∷ []
-      → Shows (combined (forms_at counting 2) (fact 1 0 1 (pos 0) ∷ [])) (row_after (forms_at counting 2).news positive)
+      → Shows (combined (forms_at counting 2) (fact 1 0 1 (pos 0) ∷ [])) (row_after (forms_at counting 2).new_values positive)
       (Empty ones)
   pub not_empty : (first : Vec ℕ Global) → first.items ≡ 1 ∷ 0 ∷ []
       → ¬ (Shows (combined (forms_at counting 2) (fact 1 0 1 (pos 0) ∷ []))
-      (row_after (forms_at counting 2).news positive) (Empty first))
-  pub limit : (most : Vec ℕ Global) → most.items ≡ 36028797018963968 ∷ []
-      → IsWithinLimit (Implied most 36028797018963968)
-  pub over : (more : Vec ℕ Global) → more.items ≡ 36028797018963969 ∷ [] → ¬ (IsWithinLimit (Implied more 1))
-  pub over_empty : (more : Vec ℕ Global) → more.items ≡ 36028797018963969 ∷ [] → ¬ (IsWithinLimit (Empty more))
-  pub over_den : (one : Vec ℕ Global) → one.items ≡ 1 ∷ [] → ¬ (IsWithinLimit (Implied one 36028797018963969))
+      (row_after (forms_at counting 2).new_values positive) (Empty first))
+  pub limit : (most : Vec ℕ Global) → most.items ≡ 72057594037927936 ∷ []
+      → IsWithinLimit (Implied most 72057594037927936)
+  pub over : (more : Vec ℕ Global) → more.items ≡ 72057594037927937 ∷ [] → ¬ (IsWithinLimit (Implied more 1))
+  pub over_empty : (more : Vec ℕ Global) → more.items ≡ 72057594037927937 ∷ [] → ¬ (IsWithinLimit (Empty more))
+  pub over_den : (one : Vec ℕ Global) → one.items ≡ 1 ∷ [] → ¬ (IsWithinLimit (Implied one 72057594037927937))
 
 -- the atoms A >= 0 and -A >= -1
 abbrev pub natural_atom : Atom
@@ -175,14 +175,14 @@ natural_atom = Compare (Variable 0) AtLeast (Literal (pos 0))
 abbrev pub at_most_one_atom : Atom
 at_most_one_atom = Compare (Negation (Variable 0)) AtLeast (Literal (negsuc 0))
 
--- the second rule with so many atoms
+-- the second rule with this many atoms
 abbrev pub long : ℕ → Rule
 long n = record falling { guard = replicate n Always }
 
 -- of A >= -1, A >= 1 and A >= 0 the atom is A >= 1; with a fact of each kind the atoms go by plus and then by minus, up
 -- to the eighth place of both; a rule gets those of its source, behind its own, and so does each rule of a program. Of
 -- two atoms one with 63 atoms gets the first; with 64 it gets none, and with 63 and a cost none either
-pub record StrengtheningIsTold : Type 0 where
+pub record StrengtheningIsWorkedOut : Type 0 where
   pub greatest : strongest_atoms (fact 1 1 0 (negsuc 0) ∷ positive ∷ natural ∷ [])
       ≡ Compare (Variable 0) AtLeast (Literal (pos 1)) ∷ []
   pub ordered : strongest_atoms (natural ∷ fact 1 1 2 (pos 0) ∷ at_most_one ∷ [])
@@ -209,7 +209,7 @@ pub record StrengtheningIsTold : Type 0 where
 
 -- of three facts those with the least 0 are two, in their order, and not the other way round; of two facts they are
 -- one, and neither none nor both
-pub record ThoseAreTold : Type 0 where
+pub record ThoseAreWorkedOut : Type 0 where
   pub those : HasThose (λ f. f.least ≡ pos 0) (natural ∷ positive ∷ fact 1 0 1 (pos 0) ∷ [])
       (natural ∷ fact 1 0 1 (pos 0) ∷ [])
   pub turned : ¬ (HasThose (λ f. f.least ≡ pos 0) (natural ∷ positive ∷ fact 1 0 1 (pos 0) ∷ [])
@@ -219,9 +219,9 @@ pub record ThoseAreTold : Type 0 where
 
 -- all of it
 pub record FactsAreWorkedOut : Type 0 where
-  pub candidates_are : CandidatesAreTold
+  pub candidates_are : CandidatesAreWorkedOut
   pub met : FactsAreMet
-  pub rows : RowsAreTold
-  pub certificates : CertificatesAreTold
-  pub strengthening : StrengtheningIsTold
-  pub those : ThoseAreTold
+  pub rows : RowsAreWorked
+  pub certificates : CertificatesAreWorked
+  pub strengthening : StrengtheningIsWorkedOut
+  pub those : ThoseAreWorkedOut

@@ -1,4 +1,4 @@
--- Whether something is wrong with facts of a small program and their proofs, and what first, worked out by hand.
+-- Worked values of faults of facts and their proofs, for a small program.
 use Rattle.std.specs.Prelude.{◌≡◌, ℕ, List, [], ◌∷◌, Vec, pos}
 use Rattle.std.specs.declared.alloc.Global.{Global}
 use Rattle.location_facts.specs.declared.fact.FactProof.{FactProof}
@@ -17,16 +17,16 @@ two_proofs first second = Implied first 1 ∷ Implied second 1 ∷ []
 
 -- of the program that counts down A >= 0 is shown at l1 by the multipliers 1 for the first rule, and 1 and 0 for the
 -- second; nothing is wrong
-pub record ProvedIsTold : Type 0 where
+pub record ProvedIsWorkedOut : Type 0 where
   pub nothing : AreProved counting [] []
   pub natural_is : (one first : Vec ℕ Global) → one.items ≡ 1 ∷ [] → first.items ≡ 1 ∷ 0 ∷ []
       → AreProved counting (natural ∷ []) (two_proofs one first ∷ [])
 
 -- a list of proofs that is missing or one too many is fault (0, 0); one proof in place of two, three, the denominator
--- 0, and a multiplier or a denominator over 2^55 are (1, 0), also where nothing is shown; the same fact again is
+-- 0, and a multiplier or a denominator over 2^56 are (1, 0), also where nothing is shown; the same fact again is
 -- (2, 0), and so is a lesser one; both come before a proof that doesn't show the first fact. Of two facts with too few
 -- proofs it is the first, and a list of proofs that is missing comes before a fact of the start symbol
-pub record ShapesAreTold : Type 0 where
+pub record ShapesAreWorkedOut : Type 0 where
   pub missing : IsFirstFault counting (natural ∷ []) [] (fault 0 0)
   pub too_many : (proofs : List FactProof) → IsFirstFault counting [] (proofs ∷ []) (fault 0 0)
   pub one_proof : (any : Vec ℕ Global) → IsFirstFault counting (natural ∷ []) ((Implied any 1 ∷ []) ∷ []) (fault 1 0)
@@ -35,8 +35,8 @@ pub record ShapesAreTold : Type 0 where
   pub no_denominator : (one any : Vec ℕ Global)
       → IsFirstFault counting (natural ∷ []) ((Implied one 0 ∷ Implied any 1 ∷ []) ∷ []) (fault 1 0)
   pub large_denominator : (one any : Vec ℕ Global)
-      → IsFirstFault counting (natural ∷ []) ((Implied one 1 ∷ Implied any 36028797018963969 ∷ []) ∷ []) (fault 1 0)
-  pub large_multiplier : (more any : Vec ℕ Global) → more.items ≡ 36028797018963969 ∷ []
+      → IsFirstFault counting (natural ∷ []) ((Implied one 1 ∷ Implied any 72057594037927937 ∷ []) ∷ []) (fault 1 0)
+  pub large_multiplier : (more any : Vec ℕ Global) → more.items ≡ 72057594037927937 ∷ []
       → IsFirstFault counting (natural ∷ []) (two_proofs more any ∷ []) (fault 1 0)
   pub again : (none first : Vec ℕ Global) → none.items ≡ 0 ∷ [] → first.items ≡ 1 ∷ 0 ∷ []
       → IsFirstFault counting (natural ∷ natural ∷ []) (two_proofs none first ∷ two_proofs none first ∷ []) (fault 2 0)
@@ -46,10 +46,11 @@ pub record ShapesAreTold : Type 0 where
       → IsFirstFault counting (natural ∷ positive ∷ []) ((Implied any 1 ∷ []) ∷ (Implied any 1 ∷ []) ∷ []) (fault 1 0)
   pub uneven_first : IsFirstFault counting (fact_of 0 1 0 (pos 0) ∷ natural ∷ []) ([] ∷ []) (fault 0 0)
 
--- the multiplier 0 shows nothing of the first rule, fault (1, 1), whatever shows the second; with 1 for the first rule,
--- 0 and 0, or one multiplier in place of two, show nothing of the second, (1, 2). Of two facts, the first of which
--- isn't shown after the second rule, and the second one after the first, the first fact's fault comes first
-pub record UnshownIsTold : Type 0 where
+-- the multiplier 0 certifies nothing for the first rule, fault (1, 1), whatever the second proof is; with 1 for the
+-- first rule, 0 and 0, or one multiplier in place of two, certify nothing for the second, (1, 2). Of two facts, the
+-- first of which isn't certified after the second rule, and the second one after the first, the first fact's fault
+-- comes first
+pub record UnshownIsWorkedOut : Type 0 where
   pub first_rule : (none any : Vec ℕ Global) → none.items ≡ 0 ∷ [] → any.items ≡ 0 ∷ 0 ∷ []
       → IsFirstFault counting (natural ∷ []) (two_proofs none any ∷ []) (fault 1 1)
   pub second_rule : (one zeros : Vec ℕ Global) → one.items ≡ 1 ∷ [] → zeros.items ≡ 0 ∷ 0 ∷ []
@@ -64,6 +65,6 @@ pub record UnshownIsTold : Type 0 where
 
 -- all of it
 pub record FaultsAreWorkedOut : Type 0 where
-  pub proved : ProvedIsTold
-  pub shapes : ShapesAreTold
-  pub unshown : UnshownIsTold
+  pub proved : ProvedIsWorkedOut
+  pub shapes : ShapesAreWorkedOut
+  pub unshown : UnshownIsWorkedOut

@@ -1,5 +1,5 @@
--- Which facts of small programs are kept, and the linear programs that ask whether a rule implies a fact, worked out by
--- hand.
+-- Worked values of which facts of small programs are kept, and of the linear programs that decide whether a rule
+-- implies a fact.
 use Rattle.std.specs.Prelude.{◌≡◌, ℕ, List, [], ◌∷◌, ℤ, pos, negsuc, None}
 use Rattle.poly_terms.specs.linear_forms.Certificates.{minus_one}
 use Rattle.poly_terms.specs.linear_forms.Forms.{at}
@@ -28,7 +28,7 @@ handing target = record {
   cost = None;
 }
 
--- the program l0(A) -> l1(A), and the program l0(A) -> l0(A), of which no rule leads to l1
+-- the program l0(A) -> l1(A), and the program l0(A) -> l0(A), in which no rule leads to l1
 abbrev pub passing : Program
 passing = record counting { rules = handing 1 ∷ [] }
 
@@ -37,7 +37,7 @@ staying = record counting { rules = handing 0 ∷ [] }
 
 -- whatever the pivots, no fact of l1 is kept where a rule hands on any value: its rows are none, and a point refutes
 -- each goal. Where no rule leads to l1 all its facts are kept, contradictory ones too
-pub record KeptAreTold : Type 0 where
+pub record KeptAreWorkedOut : Type 0 where
   pub none : (pivots : ℕ) → AreKept passing pivots []
   pub all : (pivots : ℕ) → AreKept staying pivots (candidates staying)
 
@@ -55,13 +55,13 @@ empty_program facts = goal_program falling_forms.unknowns (combined falling_form
 
 abbrev pub fact_program : List LocFact → LocFact → LinearProgram
 fact_program facts f =
-    goal_program falling_forms.unknowns (combined falling_forms facts) (row_after falling_forms.news f)
+    goal_program falling_forms.unknowns (combined falling_forms facts) (row_after falling_forms.new_values f)
 
 -- under A >= 0 the rows are A - 1 and A, and the goal of A >= 0 is A - 1: -m - n = -1 and m - s = 1, in the columns m,
 -- n and s. m = 1 and n = s = 0 solve it, and n = 1 and m = s = 0 don't
-pub record FollowingIsTold : Type 0 where
+pub record FollowingIsWorkedOut : Type 0 where
   pub equations_are : equations 0 (goal_question falling_forms.unknowns (combined falling_forms (natural ∷ []))
-      (row_after falling_forms.news natural)).groups
+      (row_after falling_forms.new_values natural)).groups
       ≡ equation (negsuc 0 ∷ negsuc 0 ∷ pos 0 ∷ []) (negsuc 0) ∷ equation (pos 1 ∷ pos 0 ∷ negsuc 0 ∷ []) (pos 1) ∷ []
   pub columns : (fact_program (natural ∷ []) natural).columns ≡ 3
   pub solved : IsSolution (fact_program (natural ∷ []) natural) (at (pos 1 ∷ pos 0 ∷ pos 0 ∷ [])) (pos 1)
@@ -70,18 +70,18 @@ pub record FollowingIsTold : Type 0 where
 -- under A >= 1 the rows are A - 1 twice, and the goal of A >= 1 is A - 2: -m - n = -1 and m + n - s = 2. The dual 1, 1
 -- refutes it, with the point A = 1. That the rule has no point is refuted by it, too: -m - n = 0 and m + n - s = 1. So
 -- the rule doesn't imply A >= 1 under itself, whatever the pivots
-pub record NotFollowingIsTold : Type 0 where
+pub record NotFollowingIsWorkedOut : Type 0 where
   pub equations_are : equations 0 (goal_question falling_forms.unknowns (combined falling_forms (positive ∷ []))
-      (row_after falling_forms.news positive)).groups
+      (row_after falling_forms.new_values positive)).groups
       ≡ equation (negsuc 0 ∷ negsuc 0 ∷ pos 0 ∷ []) (negsuc 0) ∷ equation (pos 1 ∷ pos 1 ∷ negsuc 0 ∷ []) (pos 2) ∷ []
   pub refuted : IsDual (fact_program (positive ∷ []) positive) (at (pos 1 ∷ pos 1 ∷ []))
   pub pointed : IsDual (empty_program (positive ∷ [])) (at (pos 1 ∷ pos 1 ∷ []))
   pub not_implied : (pivots : ℕ) → ¬ (IsImplied pivots falling_forms (positive ∷ []) positive)
 
--- whether the combined rows of a rule have no point is asked as it is of a rule that has them as its own. Under
--- -A >= 0 they are A - 1 and -A, of which the sum is -1: -m + n = 0 and m - s = 1. So m = n = 1 solve the program of
--- -1; under no fact the dual 1, 1 refutes it, with the point A = 1
-pub record EmptyIsTold : Type 0 where
+-- the query whether the combined rows of a rule have no point is that of a rule with these rows as its own. Under -A >=
+-- 0 they are A - 1 and -A, of which the sum is -1: -m + n = 0 and m - s = 1. So m = n = 1 solve the program of -1;
+-- under no fact the dual 1, 1 refutes it, with the point A = 1
+pub record EmptyIsWorkedOut : Type 0 where
   pub asked : (r : RuleForms) (kept : List LocFact)
       → goal_question r.unknowns (combined r kept) minus_one ≡ empty_question (record r { rows = combined r kept })
   pub equations_are : equations 0 (goal_question falling_forms.unknowns
@@ -98,14 +98,14 @@ resetting = record counting { rules = record (handing 1) { updates = Literal (po
 abbrev pub reset_program : ℤ → LinearProgram
 reset_program k =
     goal_program (forms_at resetting 1).unknowns (combined (forms_at resetting 1) [])
-    (row_after (forms_at resetting 1).news (fact 1 1 0 k))
+    (row_after (forms_at resetting 1).new_values (fact 1 1 0 k))
 
 -- the rule has no row, and the goal of A >= 0 is 0: 0 = 0 and -s = 0. The first table is the last, so within no pivot
 -- it is solved, and the rule implies A >= 0. The goal of A >= -1 is 1: -s = -1 is solved by s = 1, which takes a pivot,
 -- so within none it isn't solved, and the rule doesn't imply A >= -1
-pub record PivotsAreTold : Type 0 where
+pub record PivotsAreWorkedOut : Type 0 where
   pub equations_are : equations 0 (goal_question (forms_at resetting 1).unknowns
-      (combined (forms_at resetting 1) []) (row_after (forms_at resetting 1).news natural)).groups
+      (combined (forms_at resetting 1) []) (row_after (forms_at resetting 1).new_values natural)).groups
       ≡ equation (pos 0 ∷ []) (pos 0) ∷ equation (negsuc 0 ∷ []) (pos 0) ∷ []
   pub solved : IsSolvedWithin 0 (reset_program (pos 0))
   pub implied : IsImplied 0 (forms_at resetting 1) [] natural
@@ -113,10 +113,26 @@ pub record PivotsAreTold : Type 0 where
   pub tripped : ¬ (IsSolvedWithin 0 (reset_program (negsuc 0)))
   pub not_implied : ¬ (IsImplied 0 (forms_at resetting 1) [] (fact 1 1 0 (negsuc 0)))
 
+-- A >= 0 and -A >= 0 at l1
+abbrev pub zero_facts : List LocFact
+zero_facts = fact 1 0 1 (pos 0) ∷ natural ∷ []
+
+-- within no pivot the program that resets keeps some facts and drops others: of A it implies that it is at least 0 and
+-- at most 0. That it is at least -1, or at most 1, takes a pivot, and that it is at least 1, or at most -1, isn't so
+pub record SomeAreKept : Type 0 where
+  pub tried : candidates resetting
+      ≡ fact 1 0 1 (negsuc 0) ∷ fact 1 0 1 (pos 0) ∷ fact 1 0 1 (pos 1)
+      ∷ fact 1 1 0 (negsuc 0) ∷ natural ∷ fact 1 1 0 (pos 1) ∷ []
+  pub some : AreKept resetting 0 zero_facts
+  pub not_all : ¬ (AreKept resetting 0 (candidates resetting))
+  pub not_one : ¬ (AreKept resetting 0 (natural ∷ []))
+  pub not_none : ¬ (AreKept resetting 0 [])
+
 -- all of it
 pub record KeptFactsAreWorkedOut : Type 0 where
-  pub kept : KeptAreTold
-  pub following : FollowingIsTold
-  pub not_following : NotFollowingIsTold
-  pub empty : EmptyIsTold
-  pub pivots : PivotsAreTold
+  pub kept : KeptAreWorkedOut
+  pub following : FollowingIsWorkedOut
+  pub not_following : NotFollowingIsWorkedOut
+  pub empty : EmptyIsWorkedOut
+  pub pivots : PivotsAreWorkedOut
+  pub some : SomeAreKept

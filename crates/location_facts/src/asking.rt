@@ -1,4 +1,4 @@
-//! Whether a goal follows from rows, asked by a linear program.
+//! Queries by a linear program whether a goal follows from rows.
 
 ghost use Rattle.std.specs.Prelude.{◌^◌, ◌+◌, ◌<◌, map, length, IfOk};
 ghost use Rattle.std.specs.List.{All};
@@ -15,19 +15,19 @@ use rule_questions::{element_from, multipliers_from};
 use simplex_core::{Answer, Problem, solve_scaled};
 use std::alloc::Global;
 
-/// What is answered of whether a goal follows from rows.
+/// The answer on whether a goal follows from rows.
 #[derive(Debug, Drop)]
 pub(crate) enum Reply {
-    /// Multipliers of the rows by which a multiple of the goal follows, and the number of times.
+    /// Multipliers of the rows that certify a multiple of the goal, and the factor.
     Follows(Vec<u64>, u64),
     /// A point or a ray of the rows at which the goal is below 0.
     Fails(Scaled),
-    /// The linear program passes a limit.
-    Tripped,
+    /// The linear program exceeds a limit.
+    OutOfLimits,
 }
 
-/// Whether a goal follows from rows over so many unknowns: `Follows` comes exactly where the linear program that asks
-/// it has a solution and nothing trips it within so many pivots.
+/// Whether a goal follows from rows over this many unknowns: `Follows` comes exactly where the linear program that asks
+/// it has a solution and nothing trips it within this many pivots.
 ///
 /// # Errors
 ///
@@ -56,7 +56,7 @@ pub(crate) fn ask(
             let element = element_from(alloc, &dual.numbers, 0, unknowns as usize)?;
             Ok(Reply::Fails(element))
         }
-        Answer::Tripped(_) => Ok(Reply::Tripped),
+        Answer::OutOfLimits(_) => Ok(Reply::OutOfLimits),
     }
 }
 

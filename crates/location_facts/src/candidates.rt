@@ -1,4 +1,4 @@
-//! The facts that are tried at the symbols of a program.
+//! Lists the candidate facts at the symbols of a program.
 
 ghost use Rattle.std.specs.Prelude.{◌≡◌, ◌++◌, ◌<◌, ◌≤◌, suc, nat_eq, if◌then◌else◌, [], IfOk};
 ghost use Rattle.std.specs.List.{range_with_len};
@@ -11,7 +11,7 @@ use its_model::Program;
 use poly_terms::Memory;
 use std::alloc::{AllocError, Global};
 
-/// The facts that are tried, in order.
+/// The candidate facts, in order.
 ///
 /// # Errors
 ///
@@ -33,7 +33,7 @@ pub(crate) fn narrow(count: usize) -> Result<u32, Memory>
     u32::try_from(count).map_err(|_| AllocError)
 }
 
-// Appends the facts that are tried at a symbol.
+// Appends the candidate facts at a symbol.
 #[tactic(auto, using(crate::proofs::CandidateLoops::at_start, crate::proofs::CandidateLoops::at_other))]
 fn push_at(all: &mut Vec<LocFact>, p: &Program, symbol: u32) -> Result<(), Memory>
     ensures { IfOk result (λ _. all.new.items ≡ all.old.items ++ candidates_at (program_of p.now) symbol) }

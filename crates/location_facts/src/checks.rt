@@ -1,4 +1,4 @@
-//! Whether a fact is one that is tried, and whether the shape of its proofs is right.
+//! Checks whether a fact is a candidate, and whether the shape of its proofs is right.
 
 ghost use Rattle.std.specs.Prelude.{◌≡◌, ◌≤◌, ◌<◌, ◌↔◌, ◌-◌, ◌^◌, length, pos, negsuc, ◌≤ℤ◌, IsTrue, IfOk, Some};
 ghost use Rattle.std.specs.List.{All};
@@ -10,13 +10,13 @@ ghost use Rattle.farkas_cert.specs.Sizes.{AreWithinLimit};
 ghost use Rattle.poly_terms.specs.model.Paths.{same_symbol};
 
 use crate::fact::{FactProof, LocFact};
+use cert_types::target_of;
 use farkas_cert::LIMIT;
 use its_model::Program;
 use poly_terms::Memory;
-use proof_tree::target_of;
 use std::alloc::Global;
 
-/// The last place that facts of a symbol speak of.
+/// The last place that facts of a symbol can use.
 #[tactic(auto, using(crate::proofs::FaultLists::last_found, crate::proofs::FaultLists::last_missing))]
 pub(crate) fn last_place(p: &Program, symbol: u32) -> u32
     ensures same { result ≡ place_limit (program_of p.now) symbol }
@@ -44,14 +44,14 @@ fn has_places(fact: LocFact, last: u32) -> bool
     fact.plus <= last && fact.minus <= last && fact.plus != fact.minus
 }
 
-// Whether a number is the least of a fact that is tried.
+// Whether a number is the least of a candidate fact.
 fn is_least(least: i64) -> bool
     ensures { IsTrue result ↔ ((negsuc 0 ≤ℤ least) × (least ≤ℤ pos 1)) }
 {
     -1 <= least && least <= 1
 }
 
-/// Whether a fact is tried.
+/// Whether a fact is a candidate.
 pub(crate) fn is_candidate(p: &Program, fact: LocFact) -> bool
     ensures { IsTrue result ↔ IsCandidate (program_of p.now) fact }
 {

@@ -1,4 +1,4 @@
-//! Copies of parts of programs and of rows, in memory of their own. Want of memory alone is refused.
+//! Copies of parts of programs and of rows, in memory of their own. The only error is that memory ran out.
 
 ghost use Rattle.std.specs.Prelude.{◌≡◌, IfOk, map, option_map};
 ghost use Rattle.poly_terms.specs.Views.{term_of, form_of};

@@ -1,4 +1,4 @@
-//! Points and rays of the rows of rules, and the facts that they stand against.
+//! Points and rays of the rows of rules, and the facts that they refute.
 
 ghost use Rattle.std.specs.Prelude.{◌≡◌, ℕ, ◌*◌, ◌^◌, ◌≤◌, ◌↔◌, ◌-ℤ◌, ◌<ℤ◌, pos, map, length, true, List, IsTrue};
 ghost use Rattle.std.specs.Prelude.{unsigned_abs};
@@ -10,7 +10,7 @@ ghost use Rattle.farkas_cert.specs.Scales.{numerators_of};
 ghost use Rattle.farkas_cert.specs.Sizes.{AreParts};
 ghost use Rattle.its_model.specs.Valid.{IsValid};
 ghost use Rattle.its_model.specs.Views.{program_of};
-ghost use Rattle.proof_tree.specs.Composing.{AreRowsOf};
+ghost use Rattle.cert_types.specs.Composing.{AreRowsOf};
 ghost use Rattle.rule_questions.specs.EmptyAnswers.{IsPrepared};
 ghost use Rattle.rule_questions.specs.SmallForms.{IsSmall};
 ghost use Rattle.location_facts.specs.declared.fact.LocFact.{LocFact as Fact};
@@ -32,16 +32,16 @@ pub(crate) struct Element {
     pub at: Scaled,
 }
 
-/// Whether one of the elements stands against a fact: at one of a rule into its symbol the fact is below 0 afterwards.
-/// Then the rule doesn't imply it.
+/// Whether one of the elements refutes a fact: at a point or ray of a rule into its symbol the fact is below 0
+/// afterwards. Then the rule doesn't imply it.
 pub(crate) fn is_refuted(
     p: &Program,
-    preps: &[RuleRows],
+    prepared_rules: &[RuleRows],
     elements: &[Element],
     fact: LocFact,
 ) -> bool
     requires valid { IsValid (program_of p.now) }
-    requires rows { AreRowsOf preps.now (program_of p.now) }
+    requires rows { AreRowsOf prepared_rules.now (program_of p.now) }
     requires measured { All (IsMeasured (program_of p.now)) elements.now }
     ensures { result ≡ true → (pivots : ℕ) (kept : List Fact) → AreElements (program_of p.now) pivots kept elements.now
         → ¬ IsImpliedByAll (program_of p.now) pivots kept fact }
@@ -50,8 +50,8 @@ pub(crate) fn is_refuted(
         let element = &elements[k];
         let number = element.rule as usize - 1;
         let rule = &p.rules[number];
-        let prep = &preps[number];
-        if stands_against(rule.target, prep, fact, &element.at) {
+        let prepared_rule = &prepared_rules[number];
+        if stands_against(rule.target, prepared_rule, fact, &element.at) {
             return true;
         }
     }
@@ -59,28 +59,28 @@ pub(crate) fn is_refuted(
 }
 
 // Whether a rule leads to the symbol of a fact, which is below 0 after the rule at an element of its unknowns.
-fn stands_against(target: u32, prep: &RuleRows, fact: LocFact, at: &Scaled) -> bool
-    requires prepared { IsPrepared prep.now }
+fn stands_against(target: u32, prepared_rule: &RuleRows, fact: LocFact, at: &Scaled) -> bool
+    requires prepared { IsPrepared prepared_rule.now }
     requires unknowns { length at.now.parts.items ≤ 128 }
     requires parts { AreParts at.now.parts.items }
     requires denominator { at.now.den ≤ point_limit }
-    ensures { IsTrue result ↔ ((target ≡ fact.symbol) × (form_value (goal_of (map form_of prep.now.news.items) fact)
+    ensures { IsTrue result ↔ ((target ≡ fact.symbol) × (form_value (goal_of (map form_of prepared_rule.now.new_values.items) fact)
         (numerators_of at.now) (pos at.now.den) <ℤ pos 0)) }
 {
-    target == fact.symbol && is_against(prep, fact, at)
+    target == fact.symbol && is_against(prepared_rule, fact, at)
 }
 
 // Whether a fact is below 0 after a rule, at an element of the rule's unknowns.
-fn is_against(prep: &RuleRows, fact: LocFact, at: &Scaled) -> bool
-    requires prepared { IsPrepared prep.now }
+fn is_against(prepared_rule: &RuleRows, fact: LocFact, at: &Scaled) -> bool
+    requires prepared { IsPrepared prepared_rule.now }
     requires unknowns { length at.now.parts.items ≤ 128 }
     requires parts { AreParts at.now.parts.items }
     requires denominator { at.now.den ≤ point_limit }
-    ensures { IsTrue result ↔ (form_value (goal_of (map form_of prep.now.news.items) fact) (numerators_of at.now)
+    ensures { IsTrue result ↔ (form_value (goal_of (map form_of prepared_rule.now.new_values.items) fact) (numerators_of at.now)
         (pos at.now.den) <ℤ pos 0) }
 {
-    let plus = value_at(&prep.news, fact.plus, at);
-    let minus = value_at(&prep.news, fact.minus, at);
+    let plus = value_at(&prepared_rule.new_values, fact.plus, at);
+    let minus = value_at(&prepared_rule.new_values, fact.minus, at);
     let least = product(i128::from(fact.least), at.den);
     is_below(plus, minus, least)
 }
@@ -96,18 +96,18 @@ fn is_below(plus: i128, minus: i128, least: i128) -> bool
 
 // The value at a place after a rule with these new values, times the denominator, at an element of its unknowns.
 #[tactic(auto, using(crate::proofs::ElementRules::value_none, crate::proofs::ElementRules::value_missing, crate::proofs::ElementRules::new_numbers))]
-fn value_at(news: &[Row], place: u32, at: &Scaled) -> i128
-    requires small { All (λ r. IsSmall (form_of r)) news.now }
+fn value_at(new_values: &[Row], place: u32, at: &Scaled) -> i128
+    requires small { All (λ r. IsSmall (form_of r)) new_values.now }
     requires unknowns { length at.now.parts.items ≤ 128 }
     requires parts { AreParts at.now.parts.items }
     requires denominator { at.now.den ≤ point_limit }
-    ensures value { result ≡ form_value (after (map form_of news.now) place) (numerators_of at.now) (pos at.now.den) }
+    ensures value { result ≡ form_value (after (map form_of new_values.now) place) (numerators_of at.now) (pos at.now.den) }
     ensures size { unsigned_abs result ≤ 129 * 2 ^ 108 }
 {
     if place == 0 {
         return 0;
     }
-    match news.get(place as usize - 1) {
+    match new_values.get(place as usize - 1) {
         Some(row) => row_value(row, at),
         None => 0,
     }

@@ -1,4 +1,4 @@
-//! Facts that hold at a symbol, and what shows them.
+//! Facts that hold at a symbol, and their certificates.
 
 /// A fact of a symbol: the value at place `plus`, less the value at place `minus`, is at least `least`. Places count
 /// from 1, and place 0 stands for the number 0.
@@ -14,8 +14,8 @@ pub struct LocFact {
     pub least: i64,
 }
 
-/// What shows a fact after a rule into its symbol. The rows are those of the rule, and then those of the
-/// facts at its source.
+/// The certificate of a fact after a rule into its symbol. The rows are those of the rule, and then those of the facts
+/// at its source.
 #[derive(Debug, PartialEq, Eq, Drop)]
 pub enum FactProof {
     /// Multipliers of the rows by which -1 follows: the rule can't be used.

@@ -1,4 +1,4 @@
-//! The first thing that is wrong with facts and their proofs.
+//! Finds the first fault of facts and their proofs.
 
 ghost use Rattle.std.specs.Prelude.{◌≡◌, ◌*ℤ◌, ◌≤◌, ◌<◌, ◌↔◌, ◌+◌, ◌-◌, ◌^◌, List, length, map, nat_abs, pos};
 ghost use Rattle.std.specs.Prelude.{IsTrue, IfOk, MatchOption};
@@ -9,7 +9,7 @@ ghost use Rattle.poly_terms.specs.Views.{form_of};
 ghost use Rattle.its_model.specs.Valid.{IsValid};
 ghost use Rattle.its_model.specs.Views.{program_of};
 ghost use Rattle.farkas_cert.specs.Sizes.{AreSmall};
-ghost use Rattle.proof_tree.specs.Composing.{AreRowsOf};
+ghost use Rattle.cert_types.specs.Composing.{AreRowsOf};
 ghost use Rattle.location_facts.specs.declared.fact.LocFact.{LocFact as Fact};
 ghost use Rattle.location_facts.specs.Certificates.{IsWithinLimit, Shows};
 ghost use Rattle.location_facts.specs.CombinedRows.{AreCombined, IsGoalSmall, TellsUnshown, TellsWrong, TellsFault};
@@ -26,7 +26,7 @@ use std::alloc::{AllocError, Global};
 
 /// What is wrong first with facts and their proofs, or `None` exactly where nothing is: where the facts are facts that
 /// are tried, in their order, each once; each has a proof for each rule into its symbol, in order, with numbers of at
-/// most 2^55 and denominators of at least 1; and each proof shows its fact after its rule. First every fact with
+/// most 2^56 and denominators of at least 1; and each proof shows its fact after its rule. First every fact with
 /// the shape of its proofs is looked at, in order, and then every proof, by fact and then by rule.
 ///
 /// # Errors
@@ -35,11 +35,11 @@ use std::alloc::{AllocError, Global};
 pub fn facts_fault(
     alloc: Global,
     p: &Program,
-    preps: &[RuleRows],
+    prepared_rules: &[RuleRows],
     f: &LocFacts,
 ) -> Result<Option<FactFault>, Memory>
     requires valid { IsValid (program_of p.now) }
-    requires rows { AreRowsOf preps.now (program_of p.now) }
+    requires rows { AreRowsOf prepared_rules.now (program_of p.now) }
     ensures { IfOk result (λ fault. MatchOption fault
         (AreProved (program_of p.now) f.now.kept.items (proofs_of f.now))
         (IsFirstFault (program_of p.now) f.now.kept.items (proofs_of f.now))) }
@@ -50,8 +50,8 @@ pub fn facts_fault(
     match first_wrong(alloc, p, f)? {
         Some(fact) => Ok(Some(FactFault { fact, rule: 0 })),
         None => {
-            let rows = rows_by_rule(alloc, p, preps, &f.kept)?;
-            first_unshown(alloc, p, preps, f, &rows)
+            let rows = rows_by_rule(alloc, p, prepared_rules, &f.kept)?;
+            first_unshown(alloc, p, prepared_rules, f, &rows)
         }
     }
 }
@@ -86,16 +86,16 @@ fn number_at(position: usize) -> Result<u32, Memory>
     }
 }
 
-// The first fact with a proof that doesn't show it, and the rule of that proof.
+// The first fact with a proof that doesn't certify it, and the rule of that proof.
 fn first_unshown(
     alloc: Global,
     p: &Program,
-    preps: &[RuleRows],
+    prepared_rules: &[RuleRows],
     f: &LocFacts,
     rows: &[Vec<Row>],
 ) -> Result<Option<FactFault>, Memory>
     requires valid { IsValid (program_of p.now) }
-    requires preps { AreRowsOf preps.now (program_of p.now) }
+    requires prepared_rules { AreRowsOf prepared_rules.now (program_of p.now) }
     requires rows { AreCombined (program_of p.now) f.now.kept.items rows.now }
     requires one_each { length f.now.proofs.items ≡ length f.now.kept.items }
     requires right { AreRight (program_of p.now) f.now.kept.items (proofs_of f.now) (length f.now.kept.items) }
@@ -103,7 +103,7 @@ fn first_unshown(
     ensures { IfOk result (TellsFault (program_of p.now) f.now.kept.items (proofs_of f.now)) }
 {
     for i in 0..f.kept.len() {
-        if let Some(rule) = unshown_rule(alloc, p, preps, f.kept[i], &f.proofs[i], rows)? {
+        if let Some(rule) = unshown_rule(alloc, p, prepared_rules, f.kept[i], &f.proofs[i], rows)? {
             let fact = number_at(i)?;
             return Ok(Some(FactFault { fact, rule }));
         }
@@ -111,17 +111,17 @@ fn first_unshown(
     Ok(None)
 }
 
-// The first of the rules into a fact's symbol whose proof doesn't show the fact.
+// The first of the rules into a fact's symbol whose proof doesn't certify the fact.
 fn unshown_rule(
     alloc: Global,
     p: &Program,
-    preps: &[RuleRows],
+    prepared_rules: &[RuleRows],
     fact: LocFact,
     proofs: &[FactProof],
     rows: &[Vec<Row>],
 ) -> Result<Option<u32>, Memory>
     requires valid { IsValid (program_of p.now) }
-    requires preps { AreRowsOf preps.now (program_of p.now) }
+    requires prepared_rules { AreRowsOf prepared_rules.now (program_of p.now) }
     requires one_each { length proofs.now ≡ length (rules_to (program_of p.now) fact.symbol) }
     requires numbers { All IsWithinLimit proofs.now }
     requires many { length rows.now ≡ length p.now.rules.items }
@@ -132,10 +132,10 @@ fn unshown_rule(
     let into = rules_into(alloc, p, fact.symbol)?;
     for k in 0..into.len() {
         let rule = into[k];
-        let prep = &preps[rule as usize - 1];
+        let prepared_rule = &prepared_rules[rule as usize - 1];
         let own = &rows[rule as usize - 1];
         let proof = &proofs[k];
-        let goal = row_after(alloc, &prep.news, fact)?;
+        let goal = row_after(alloc, &prepared_rule.new_values, fact)?;
         let shown = is_shown(alloc, own, &goal, proof)?;
         if !shown {
             return Ok(Some(rule));
@@ -148,23 +148,23 @@ fn unshown_rule(
 fn rows_by_rule(
     alloc: Global,
     p: &Program,
-    preps: &[RuleRows],
+    prepared_rules: &[RuleRows],
     kept: &[LocFact],
 ) -> Result<Vec<Vec<Row>>, Memory>
-    requires { AreRowsOf preps.now (program_of p.now) }
+    requires { AreRowsOf prepared_rules.now (program_of p.now) }
     ensures { IfOk result (λ rows. AreCombined (program_of p.now) kept.now rows.items) }
 {
     let mut all = Vec::new(alloc);
     for i in 0..p.rules.len() {
-        let prep = &preps[i];
+        let prepared_rule = &prepared_rules[i];
         let rule = &p.rules[i];
-        let rows = combined_rows(alloc, &prep.rows, rule.source, kept)?;
+        let rows = combined_rows(alloc, &prepared_rule.rows, rule.source, kept)?;
         all.push(rows)?;
     }
     Ok(all)
 }
 
-// Whether a proof shows a goal over rows.
+// Whether a proof certifies a goal over rows.
 fn is_shown(alloc: Global, rows: &[Row], goal: &Row, proof: &FactProof) -> Result<bool, Memory>
     requires rows { AreSmall (map form_of rows.now) }
     requires goal { IsGoalSmall (form_of goal.now) }

@@ -1,4 +1,4 @@
-//! Which facts rules imply under a list of facts.
+//! Decides which facts the rules imply under a list of facts.
 
 ghost use Rattle.std.specs.Prelude.{◌≡◌, ◌++◌, ◌≤◌, ◌<◌, ◌+◌, ◌^◌, ℕ, true, map, length, IfOk};
 ghost use Rattle.std.specs.List.{All};
@@ -18,19 +18,19 @@ use poly_terms::{Memory, Row};
 use rule_questions::constant_row;
 use std::alloc::Global;
 
-/// A rule under a list of facts: its combined rows, and multipliers that show that they have no point, where the linear
-/// program that asks for them is solved. Where they are known to have one it says so.
+/// A rule under a list of facts: its combined rows, and multipliers that certify that they have no point, if the linear
+/// program for these has a solution. Where the rows are known to have a point, this says so.
 #[derive(Debug, Drop)]
-pub(crate) struct Under {
+pub(crate) struct RuleUnderFacts {
     pub rows: Vec<Row>,
     pub empty: Option<Vec<u64>>,
     pub has_point: bool,
 }
 
-/// What is answered of whether a rule implies a fact.
+/// The answer on whether a rule implies a fact.
 #[derive(Debug, Drop)]
 pub(crate) enum Answered {
-    /// It does, as the proof shows.
+    /// It does, with this proof.
     Shown(FactProof),
     /// It doesn't: at this point or ray of its rows the fact is below 0 afterwards.
     Against(Scaled),
@@ -38,8 +38,8 @@ pub(crate) enum Answered {
     Missed,
 }
 
-// Multipliers that show that rows have no point, where the linear program that asks for them is solved, and whether a
-// point of them was found.
+// Multipliers that certify that rows have no point, if the linear program for them has a solution, and whether a point
+// of the rows was found.
 fn emptiness(
     alloc: Global,
     unknowns: u32,
@@ -56,7 +56,7 @@ fn emptiness(
     match ask(alloc, unknowns, rows, &goal, pivots)? {
         Reply::Follows(multipliers, _) => Ok((Some(multipliers), false)),
         Reply::Fails(_) => Ok((None, true)),
-        Reply::Tripped => Ok((None, false)),
+        Reply::OutOfLimits => Ok((None, false)),
     }
 }
 
@@ -72,7 +72,7 @@ fn goal_answer(
     requires few_rows { length rows.now + 1 < 2 ^ 31 }
     requires rows { All (λ r. IsWritable unknowns (form_of r)) rows.now }
     requires goal { IsWritable unknowns (form_of goal.now) }
-    ensures told { IfOk result (λ a. TellsEmpty pivots unknowns (map form_of rows.now) None
+    ensures verdict { IfOk result (λ a. TellsEmpty pivots unknowns (map form_of rows.now) None
         → TellsGoal pivots unknowns (map form_of rows.now) (form_of goal.now) (proof_in a)) }
     ensures stands { IfOk result (StandsIn unknowns (map form_of rows.now) (form_of goal.now)) }
 {
@@ -81,26 +81,26 @@ fn goal_answer(
             Ok(Answered::Shown(FactProof::Implied(multipliers, times)))
         }
         Reply::Fails(at) => Ok(Answered::Against(at)),
-        Reply::Tripped => Ok(Answered::Missed),
+        Reply::OutOfLimits => Ok(Answered::Missed),
     }
 }
 
 /// Whether a rule implies a fact.
 pub(crate) fn answer_under(
     alloc: Global,
-    prep: &RuleRows,
-    under: &Under,
+    prepared_rule: &RuleRows,
+    under: &RuleUnderFacts,
     fact: LocFact,
     pivots: u32,
 ) -> Result<Answered, Memory>
-    requires prepared { IsPrepared prep.now }
+    requires prepared { IsPrepared prepared_rule.now }
     requires few { length under.now.rows.items ≤ 371 }
-    requires rows { All (λ r. IsWritable prep.now.unknowns (form_of r)) under.now.rows.items }
-    ensures told { IfOk result (λ a. TellsEmpty pivots prep.now.unknowns (map form_of under.now.rows.items)
-        under.now.empty → TellsGoal pivots prep.now.unknowns (map form_of under.now.rows.items)
-        (goal_of (map form_of prep.now.news.items) fact) (proof_in a)) }
-    ensures stands { IfOk result (StandsIn prep.now.unknowns (map form_of under.now.rows.items)
-        (goal_of (map form_of prep.now.news.items) fact)) }
+    requires rows { All (λ r. IsWritable prepared_rule.now.unknowns (form_of r)) under.now.rows.items }
+    ensures verdict { IfOk result (λ a. TellsEmpty pivots prepared_rule.now.unknowns (map form_of under.now.rows.items)
+        under.now.empty → TellsGoal pivots prepared_rule.now.unknowns (map form_of under.now.rows.items)
+        (goal_of (map form_of prepared_rule.now.new_values.items) fact) (proof_in a)) }
+    ensures stands { IfOk result (StandsIn prepared_rule.now.unknowns (map form_of under.now.rows.items)
+        (goal_of (map form_of prepared_rule.now.new_values.items) fact)) }
 {
     match &under.empty {
         Some(multipliers) => {
@@ -108,58 +108,58 @@ pub(crate) fn answer_under(
             Ok(Answered::Shown(FactProof::Empty(copies)))
         }
         None => {
-            let goal = row_after(alloc, &prep.news, fact)?;
-            goal_answer(alloc, prep.unknowns, &under.rows, &goal, pivots)
+            let goal = row_after(alloc, &prepared_rule.new_values, fact)?;
+            goal_answer(alloc, prepared_rule.unknowns, &under.rows, &goal, pivots)
         }
     }
 }
 
 /// A rule under a list of facts.
-pub(crate) fn rule_under(
+pub(crate) fn rule_under_facts(
     alloc: Global,
-    prep: &RuleRows,
+    prepared_rule: &RuleRows,
     source: u32,
     kept: &[LocFact],
     pivots: u32,
-) -> Result<Under, Memory>
-    requires prepared { IsPrepared prep.now }
-    requires few { length (map form_of prep.now.rows.items ++ map row_of (facts_of_symbol source kept.now)) ≤ 371 }
-    requires writable { All (IsWritable prep.now.unknowns)
-        (map form_of prep.now.rows.items ++ map row_of (facts_of_symbol source kept.now)) }
+) -> Result<RuleUnderFacts, Memory>
+    requires prepared { IsPrepared prepared_rule.now }
+    requires few { length (map form_of prepared_rule.now.rows.items ++ map row_of (facts_of_symbol source kept.now)) ≤ 371 }
+    requires writable { All (IsWritable prepared_rule.now.unknowns)
+        (map form_of prepared_rule.now.rows.items ++ map row_of (facts_of_symbol source kept.now)) }
     ensures rows { IfOk result (λ u. map form_of u.rows.items
-        ≡ map form_of prep.now.rows.items ++ map row_of (facts_of_symbol source kept.now)) }
-    ensures writable { IfOk result (λ u. All (λ r. IsWritable prep.now.unknowns (form_of r)) u.rows.items) }
-    ensures empty { IfOk result (λ u. TellsEmpty pivots prep.now.unknowns (map form_of u.rows.items) u.empty) }
+        ≡ map form_of prepared_rule.now.rows.items ++ map row_of (facts_of_symbol source kept.now)) }
+    ensures writable { IfOk result (λ u. All (λ r. IsWritable prepared_rule.now.unknowns (form_of r)) u.rows.items) }
+    ensures empty { IfOk result (λ u. TellsEmpty pivots prepared_rule.now.unknowns (map form_of u.rows.items) u.empty) }
     ensures point { IfOk result (λ u. u.has_point ≡ true → HasPoint (map form_of u.rows.items)) }
 {
-    let rows = combined_rows(alloc, &prep.rows, source, kept)?;
-    let (empty, has_point) = emptiness(alloc, prep.unknowns, &rows, pivots)?;
-    Ok(Under {
+    let rows = combined_rows(alloc, &prepared_rule.rows, source, kept)?;
+    let (empty, has_point) = emptiness(alloc, prepared_rule.unknowns, &rows, pivots)?;
+    Ok(RuleUnderFacts {
         rows,
         empty,
         has_point,
     })
 }
 
-/// A rule under a list of facts where its combined rows have a point. Nothing is asked.
-pub(crate) fn pointed_under(
+/// A rule under a list of facts, known to have a point of its combined rows. No linear program is solved.
+pub(crate) fn feasible_rule_under_facts(
     alloc: Global,
-    prep: &RuleRows,
+    prepared_rule: &RuleRows,
     source: u32,
     kept: &[LocFact],
-) -> Result<Under, Memory>
-    requires few { length (map form_of prep.now.rows.items ++ map row_of (facts_of_symbol source kept.now)) ≤ 371 }
-    requires writable { All (IsWritable prep.now.unknowns)
-        (map form_of prep.now.rows.items ++ map row_of (facts_of_symbol source kept.now)) }
-    requires point { HasPoint (map form_of prep.now.rows.items ++ map row_of (facts_of_symbol source kept.now)) }
+) -> Result<RuleUnderFacts, Memory>
+    requires few { length (map form_of prepared_rule.now.rows.items ++ map row_of (facts_of_symbol source kept.now)) ≤ 371 }
+    requires writable { All (IsWritable prepared_rule.now.unknowns)
+        (map form_of prepared_rule.now.rows.items ++ map row_of (facts_of_symbol source kept.now)) }
+    requires point { HasPoint (map form_of prepared_rule.now.rows.items ++ map row_of (facts_of_symbol source kept.now)) }
     ensures rows { IfOk result (λ u. map form_of u.rows.items
-        ≡ map form_of prep.now.rows.items ++ map row_of (facts_of_symbol source kept.now)) }
-    ensures writable { IfOk result (λ u. All (λ r. IsWritable prep.now.unknowns (form_of r)) u.rows.items) }
+        ≡ map form_of prepared_rule.now.rows.items ++ map row_of (facts_of_symbol source kept.now)) }
+    ensures writable { IfOk result (λ u. All (λ r. IsWritable prepared_rule.now.unknowns (form_of r)) u.rows.items) }
     ensures empty { IfOk result (λ u. (pivots : ℕ)
-        → TellsEmpty pivots prep.now.unknowns (map form_of u.rows.items) u.empty) }
+        → TellsEmpty pivots prepared_rule.now.unknowns (map form_of u.rows.items) u.empty) }
 {
-    let rows = combined_rows(alloc, &prep.rows, source, kept)?;
-    Ok(Under {
+    let rows = combined_rows(alloc, &prepared_rule.rows, source, kept)?;
+    Ok(RuleUnderFacts {
         rows,
         empty: None,
         has_point: true,

@@ -1,8 +1,11 @@
-//! Facts that hold at the symbols of a program. Contract to the layer above: `facts` finds the facts that are kept
-//! within a number of pivots, exactly (`AreKept`; at most one list is, `kept_facts_are_one`), with proofs of which
-//! nothing is wrong; `facts_fault` answers that nothing is wrong exactly with facts and proofs of which nothing is
-//! (`AreProved`), and else what is first (`faults_are_decided`); such facts hold on every run (`proved_facts_hold`);
-//! and the program that `strengthen` makes with facts that hold has the same runs (`strengthening_changes_no_run`).
+//! Facts at the locations (symbols) of a program: lower bounds on values, and on differences of two values, that hold
+//! whenever a run is at the symbol. They are found as a greatest fixpoint (as in Houdini) by linear programs.
+//!
+//! Builds on `simplex_core` and `rule_questions`. Main guarantee: `facts` finds exactly the facts that are kept within
+//! a number of pivots (`AreKept`; there is at most one such list, `kept_facts_are_one`), with faultless proofs.
+//! `facts_fault` reports no fault exactly for facts and proofs without one (`AreProved`), and else the first
+//! (`faults_are_decided`). Such facts hold on every run (`proved_facts_hold`). The program that `strengthen` makes with
+//! facts that hold has the same runs (`strengthening_changes_no_run`).
 #![tactic(auto)]
 
 mod asking;

@@ -1,9 +1,9 @@
-//! The facts that are kept: lists of facts, round by round.
+//! Computes the facts that are kept: lists of facts, round by round, up to the fixpoint.
 
 ghost use Rattle.std.specs.Prelude.{◌≡◌, ◌≢◌, ◌++◌, ℕ, slice_get, [], nat_eq, if◌then◌else◌, IfOk};
 ghost use Rattle.its_model.specs.Valid.{IsValid};
 ghost use Rattle.its_model.specs.Views.{program_of};
-ghost use Rattle.proof_tree.specs.Composing.{AreRowsOf};
+ghost use Rattle.cert_types.specs.Composing.{AreRowsOf};
 ghost use Rattle.location_facts.specs.Faults.{proofs_of, AreProved};
 ghost use Rattle.location_facts.specs.Due.{AreShownEarlier, lists_of, listed_at, proofs_in, elements_in};
 ghost use Rattle.location_facts.specs.Implied.{AreInOrder, AreProofsUnder, IsPushed};
@@ -15,7 +15,7 @@ use crate::candidates::all_candidates;
 use crate::elements::Element;
 use crate::fact::{FactProof, LocFact, LocFacts};
 use crate::rules::{Search, due_rules, rules_under};
-use crate::shown::{Earlier, Listed, Told, proofs_under};
+use crate::shown::{CandidateFacts, EarlierProofs, FactVerdict, proofs_under};
 use crate::tables::rules_by_symbol;
 use guard_prep::RuleRows;
 use its_model::Program;
@@ -23,14 +23,15 @@ use poly_terms::Memory;
 use std::alloc::Global;
 use std::mem;
 
-/// The facts that are kept within a number of pivots, with proofs of which nothing is wrong. All facts that are tried
-/// come first; from each list those go that some rule into their symbol doesn't imply under it, until all are kept. What
-/// a rule says stands while the facts at its source do.
+/// The facts that are kept within a number of pivots, with faultless proofs. This is a greatest fixpoint (as in
+/// Houdini): start from all candidates; in each round drop every fact that some rule into its symbol doesn't imply
+/// under the current list, until none is dropped. The answers of a rule remain valid while the facts at its source are
+/// unchanged.
 ///
-/// The first round asks of each rule whether its combined rows have no point, and where they may have one, which facts at
-/// its target follow from them: one linear program each. A later round asks this of the rules at whose source a fact
-/// went, but of no rule whether it has a point where it has shown one. Of a fact against which a point or a ray stands
-/// nothing is asked. On programs with many rules and places these are many linear programs still.
+/// The first round queries for each rule whether its combined rows have no point, and, where they may have one, which
+/// facts at its target follow from them: one linear program each. A later round queries only the rules at whose source
+/// a fact was dropped, and not whether a rule has a point if it has shown one. A fact refuted by a known point or ray
+/// is not queried. On programs with many rules and places these are still many linear programs.
 ///
 /// # Errors
 ///
@@ -38,25 +39,25 @@ use std::mem;
 pub fn facts(
     alloc: Global,
     p: &Program,
-    preps: &[RuleRows],
+    prepared_rules: &[RuleRows],
     pivots: u32,
 ) -> Result<LocFacts, Memory>
     requires valid { IsValid (program_of p.now) }
-    requires rows { AreRowsOf preps.now (program_of p.now) }
+    requires rows { AreRowsOf prepared_rules.now (program_of p.now) }
     ensures kept { IfOk result (λ f. AreKept (program_of p.now) pivots f.kept.items) }
     ensures proved { IfOk result (λ f. AreProved (program_of p.now) f.kept.items (proofs_of f)) }
 {
     let into = rules_by_symbol(alloc, p)?;
     let search = Search {
         program: p,
-        preps,
+        prepared_rules,
         pivots,
         into: &into,
     };
     let candidates = all_candidates(alloc, p)?;
     let all = vec![in alloc; true; p.rules.len()]?;
     let mut points = vec![in alloc; false; p.rules.len()]?;
-    let tried = Listed {
+    let tried = CandidateFacts {
         facts: &candidates,
         proofs: Vec::new(alloc),
     };
@@ -65,7 +66,7 @@ pub fn facts(
     while found.kept.len() < kept.len() {
         let due = due_rules(alloc, p, &kept, &found.kept)?;
         let LocFacts { kept: now, proofs } = found;
-        let listed = Listed {
+        let listed = CandidateFacts {
             facts: &now,
             proofs,
         };
@@ -75,18 +76,19 @@ pub fn facts(
     Ok(found)
 }
 
-// The facts of a list that every rule into their symbol implies under it, with proofs over the rows under that list. The
-// rules that are due are asked, but of no fact against which a point or a ray stands, and those that are marked not
-// whether they have a point, since they have one. One that shows one is marked. What the other rules told before stands.
+// The facts of a list that every rule into their symbol implies under it, with proofs over the rows under that list.
+// Only rules that are due are queried, and only facts that no known point or ray refutes; a marked rule isn't queried
+// for a point, since it has one, and a rule that shows a point is marked. The earlier answers of the other rules remain
+// valid.
 fn next_facts(
     alloc: Global,
     search: Search,
-    listed: Listed,
+    listed: CandidateFacts,
     due: &[bool],
     points: &mut Vec<bool>,
 ) -> Result<LocFacts, Memory>
     requires valid { IsValid (program_of search.program.now) }
-    requires rows { AreRowsOf search.preps.now (program_of search.program.now) }
+    requires rows { AreRowsOf search.prepared_rules.now (program_of search.program.now) }
     requires into { AreRulesInto (program_of search.program.now) search.into.now }
     requires ordered { AreInOrder (program_of search.program.now) listed.facts.now }
     requires shown { AreShownEarlier (program_of search.program.now) search.pivots due.now listed.facts.now
@@ -99,7 +101,7 @@ fn next_facts(
     ensures points { IfOk result (λ _.
         ArePointed (program_of search.entry.program.now) listed.entry.facts.now points.new.items) }
 {
-    let Listed {
+    let CandidateFacts {
         facts,
         proofs: mut standing,
     } = listed;
@@ -113,12 +115,12 @@ fn next_facts(
         begin_symbol(&mut elements, symbol, fact.symbol);
         symbol = fact.symbol;
         let before = taken_proofs(alloc, &mut standing, i);
-        let earlier = Earlier {
+        let earlier = EarlierProofs {
             fact,
             proofs: before,
         };
-        let told = proofs_under(alloc, search, &unders, &elements, earlier)?;
-        push_told(&mut kept, &mut proofs, &mut elements, fact, told)?;
+        let verdict = proofs_under(alloc, search, &unders, &elements, earlier)?;
+        push_verdict(&mut kept, &mut proofs, &mut elements, fact, verdict)?;
     }
     Ok(LocFacts { kept, proofs })
 }
@@ -144,28 +146,28 @@ fn taken_proofs(alloc: Global, proofs: &mut Vec<Vec<FactProof>>, i: usize) -> Ve
     }
 }
 
-// Appends a fact with its proofs, where it has them, and else the element that stands against it, where there is one.
-fn push_told(
+// Appends a fact with its proofs, if it has them, and else the point or ray that refutes it, if there is one.
+fn push_verdict(
     kept: &mut Vec<LocFact>,
     proofs: &mut Vec<Vec<FactProof>>,
     elements: &mut Vec<Element>,
     fact: LocFact,
-    told: Told,
+    verdict: FactVerdict,
 ) -> Result<(), Memory>
     ensures facts { IfOk result (λ _.
-        IsPushed fact (proofs_in told) kept.old.items kept.new.items proofs.old.items proofs.new.items) }
-    ensures elements { IfOk result (λ _. elements.new.items ≡ elements.old.items ++ elements_in told) }
+        IsPushed fact (proofs_in verdict) kept.old.items kept.new.items proofs.old.items proofs.new.items) }
+    ensures elements { IfOk result (λ _. elements.new.items ≡ elements.old.items ++ elements_in verdict) }
 {
-    match told {
-        Told::Shown(list) => {
+    match verdict {
+        FactVerdict::Shown(list) => {
             kept.push(fact)?;
             proofs.push(list)?;
             Ok(())
         }
-        Told::Against(element) => {
+        FactVerdict::Against(element) => {
             elements.push(element)?;
             Ok(())
         }
-        Told::Missed => Ok(()),
+        FactVerdict::Missed => Ok(()),
     }
 }

@@ -29,15 +29,15 @@ fn value_before(alloc: Global, place: u32) -> Result<Row, Memory>
 
 // The value at a place after a rule with these new values.
 #[tactic(auto, using(crate::proofs::RowForms::after_none, crate::proofs::RowForms::after_found, crate::proofs::RowForms::after_missing, crate::proofs::RowForms::none_small, crate::proofs::RowForms::after_small))]
-fn value_after(alloc: Global, news: &[Row], place: u32) -> Result<Row, Memory>
-    requires { All (λ r. IsSmall (form_of r)) news.now }
-    ensures same { IfOk result (λ row. form_of row ≡ after (map form_of news.now) place) }
+fn value_after(alloc: Global, new_values: &[Row], place: u32) -> Result<Row, Memory>
+    requires { All (λ r. IsSmall (form_of r)) new_values.now }
+    ensures same { IfOk result (λ row. form_of row ≡ after (map form_of new_values.now) place) }
     ensures small { IfOk result (λ row. IsSmall (form_of row)) }
 {
     if place == 0 {
         return Ok(constant_row(alloc, 0));
     }
-    match news.get(place as usize - 1) {
+    match new_values.get(place as usize - 1) {
         Some(row) => {
             let copy = copied_row(alloc, row)?;
             Ok(copy)
@@ -84,13 +84,13 @@ pub(crate) fn row_before(alloc: Global, fact: LocFact) -> Result<Row, Memory>
 
 /// A fact at the target of a rule with these new values, as a goal.
 #[tactic(auto, using(crate::proofs::RowForms::row_after_made))]
-pub(crate) fn row_after(alloc: Global, news: &[Row], fact: LocFact) -> Result<Row, Memory>
-    requires { All (λ r. IsSmall (form_of r)) news.now }
-    ensures same { IfOk result (λ row. form_of row ≡ goal_of (map form_of news.now) fact) }
+pub(crate) fn row_after(alloc: Global, new_values: &[Row], fact: LocFact) -> Result<Row, Memory>
+    requires { All (λ r. IsSmall (form_of r)) new_values.now }
+    ensures same { IfOk result (λ row. form_of row ≡ goal_of (map form_of new_values.now) fact) }
     ensures small { IfOk result (λ row. IsGoalSmall (form_of row)) }
 {
-    let plus = value_after(alloc, news, fact.plus)?;
-    let minus = value_after(alloc, news, fact.minus)?;
+    let plus = value_after(alloc, new_values, fact.plus)?;
+    let minus = value_after(alloc, new_values, fact.minus)?;
     margin_row(alloc, &plus, &minus, fact.least)
 }
 

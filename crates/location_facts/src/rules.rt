@@ -1,4 +1,4 @@
-//! The rules of a program under a list of facts: what is asked of each before the facts at its target.
+//! The rules of a program under a list of facts: what is queried of each before the facts at its target.
 
 ghost use Rattle.std.specs.Prelude.{◌≡◌, ◌⊎◌, ◌++◌, ◌≤◌, ◌<◌, ℕ, List, length, map, true, false, Some};
 ghost use Rattle.std.specs.Prelude.{slice_get, slice_index, IfOk};
@@ -8,7 +8,7 @@ ghost use Rattle.poly_terms.specs.linear_forms.Forms.{Form};
 ghost use Rattle.poly_terms.specs.Views.{form_of};
 ghost use Rattle.its_model.specs.Valid.{IsValid};
 ghost use Rattle.its_model.specs.Views.{program_of};
-ghost use Rattle.proof_tree.specs.Composing.{AreRowsOf};
+ghost use Rattle.cert_types.specs.Composing.{AreRowsOf};
 ghost use Rattle.rule_questions.specs.EmptyAnswers.{IsPrepared};
 ghost use Rattle.location_facts.specs.Due.{AreDue, AreUnder, IsWanted, HasKnownPoint, TellsRule};
 ghost use Rattle.location_facts.specs.Implied.{AreInOrder};
@@ -16,35 +16,35 @@ ghost use Rattle.location_facts.specs.Pointed.{HasPoint, TellsPoint, ArePointed}
 ghost use Rattle.location_facts.specs.Rows.{row_before as row_of, facts_at as facts_of_symbol};
 
 use crate::fact::LocFact;
-use crate::implied::{Under, pointed_under, rule_under};
+use crate::implied::{RuleUnderFacts, feasible_rule_under_facts, rule_under_facts};
 use crate::tables::counts_by_symbol;
 use guard_prep::RuleRows;
 use its_model::Program;
 use poly_terms::Memory;
 use std::alloc::Global;
 
-/// What facts are asked of: a program, what is prepared of its rules, how many pivots a linear program may take, and
-/// which rules lead where.
+/// The context of queries on facts: a program, the rows of its rules, how many pivots a linear program may take, and
+/// the rules into each symbol.
 #[derive(Clone, Copy)]
 pub(crate) struct Search<'a> {
     pub program: &'a Program,
-    pub preps: &'a [RuleRows],
+    pub prepared_rules: &'a [RuleRows],
     pub pivots: u32,
     /// For each symbol, the rules that lead to it, ascending.
     pub into: &'a [Vec<u32>],
 }
 
-/// A rule: what is prepared of it, and its source.
+/// A rule: its prepared rows, and its source.
 #[derive(Clone, Copy)]
 pub(crate) struct Leaving<'a> {
-    pub prep: &'a RuleRows,
+    pub prepared_rule: &'a RuleRows,
     pub source: u32,
 }
 
-/// What is asked of a rule under a list of facts.
+/// What is queried of a rule under a list of facts.
 #[derive(Clone, Copy, Debug)]
 pub(crate) enum Wanted {
-    /// Nothing: what was told of it before stands.
+    /// Nothing: the earlier answers remain valid.
     Nothing,
     /// Which facts it implies: its combined rows have a point.
     Facts,
@@ -52,7 +52,7 @@ pub(crate) enum Wanted {
     Everything,
 }
 
-/// Which rules are due where the second list follows the first: those at whose source a fact went.
+/// Which rules are due when the second list follows the first: those at whose source a fact was dropped.
 ///
 /// # Errors
 ///
@@ -88,8 +88,8 @@ fn differ(before: &[usize], after: &[usize], symbol: u32) -> bool
     true
 }
 
-/// The rules of a program, each under a list where it is due. Those that are marked have a point under the list, and
-/// those that show one are marked.
+/// The rules of a program, each under a list if it is due. Marked rules have a point under the list, and rules that
+/// show one are marked.
 ///
 /// # Errors
 ///
@@ -100,9 +100,9 @@ pub(crate) fn rules_under(
     kept: &[LocFact],
     due: &[bool],
     points: &mut Vec<bool>,
-) -> Result<Vec<Option<Under>>, Memory>
+) -> Result<Vec<Option<RuleUnderFacts>>, Memory>
     requires valid { IsValid (program_of search.program.now) }
-    requires rows { AreRowsOf search.preps.now (program_of search.program.now) }
+    requires rows { AreRowsOf search.prepared_rules.now (program_of search.program.now) }
     requires ordered { AreInOrder (program_of search.program.now) kept.now }
     requires points { ArePointed (program_of search.program.now) kept.now points.old.items }
     ensures rules { IfOk result (λ us.
@@ -111,10 +111,10 @@ pub(crate) fn rules_under(
 {
     let mut unders = Vec::new(alloc);
     for i in 0..search.program.rules.len() {
-        let prep = &search.preps[i];
+        let prepared_rule = &search.prepared_rules[i];
         let rule = &search.program.rules[i];
         let leaving = Leaving {
-            prep,
+            prepared_rule,
             source: rule.source,
         };
         let asked = asked_of(due, points, i);
@@ -126,7 +126,7 @@ pub(crate) fn rules_under(
     Ok(unders)
 }
 
-// What is asked of a rule, by whether it is due and whether it is marked.
+// What is queried of a rule, by whether it is due and whether it is marked.
 fn asked_of(due: &[bool], points: &[bool], i: usize) -> Wanted
     ensures { IsWanted due.now points.now i result }
 {
@@ -150,7 +150,7 @@ fn mark(points: &mut Vec<bool>, i: usize, has_point: bool)
 }
 
 // Whether a rule that is under a list says that it has a point.
-fn has_point(under: &Option<Under>) -> bool
+fn has_point(under: &Option<RuleUnderFacts>) -> bool
     ensures { result ≡ true → (rows : List Form) → TellsPoint rows under.now → HasPoint rows }
 {
     match under {
@@ -159,34 +159,34 @@ fn has_point(under: &Option<Under>) -> bool
     }
 }
 
-// A rule under a list, where anything is asked of it.
+// A rule under a list, if anything is queried of it.
 fn rule_if_due(
     alloc: Global,
     rule: Leaving,
     kept: &[LocFact],
     asked: Wanted,
     pivots: u32,
-) -> Result<Option<Under>, Memory>
-    requires prepared { IsPrepared rule.prep.now }
-    requires few { length (map form_of rule.prep.now.rows.items ++ map row_of (facts_of_symbol rule.source kept.now))
+) -> Result<Option<RuleUnderFacts>, Memory>
+    requires prepared { IsPrepared rule.prepared_rule.now }
+    requires few { length (map form_of rule.prepared_rule.now.rows.items ++ map row_of (facts_of_symbol rule.source kept.now))
         ≤ 371 }
-    requires writable { All (IsWritable rule.prep.now.unknowns)
-        (map form_of rule.prep.now.rows.items ++ map row_of (facts_of_symbol rule.source kept.now)) }
+    requires writable { All (IsWritable rule.prepared_rule.now.unknowns)
+        (map form_of rule.prepared_rule.now.rows.items ++ map row_of (facts_of_symbol rule.source kept.now)) }
     requires point { HasKnownPoint asked
-        (map form_of rule.prep.now.rows.items ++ map row_of (facts_of_symbol rule.source kept.now)) }
-    ensures told { IfOk result (TellsRule pivots rule.entry.prep.now.unknowns
-        (map form_of rule.entry.prep.now.rows.items ++ map row_of (facts_of_symbol rule.entry.source kept.now)) asked) }
+        (map form_of rule.prepared_rule.now.rows.items ++ map row_of (facts_of_symbol rule.source kept.now)) }
+    ensures verdict { IfOk result (TellsRule pivots rule.entry.prepared_rule.now.unknowns
+        (map form_of rule.entry.prepared_rule.now.rows.items ++ map row_of (facts_of_symbol rule.entry.source kept.now)) asked) }
     ensures point { IfOk result (TellsPoint
-        (map form_of rule.entry.prep.now.rows.items ++ map row_of (facts_of_symbol rule.entry.source kept.now))) }
+        (map form_of rule.entry.prepared_rule.now.rows.items ++ map row_of (facts_of_symbol rule.entry.source kept.now))) }
 {
     match asked {
         Wanted::Nothing => Ok(None),
         Wanted::Facts => {
-            let under = pointed_under(alloc, rule.prep, rule.source, kept)?;
+            let under = feasible_rule_under_facts(alloc, rule.prepared_rule, rule.source, kept)?;
             Ok(Some(under))
         }
         Wanted::Everything => {
-            let under = rule_under(alloc, rule.prep, rule.source, kept, pivots)?;
+            let under = rule_under_facts(alloc, rule.prepared_rule, rule.source, kept, pivots)?;
             Ok(Some(under))
         }
     }

@@ -1,5 +1,5 @@
-//! Whether all rules into a fact's symbol imply it under a list: asked of those that are due, while what the others told
-//! before stands.
+//! Whether all rules into a fact's symbol imply it under a list: those that are due are queried, and the earlier
+//! answers of the others remain valid.
 
 ghost use Rattle.std.specs.Prelude.{◌≡◌, ◌≢◌, ℕ, List, length, map, Some, slice_get, IfOk, Bool};
 ghost use Rattle.std.specs.List.{All};
@@ -7,7 +7,7 @@ ghost use Rattle.poly_terms.specs.linear_forms.Forms.{Form};
 ghost use Rattle.poly_terms.specs.Views.{form_of};
 ghost use Rattle.its_model.specs.Valid.{IsValid};
 ghost use Rattle.its_model.specs.Views.{program_of};
-ghost use Rattle.proof_tree.specs.Composing.{AreRowsOf};
+ghost use Rattle.cert_types.specs.Composing.{AreRowsOf};
 ghost use Rattle.rule_questions.specs.EmptyAnswers.{IsPrepared};
 ghost use Rattle.location_facts.specs.declared.fact.LocFact.{LocFact as Fact};
 ghost use Rattle.location_facts.specs.Due.{AreUnder, AnyUnder, HasRows, IsShownEarlier, TellsAgain, StandsOf};
@@ -21,49 +21,49 @@ ghost use Rattle.location_facts.specs.Tables.{AreRulesInto};
 use crate::checks::rules_into;
 use crate::elements::{Element, is_refuted};
 use crate::fact::{FactProof, LocFact};
-use crate::implied::{Answered, Under, answer_under};
+use crate::implied::{Answered, RuleUnderFacts, answer_under};
 use crate::rules::Search;
 use guard_prep::RuleRows;
 use poly_terms::Memory;
 use std::alloc::Global;
 use std::mem;
 
-/// Facts with the proofs that showed each under an earlier list, by position; or with none, where they are asked for
-/// the first time.
+/// Facts with the proofs that certified each under an earlier list, by position; or with none, where they are queried
+/// for the first time.
 #[derive(Debug, Drop)]
-pub(crate) struct Listed<'a> {
+pub(crate) struct CandidateFacts<'a> {
     pub facts: &'a [LocFact],
     pub proofs: Vec<Vec<FactProof>>,
 }
 
-/// A fact with the proofs that showed it under an earlier list, one for each rule into its symbol; or with none, where it
-/// is asked for the first time.
+/// A fact with the proofs that certified it under an earlier list, one for each rule into its symbol; or with none,
+/// where it is queried for the first time.
 #[derive(Debug, Drop)]
-pub(crate) struct Earlier {
+pub(crate) struct EarlierProofs {
     pub fact: LocFact,
     pub proofs: Vec<FactProof>,
 }
 
-/// A rule: what is prepared of it, and how it is under a list, where it is due.
+/// A rule: its prepared rows, and its state under a list, if it is due.
 #[derive(Clone, Copy)]
-pub(crate) struct Asked<'a> {
-    pub prep: &'a RuleRows,
-    pub under: &'a Option<Under>,
+pub(crate) struct FactQuery<'a> {
+    pub prepared_rule: &'a RuleRows,
+    pub under: &'a Option<RuleUnderFacts>,
 }
 
-/// What is told of whether all rules imply a fact.
+/// The answer on whether all rules imply a fact.
 #[derive(Debug, Drop)]
-pub(crate) enum Told {
-    /// They do, as a proof for each rule into its symbol shows.
+pub(crate) enum FactVerdict {
+    /// All do, with a proof for each rule into its symbol.
     Shown(Vec<FactProof>),
-    /// One of them doesn't, as this element shows.
+    /// One of them doesn't, as this point or ray shows.
     Against(Element),
     /// One of them doesn't.
     Missed,
 }
 
-/// Proofs that a fact is kept for each rule into its symbol, where all of them imply it, and else which element stands
-/// against it, where one is found. Nothing is asked of a fact against which an element stands.
+/// Proofs that each rule into its symbol implies a fact, if all do; else the point or ray that refutes it, if one is
+/// found. A fact that a known point or ray refutes isn't queried.
 ///
 /// # Errors
 ///
@@ -71,16 +71,16 @@ pub(crate) enum Told {
 pub(crate) fn proofs_under(
     alloc: Global,
     search: Search,
-    unders: &[Option<Under>],
+    unders: &[Option<RuleUnderFacts>],
     elements: &[Element],
-    earlier: Earlier,
-) -> Result<Told, Memory>
+    earlier: EarlierProofs,
+) -> Result<FactVerdict, Memory>
     requires valid { IsValid (program_of search.program.now) }
-    requires rows { AreRowsOf search.preps.now (program_of search.program.now) }
+    requires rows { AreRowsOf search.prepared_rules.now (program_of search.program.now) }
     requires into { AreRulesInto (program_of search.program.now) search.into.now }
     requires under { AnyUnder (program_of search.program.now) search.pivots unders.now }
     requires measured { All (IsMeasured (program_of search.program.now)) elements.now }
-    ensures told { IfOk result (λ t. (due : List Bool) (kept : List Fact)
+    ensures verdict { IfOk result (λ t. (due : List Bool) (kept : List Fact)
         → AreUnder (program_of search.entry.program.now) search.entry.pivots due kept unders.now
         → AreElements (program_of search.entry.program.now) search.entry.pivots kept elements.now
         → IsShownEarlier (program_of search.entry.program.now) search.entry.pivots due kept earlier.fact
@@ -93,8 +93,13 @@ pub(crate) fn proofs_under(
         earlier.proofs.items
         → AreElements (program_of search.entry.program.now) search.entry.pivots kept (elements_in t)) }
 {
-    if is_refuted(search.program, search.preps, elements, earlier.fact) {
-        return Ok(Told::Missed);
+    if is_refuted(
+        search.program,
+        search.prepared_rules,
+        elements,
+        earlier.fact,
+    ) {
+        return Ok(FactVerdict::Missed);
     }
     match search.into.get(earlier.fact.symbol as usize) {
         Some(into) => proofs_by(alloc, search, unders, into, earlier),
@@ -105,20 +110,20 @@ pub(crate) fn proofs_under(
     }
 }
 
-// Proofs by the rules into a fact's symbol, where all of them imply it, and else which element stands against it, where
-// one is found.
+// Proofs by the rules into a fact's symbol, if all of them imply it; else the point or ray that refutes it, if one is
+// found.
 fn proofs_by(
     alloc: Global,
     search: Search,
-    unders: &[Option<Under>],
+    unders: &[Option<RuleUnderFacts>],
     into: &[u32],
-    earlier: Earlier,
-) -> Result<Told, Memory>
+    earlier: EarlierProofs,
+) -> Result<FactVerdict, Memory>
     requires valid { IsValid (program_of search.program.now) }
-    requires rows { AreRowsOf search.preps.now (program_of search.program.now) }
+    requires rows { AreRowsOf search.prepared_rules.now (program_of search.program.now) }
     requires into { into.now ≡ rules_to (program_of search.program.now) earlier.fact.symbol }
     requires under { AnyUnder (program_of search.program.now) search.pivots unders.now }
-    ensures told { IfOk result (λ t. (due : List Bool) (kept : List Fact)
+    ensures verdict { IfOk result (λ t. (due : List Bool) (kept : List Fact)
         → AreUnder (program_of search.entry.program.now) search.entry.pivots due kept unders.now
         → IsShownEarlier (program_of search.entry.program.now) search.entry.pivots due kept earlier.fact
         earlier.proofs.items
@@ -130,26 +135,29 @@ fn proofs_by(
         earlier.proofs.items
         → AreElements (program_of search.entry.program.now) search.entry.pivots kept (elements_in t)) }
 {
-    let Earlier {
+    let EarlierProofs {
         fact,
         proofs: mut standing,
     } = earlier;
     let mut proofs = Vec::new(alloc);
     for k in 0..into.len() {
         let rule = into[k];
-        let prep = &search.preps[rule as usize - 1];
+        let prepared_rule = &search.prepared_rules[rule as usize - 1];
         let under = &unders[rule as usize - 1];
-        let asked = Asked { prep, under };
+        let asked = FactQuery {
+            prepared_rule,
+            under,
+        };
         let before = taken_proof(alloc, &mut standing, k);
         match proof_by(alloc, asked, fact, before, search.pivots)? {
             Answered::Shown(proof) => {
                 proofs.push(proof)?;
             }
-            Answered::Against(at) => return Ok(Told::Against(Element { rule, at })),
-            Answered::Missed => return Ok(Told::Missed),
+            Answered::Against(at) => return Ok(FactVerdict::Against(Element { rule, at })),
+            Answered::Missed => return Ok(FactVerdict::Missed),
         }
     }
-    Ok(Told::Shown(proofs))
+    Ok(FactVerdict::Shown(proofs))
 }
 
 // Takes out the proof at a position, where there is one.
@@ -163,26 +171,26 @@ fn taken_proof(alloc: Global, proofs: &mut Vec<FactProof>, k: usize) -> Option<F
     }
 }
 
-// Whether a rule implies a fact: it is asked, or the earlier proof stands.
+// Whether a rule implies a fact: by a query, or by the earlier proof.
 fn proof_by(
     alloc: Global,
-    asked: Asked,
+    asked: FactQuery,
     fact: LocFact,
     earlier: Option<FactProof>,
     pivots: u32,
 ) -> Result<Answered, Memory>
-    requires prepared { IsPrepared asked.prep.now }
-    requires rows { HasRows asked.prep.now.unknowns asked.under.now }
-    ensures told { IfOk result (λ a. (rows : List Form)
-        → TellsAgain pivots asked.entry.prep.now.unknowns rows
-        (goal_of (map form_of asked.entry.prep.now.news.items) fact) asked.entry.under.now earlier
-        → TellsGoal pivots asked.entry.prep.now.unknowns rows
-        (goal_of (map form_of asked.entry.prep.now.news.items) fact) (proof_in a)) }
-    ensures stands { IfOk result (StandsOf asked.entry.prep.now.unknowns
-        (goal_of (map form_of asked.entry.prep.now.news.items) fact) asked.entry.under.now) }
+    requires prepared { IsPrepared asked.prepared_rule.now }
+    requires rows { HasRows asked.prepared_rule.now.unknowns asked.under.now }
+    ensures verdict { IfOk result (λ a. (rows : List Form)
+        → TellsAgain pivots asked.entry.prepared_rule.now.unknowns rows
+        (goal_of (map form_of asked.entry.prepared_rule.now.new_values.items) fact) asked.entry.under.now earlier
+        → TellsGoal pivots asked.entry.prepared_rule.now.unknowns rows
+        (goal_of (map form_of asked.entry.prepared_rule.now.new_values.items) fact) (proof_in a)) }
+    ensures stands { IfOk result (StandsOf asked.entry.prepared_rule.now.unknowns
+        (goal_of (map form_of asked.entry.prepared_rule.now.new_values.items) fact) asked.entry.under.now) }
 {
     match asked.under {
-        Some(under) => answer_under(alloc, asked.prep, under, fact, pivots),
+        Some(under) => answer_under(alloc, asked.prepared_rule, under, fact, pivots),
         None => Ok(standing_answer(earlier)),
     }
 }

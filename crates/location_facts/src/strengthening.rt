@@ -1,4 +1,4 @@
-//! Programs whose guards say, too, which facts hold at the sources of their rules.
+//! Strengthens programs: adds the facts at the source of each rule to its guard.
 
 ghost use Rattle.std.specs.Prelude.{◌≡◌, ◌++◌, ◌&&◌, ◌↔◌, nat_eq, if◌then◌else◌, map, IfOk, Option, None, Some};
 ghost use Rattle.std.specs.Prelude.{List, ℤ};
@@ -21,10 +21,10 @@ use model::ATOM_LIMIT;
 use poly_terms::{Expr, Memory};
 use std::alloc::Global;
 
-/// The program in which the guard of each rule has, behind its atoms, for each plus and minus with kept facts at the
-/// rule's source the one with the greatest least, in order, as long as there are at most 64 atoms, a cost counting as
-/// one. The kept facts are facts that are tried and hold on every run; so it has the same runs, and each bound of it
-/// holds for the program itself (`strengthening_changes_no_run`).
+/// The strengthened program: the guard of each rule is followed, for each plus and minus with kept facts at the rule's
+/// source, by the atom of the strongest of these facts, in order, as long as there are at most 64 atoms, where a cost
+/// counts as one. The kept facts have to be candidates that hold on every run; so the program has the same runs, and
+/// each of its bounds holds for the program itself (`strengthening_changes_no_run`).
 ///
 /// # Errors
 ///
@@ -212,7 +212,7 @@ fn negation(alloc: Global, minus: u32) -> Result<Expr, Memory>
     Ok(Expr::Neg(Box::new(alloc, Expr::Var(minus - 1))?))
 }
 
-/// The greatest least of the facts with these places, where there is one.
+/// The greatest `least` of the facts with these places, if there is one.
 pub fn greatest_least(facts: &[LocFact], plus: u32, minus: u32) -> Option<i64>
     ensures { result ≡ greatest_of plus minus None facts.now }
 {
@@ -223,7 +223,7 @@ pub fn greatest_least(facts: &[LocFact], plus: u32, minus: u32) -> Option<i64>
     best
 }
 
-// The best so far, or the least of a fact with these places where that is greater.
+// The best number so far, or the `least` of a fact with these places if that is greater.
 fn better(fact: LocFact, plus: u32, minus: u32, best: Option<i64>) -> Option<i64>
     ensures { result ≡ (if nat_eq fact.plus plus && nat_eq fact.minus minus
         then Some (greater_of fact.least best) else best) }

@@ -29,7 +29,7 @@ pub(crate) fn rules_by_symbol(alloc: Global, p: &Program) -> Result<Vec<Vec<u32>
     Ok(table)
 }
 
-/// How many of the facts each symbol has, of so many symbols.
+/// How many of the facts each symbol has, for this many symbols.
 ///
 /// # Errors
 ///

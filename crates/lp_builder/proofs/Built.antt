@@ -18,8 +18,8 @@ pub double-is : (n : ℕ) → double n ≡ 2 * n
 double-is zero = refl
 double-is (suc n) = let ih = double-is n in omega (arith, ih)
 
-module _ (b : Builder) (costs : List Cost) (p : Problem) (ready : AtRowStart b) (long : length costs ≡ b.parameters) (rows : p.rows ≡ b.sheet.row)
-    (columns : p.cols ≡ 2 * b.parameters + b.columns) (entries : p.entries.items ≡ b.sheet.entries.items) (right : p.right.items ≡ b.right.items)
+module _ (b : Builder) (costs : List Cost) (p : Problem) (ready : AtRowStart b) (long : length costs ≡ b.parameters) (rows : p.rows ≡ b.writer.row)
+    (columns : p.cols ≡ 2 * b.parameters + b.columns) (entries : p.entries.items ≡ b.writer.entries.items) (right : p.right.items ≡ b.right.items)
     (first : p.first.items ≡ on_both (map (λ (c : Cost). c.size) costs) ++ replicate b.columns (pos 0))
     (second : p.second.items ≡ on_plus (map (λ (c : Cost). c.height) costs) ++ replicate b.columns (pos 0)) where
   -- the question of held groups has its shape

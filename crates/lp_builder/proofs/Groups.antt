@@ -1,4 +1,4 @@
--- The lines of groups, one behind the other, and what a builder holds of them.
+-- The lines of groups, one after the other, and what a builder holds of them.
 use Rattle.std.proofs.Common.{◌≡◌, ℕ, zero, suc, ◌+◌, ◌-◌, ◌≤◌, ap, arith, refl, sym, ◌∙◌, subst, List, [], ◌∷◌, ◌++◌}
 use Rattle.std.proofs.Common.{length, map, append_assoc}
 use Rattle.std.specs.Prelude.{ℤ}
@@ -14,7 +14,7 @@ use Rattle.poly_terms.specs.declared.poly.Row.{Row}
 use Rattle.poly_terms.specs.Views.{form_of}
 use Rattle.simplex_core.specs.declared.problem.Entry.{Entry}
 use Rattle.lp_builder.specs.declared.builder.Builder.{Builder}
-use Rattle.lp_builder.specs.declared.sheet.Sheet.{Sheet}
+use Rattle.lp_builder.specs.declared.writer.EntryWriter.{EntryWriter}
 use Rattle.lp_builder.specs.Builders.{Holds}
 use Rattle.lp_builder.specs.declared.description.Goal.{Goal}
 use Rattle.lp_builder.specs.Descriptions.{IsWritable, AreWritable, group_of}
@@ -33,9 +33,9 @@ rights_of es = map (λ (e : Equation). e.right) es
 pub record Written (a b : Builder) (g : Group) (n : ℕ) : Type 0 where
   pub parameters : b.parameters ≡ a.parameters
   pub columns : b.columns ≡ a.columns
-  pub row : b.sheet.row ≡ a.sheet.row + n
-  pub col : b.sheet.col ≡ 0
-  pub entries : b.sheet.entries.items ≡ a.sheet.entries.items ++ entries_of a.sheet.row (numbers_of (listed n (line a.columns g)))
+  pub row : b.writer.row ≡ a.writer.row + n
+  pub col : b.writer.col ≡ 0
+  pub entries : b.writer.entries.items ≡ a.writer.entries.items ++ entries_of a.writer.row (numbers_of (listed n (line a.columns g)))
   pub right : b.right.items ≡ a.right.items ++ rights_of (listed n (line a.columns g))
 
 -- entries of lines behind others
@@ -64,18 +64,18 @@ listed-more {A} n f = ap (λ (k : ℕ). listed k f) one ∙ go n f
     go (suc n) f = ap (λ (xs : List A). f 0 ∷ xs) (go n (λ i. f (suc i)))
 
 -- nothing is written yet
-pub written-none : (a : Builder) (g : Group) → a.sheet.col ≡ 0 → Written a a g 0
+pub written-none : (a : Builder) (g : Group) → a.writer.col ≡ 0 → Written a a g 0
 written-none a g col = record {
   parameters = refl;
   columns = refl;
   row = omega arith;
   col = col;
-  entries = sym (append-nil a.sheet.entries.items);
+  entries = sym (append-nil a.writer.entries.items);
   right = sym (append-nil a.right.items);
 }
 
 -- the entries of a line more
-entries-more : (a s t u : Sheet) (lines : List Equation) (l : Equation) (n : ℕ) → length lines ≡ n → s.row ≡ a.row + n → s.col ≡ 0
+entries-more : (a s t u : EntryWriter) (lines : List Equation) (l : Equation) (n : ℕ) → length lines ≡ n → s.row ≡ a.row + n → s.col ≡ 0
     → s.entries.items ≡ a.entries.items ++ entries_of a.row (numbers_of lines) → Writes s t l.numbers → GoesOn t u
     → u.entries.items ≡ a.entries.items ++ entries_of a.row (numbers_of (lines ++ (l ∷ [])))
 entries-more a s t u lines l n long row col e w g =
@@ -96,15 +96,15 @@ entries-more a s t u lines l n long row col e w g =
         ∙ ap (λ (es : List Entry). entries_of a.row (numbers_of lines) ++ es) (append-nil (sparse (a.row + length (numbers_of lines)) 0 l.numbers)))
 
 -- a line more
-pub written-more : (a b d : Builder) (t : Sheet) (g : Group) (n : ℕ) (v : ℤ) → Written a b g n → Writes b.sheet t (line a.columns g n).numbers → GoesOn t d.sheet
+pub written-more : (a b d : Builder) (t : EntryWriter) (g : Group) (n : ℕ) (v : ℤ) → Written a b g n → Writes b.writer t (line a.columns g n).numbers → GoesOn t d.writer
     → d.parameters ≡ b.parameters → d.columns ≡ b.columns → d.right.items ≡ b.right.items ++ (v ∷ []) → v ≡ (line a.columns g n).right → Written a d g (n + 1)
 written-more a b d t g n v w writes on parameters columns right is = record {
   parameters = parameters ∙ w.parameters;
   columns = columns ∙ w.columns;
   row = omega (arith, on.row, writes.row, w.row);
   col = on.col;
-  entries = entries-more a.sheet b.sheet t d.sheet (listed n (line a.columns g)) (line a.columns g n) n (length-listed n (line a.columns g)) w.row w.col w.entries writes on
-      ∙ ap (λ (ls : List Equation). a.sheet.entries.items ++ entries_of a.sheet.row (numbers_of ls)) (sym (listed-more n (line a.columns g)));
+  entries = entries-more a.writer b.writer t d.writer (listed n (line a.columns g)) (line a.columns g n) n (length-listed n (line a.columns g)) w.row w.col w.entries writes on
+      ∙ ap (λ (ls : List Equation). a.writer.entries.items ++ entries_of a.writer.row (numbers_of ls)) (sym (listed-more n (line a.columns g)));
   right = right
       ∙ (ap (λ (xs : List ℤ). xs ++ (v ∷ [])) w.right
       ∙ (ap (λ (z : ℤ). (a.right.items ++ rights_of (listed n (line a.columns g))) ++ (z ∷ [])) is
@@ -134,14 +134,14 @@ columns-more [] g = omega arith
 columns-more (h ∷ gs) g = let ih = columns-more gs g in omega (arith, ih)
 
 -- a group whose lines are all written is held, behind those that are held before
-pub group-held : (a b d : Builder) (g : Group) → IsGroupShaped a.parameters g → Written a b g (g.unknowns + 1) → d.sheet.row ≡ b.sheet.row
-    → d.sheet.entries.items ≡ b.sheet.entries.items → d.right.items ≡ b.right.items → d.parameters ≡ b.parameters → d.columns ≡ b.columns + length g.rows + 1
+pub group-held : (a b d : Builder) (g : Group) → IsGroupShaped a.parameters g → Written a b g (g.unknowns + 1) → d.writer.row ≡ b.writer.row
+    → d.writer.entries.items ≡ b.writer.entries.items → d.right.items ≡ b.right.items → d.parameters ≡ b.parameters → d.columns ≡ b.columns + length g.rows + 1
     → (gs : List Group) → Holds a gs → Holds d (gs ++ (g ∷ []))
 group-held a b d g shape w row entries right parameters columns gs h = record {
   row = row ∙ (w.row ∙ (added ∙ ap (λ (es : List Equation). length es) (sym lines)));
   entries = entries
       ∙ (w.entries
-      ∙ (ap (λ (es : List Entry). es ++ entries_of a.sheet.row (numbers_of group)) h.entries
+      ∙ (ap (λ (es : List Entry). es ++ entries_of a.writer.row (numbers_of group)) h.entries
       ∙ (ap (λ (k : ℕ). entries_of 0 (numbers_of before) ++ entries_of k (numbers_of group)) start
       ∙ (sym (entries-append 0 (numbers_of before) (numbers_of group))
       ∙ ap (λ (ls : List (List ℤ)). entries_of 0 ls) (sym (map-append (λ (e : Equation). e.numbers) before group) ∙ ap numbers_of (sym lines))))));
@@ -169,10 +169,10 @@ group-held a b d g shape w row entries right parameters columns gs h = record {
         none : 0 + group_columns gs ≡ group_columns gs
         none = omega arith
 
-    start : a.sheet.row ≡ 0 + length (numbers_of (equations 0 gs))
+    start : a.writer.row ≡ 0 + length (numbers_of (equations 0 gs))
     start = omega (arith, h.row, length-map (λ (e : Equation). e.numbers) (equations 0 gs))
 
-    added : a.sheet.row + (g.unknowns + 1) ≡ length (equations 0 gs ++ listed (g.unknowns + 1) (line a.columns g))
+    added : a.writer.row + (g.unknowns + 1) ≡ length (equations 0 gs ++ listed (g.unknowns + 1) (line a.columns g))
     added = omega (arith, h.row, length-append (equations 0 gs) (listed (g.unknowns + 1) (line a.columns g)), length-listed (g.unknowns + 1) (line a.columns g))
 
 -- the group of writable parts has its shape
@@ -189,8 +189,8 @@ group-shaped parameters unknowns rows goals fixed w = record {
     none : parameters - 0 ≡ parameters
     none = omega arith
 
--- a line of a group, told with other counts that are the same
-pub line-at : (p q k m unknowns n : ℕ) (rows : List Row) (goals : List Goal) (fixed : Row) (s t : Sheet) → q ≡ p → m ≡ k
+-- a line of a group is unchanged where its counts are replaced by equal ones
+pub line-at : (p q k m unknowns n : ℕ) (rows : List Row) (goals : List Goal) (fixed : Row) (s t : EntryWriter) → q ≡ p → m ≡ k
     → Writes s t (line m (group_of q unknowns rows goals fixed) n).numbers → Writes s t (line k (group_of p unknowns rows goals fixed) n).numbers
 line-at p q k m unknowns n rows goals fixed s t e f w =
     subst (λ (x : ℕ). Writes s t (line k (group_of x unknowns rows goals fixed) n).numbers) e

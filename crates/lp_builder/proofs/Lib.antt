@@ -1,7 +1,7 @@
 -- The entries of lines, and the problem of a question.
 pub mod Entries
 pub mod Problems
-pub mod SheetLaws
+pub mod WriterLaws
 pub mod Pieces
 pub mod CostLists
 pub mod Groups

@@ -13,10 +13,10 @@ use Rattle.simplex_core.specs.linear_forms.Questions.{number, signed}
 use Rattle.poly_terms.specs.declared.poly.Row.{Row}
 use Rattle.poly_terms.specs.Views.{form_of}
 use Rattle.lp_builder.specs.declared.description.Goal.{Goal}
-use Rattle.lp_builder.specs.declared.sheet.Sheet.{Sheet}
+use Rattle.lp_builder.specs.declared.writer.EntryWriter.{EntryWriter}
 use Rattle.lp_builder.specs.Descriptions.{goal_forms, IsWritable}
 use Rattle.lp_builder.specs.Entries.{Writes}
-use Rattle.lp_builder.proofs.SheetLaws.{writes-more}
+use Rattle.lp_builder.proofs.WriterLaws.{writes-more}
 
 -- the number of a form on a line, by cases
 number-cases : (n u : ℕ) (f : Form) → (number n u f ≡ at f.coefs u) ⊎ (number n u f ≡ f.constant)
@@ -83,7 +83,7 @@ goal_forms-fit n k p (g ∷ gs) h =
     (goal_forms-fit n (g.parameter + 1) p gs (All-tail (λ (d : Goal). IsWritable n (form_of d.form)) g gs h)))
 
 -- a row more
-pub rows-step : (a b d : Sheet) (f : Form → ℤ) (rows : List Row) (i : ℕ) (r : Row) (v : ℤ) → Writes a b (map f (map form_of (take i rows))) → Writes b d (v ∷ []) → v ≡ f (form_of r)
+pub rows-step : (a b d : EntryWriter) (f : Form → ℤ) (rows : List Row) (i : ℕ) (r : Row) (v : ℤ) → Writes a b (map f (map form_of (take i rows))) → Writes b d (v ∷ []) → v ≡ f (form_of r)
     → i < length rows → r ≡ get_or rows i r → Writes a d (map f (map form_of (take (i + 1) rows)))
 rows-step a b d f rows i r v w x e l is =
     subst (λ (zs : List ℤ). Writes a d zs) same (writes-more a b d (map f (map form_of (take i rows))) (v ∷ []) w x)
@@ -95,11 +95,11 @@ rows-step a b d f rows i r v w x e l is =
         ∙ ap (λ (rs : List Row). map f (map form_of rs)) (ap (λ (x : Row). take i rows ++ (x ∷ [])) is ∙ sym (take_more rows i r l))))
 
 -- all rows
-pub rows-end : (a b : Sheet) (f : Form → ℤ) (rows : List Row) (i : ℕ) → length rows ≤ i → Writes a b (map f (map form_of (take i rows))) → Writes a b (map f (map form_of rows))
+pub rows-end : (a b : EntryWriter) (f : Form → ℤ) (rows : List Row) (i : ℕ) → length rows ≤ i → Writes a b (map f (map form_of (take i rows))) → Writes a b (map f (map form_of rows))
 rows-end a b f rows i l w = subst (λ (rs : List Row). Writes a b (map f (map form_of rs))) (take_all i rows l) w
 
 -- a goal more: zeros before it, and its pair
-pub goals-step : (a b m d : Sheet) (n u p next i : ℕ) (goals : List Goal) (g : Goal) (v : ℤ) (done all : List ℤ) → Writes a b done
+pub goals-step : (a b m d : EntryWriter) (n u p next i : ℕ) (goals : List Goal) (g : Goal) (v : ℤ) (done all : List ℤ) → Writes a b done
     → all ≡ done ++ signed (map (number n u) (goal_forms next p (drop i goals))) → Writes b m (replicate (2 * (g.parameter - next)) (pos 0)) → Writes m d (v ∷ neg_ℤ v ∷ [])
     → v ≡ number n u (form_of g.form) → i < length goals → g ≡ get_or goals i g
     → (more : List ℤ) × Writes a d more × (all ≡ more ++ signed (map (number n u) (goal_forms (g.parameter + 1) p (drop (i + 1) goals))))
@@ -118,7 +118,7 @@ goals-step a b m d n u p next i goals g v done all w e zeros pair is l item = (
     left = drop_more goals i g l ∙ ap (λ (x : Goal). x ∷ drop (i + 1) goals) (sym item)
 
 -- no goal is left
-pub goals-end : (a b d : Sheet) (n u p next i : ℕ) (goals : List Goal) (done all : List ℤ) → Writes a b done
+pub goals-end : (a b d : EntryWriter) (n u p next i : ℕ) (goals : List Goal) (done all : List ℤ) → Writes a b done
     → all ≡ done ++ signed (map (number n u) (goal_forms next p (drop i goals))) → Writes b d (replicate (2 * (p - next)) (pos 0)) → length goals ≤ i → Writes a d all
 goals-end a b d n u p next i goals done all w e zeros l =
     subst (λ (zs : List ℤ). Writes a d zs) (sym (e ∙ ap (λ (zs : List ℤ). done ++ zs) rest)) (writes-more a b d done (replicate (2 * (p - next)) (pos 0)) w zeros)
@@ -133,11 +133,11 @@ slice_get_read (h ∷ goals) zero g l e = ap Some (sym e)
 slice_get_read (h ∷ goals) (suc i) g l e = slice_get_read goals i g (omega arith) e
 
 -- three pieces of a line
-pub line-pieces : (a b d e : Sheet) (xs ys : List ℤ) {zs : List ℤ} → Writes a b xs → Writes b d ys → Writes d e zs → Writes a e (xs ++ (ys ++ zs))
+pub line-pieces : (a b d e : EntryWriter) (xs ys : List ℤ) {zs : List ℤ} → Writes a b xs → Writes b d ys → Writes d e zs → Writes a e (xs ++ (ys ++ zs))
 line-pieces a b d e xs ys {zs} u v w = writes-more a b e xs (ys ++ zs) u (writes-more b d e ys zs v w)
 
 -- the pieces with the slack behind
-pub slack-behind : (a e f : Sheet) (xs ys zs : List ℤ) (v s : ℤ) → Writes a e (xs ++ (ys ++ zs)) → v ≡ s → Writes e f (v ∷ []) → Writes a f (xs ++ (ys ++ (zs ++ (s ∷ []))))
+pub slack-behind : (a e f : EntryWriter) (xs ys zs : List ℤ) (v s : ℤ) → Writes a e (xs ++ (ys ++ zs)) → v ≡ s → Writes e f (v ∷ []) → Writes a f (xs ++ (ys ++ (zs ++ (s ∷ []))))
 slack-behind a e f xs ys zs v s w is x =
     subst (λ (l : List ℤ). Writes a f l) same (writes-more a e f (xs ++ (ys ++ zs)) (v ∷ []) w x)
   where

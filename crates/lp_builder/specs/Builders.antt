@@ -1,4 +1,4 @@
--- What a builder holds: the lines of the groups that are written so far.
+-- The state of a builder: the lines of the groups that were written so far.
 use Rattle.std.specs.Prelude.{◌≡◌, ℕ, ◌+◌, ◌*◌, ◌^◌, ◌<◌, List, [], ◌∷◌, ◌++◌, length, map}
 use Rattle.std.specs.List.{All}
 use Rattle.simplex_core.specs.linear_forms.ProgramLaws.{Agree}
@@ -17,7 +17,7 @@ parameter_count b = b.parameters
 
 -- how many rows are written
 abbrev pub row_count : Builder → ℕ
-row_count b = b.sheet.row
+row_count b = b.writer.row
 
 -- how many columns they have: a pair for each parameter, and those of the groups
 abbrev pub column_count : Builder → ℕ
@@ -25,14 +25,14 @@ column_count b = 2 * b.parameters + b.columns
 
 -- the builder is at the start of a row, and its rows and columns are below 2^31
 pub record AtRowStart (b : Builder) : Type 0 where
-  pub at_start : b.sheet.col ≡ 0
+  pub at_start : b.writer.col ≡ 0
   pub few_rows : row_count b < 2 ^ 31
   pub few_columns : column_count b < 2 ^ 31
 
 -- the builder holds the groups: their lines' numbers that aren't 0 and their right sides, in order
 pub record Holds (b : Builder) (gs : List Group) : Type 0 where
-  pub row : b.sheet.row ≡ length (equations 0 gs)
-  pub entries : b.sheet.entries.items ≡ entries_of 0 (map (λ e. e.numbers) (equations 0 gs))
+  pub row : b.writer.row ≡ length (equations 0 gs)
+  pub entries : b.writer.entries.items ≡ entries_of 0 (map (λ e. e.numbers) (equations 0 gs))
   pub right : b.right.items ≡ map (λ e. e.right) (equations 0 gs)
   pub columns : b.columns ≡ group_columns gs
   pub shaped : All (IsGroupShaped b.parameters) gs

@@ -1,4 +1,4 @@
--- The question that groups, goals and costs as they are handed in stand for.
+-- The question of groups, goals and costs as they are handed in.
 use Rattle.std.specs.Prelude.{◌≡◌, ℕ, ◌+◌, ◌-◌, ◌^◌, ◌<◌, ◌≤◌, List, [], ◌∷◌, ◌++◌, map, length, replicate, slice_get}
 use Rattle.std.specs.Prelude.{Some, unsigned_abs}
 use Rattle.std.specs.List.{All}
@@ -15,7 +15,7 @@ abbrev pub goal_forms : ℕ → ℕ → List Goal → List Form
 goal_forms k n [] = replicate (n - k) zero_form
 goal_forms k n (g ∷ gs) = replicate (g.parameter - k) zero_form ++ (form_of g.form ∷ goal_forms (g.parameter + 1) n gs)
 
--- the group with these unknowns, rows, listed goals and fixed form, in a question with so many parameters
+-- the group with these unknowns, rows, listed goals and fixed form, in a question with this many parameters
 abbrev pub group_of : ℕ → ℕ → List Row → List Goal → Row → Group
 group_of parameters unknowns rows goals fixed = record {
   unknowns = unknowns;

@@ -2,27 +2,27 @@
 use Rattle.std.specs.Prelude.{◌≡◌, ℕ, suc, ◌+◌, if◌then◌else◌, List, [], ◌∷◌, ◌++◌, length, ℤ}
 use Rattle.simplex_core.specs.int_laws.NormalForm.{is_zero}
 use Rattle.simplex_core.specs.declared.problem.Entry.{Entry}
-use Rattle.lp_builder.specs.declared.sheet.Sheet.{Sheet}
+use Rattle.lp_builder.specs.declared.writer.EntryWriter.{EntryWriter}
 
--- the entries of numbers that stand in a row from a column on: those that aren't 0, in order
+-- the entries of a row's numbers, the first of which is in the given column: the nonzero ones, in order
 abbrev pub sparse : ℕ → ℕ → List ℤ → List Entry
 sparse r c [] = []
 sparse r c (x ∷ xs) =
     if is_zero x then sparse r (suc c) xs else record { row = r; col = c; value = x } ∷ sparse r (suc c) xs
 
--- the entries of lines that stand from a row on
+-- the entries of lines, the first of which is in the given row
 abbrev pub entries_of : ℕ → List (List ℤ) → List Entry
 entries_of r [] = []
 entries_of r (l ∷ ls) = sparse r 0 l ++ entries_of (suc r) ls
 
 -- the new sheet is the old one with these numbers written behind, in the same row
-pub record Writes (old new : Sheet) (xs : List ℤ) : Type 0 where
+pub record Writes (old new : EntryWriter) (xs : List ℤ) : Type 0 where
   pub row : new.row ≡ old.row
   pub col : new.col ≡ old.col + length xs
   pub entries : new.entries.items ≡ old.entries.items ++ sparse old.row old.col xs
 
 -- the new sheet is the old one, in the next row
-pub record GoesOn (old new : Sheet) : Type 0 where
+pub record GoesOn (old new : EntryWriter) : Type 0 where
   pub row : new.row ≡ old.row + 1
   pub col : new.col ≡ 0
   pub entries : new.entries.items ≡ old.entries.items

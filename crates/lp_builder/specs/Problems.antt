@@ -1,4 +1,4 @@
--- When a problem holds a question.
+-- When a problem is that of a question.
 use Rattle.std.specs.Prelude.{◌≡◌, ◌^◌, ◌+◌, ◌<◌, ◌++◌, length, map, replicate, pos}
 use Rattle.simplex_core.specs.linear_forms.ProgramLaws.{Agree}
 use Rattle.simplex_core.specs.linear_forms.Questions.{Question, IsShaped, equations, group_columns, double, on_both}

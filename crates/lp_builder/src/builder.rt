@@ -1,21 +1,21 @@
-//! The problem of a question while its groups are written.
+//! Builds the problem of a question, group by group.
 
 ghost use Rattle.std.specs.Prelude.{◌≡◌, ℕ, ◌+◌, ◌*◌, ◌<◌, ◌^◌, [], length, IfOk};
 
 use crate::costs::{first_costs, second_costs};
 use crate::description::{Cost, Goal};
 use crate::line::{Line, put_line};
-use crate::sheet::Sheet;
+use crate::writer::EntryWriter;
 use model::Memory;
 use poly_terms::Row;
 use simplex_core::Problem;
 use std::alloc::Global;
 
-/// The lines of the groups that are written so far, of a question with so many parameters. `columns` are those of the
-/// groups.
+/// The lines of the groups that were written so far, for a question with this many parameters. `columns` are those of
+/// the groups.
 #[derive(Debug, Drop)]
 pub struct Builder {
-    sheet: Sheet,
+    writer: EntryWriter,
     right: Vec<i128>,
     parameters: u32,
     columns: u32,
@@ -36,19 +36,19 @@ impl Builder {
         ensures columns { column_count result ≡ 2 * parameters }
     {
         Builder {
-            sheet: Sheet::new(alloc),
+            writer: EntryWriter::new(alloc),
             right: Vec::new(alloc),
             parameters,
             columns: 0,
         }
     }
 
-    /// Writes a group: what is to follow from the rows is the sum of the goals, each as often as its parameter says,
-    /// and the fixed form.
+    /// Writes a group. The form that has to follow from its rows is the sum of the goals, each times its parameter, and
+    /// the fixed form.
     ///
     /// # Errors
     ///
-    /// `Memory` where an allocation fails; what is written is then open.
+    /// `Memory` where an allocation fails; the contents are then unspecified.
     pub fn add_group(
         &mut self,
         unknowns: u32,
@@ -66,14 +66,14 @@ impl Builder {
         for number in 0..unknowns + 1 {
             let line = Line { unknowns, number };
             put_line(
-                &mut self.sheet,
+                &mut self.writer,
                 line,
                 self.parameters,
                 self.columns,
                 goals,
                 rows,
             )?;
-            self.sheet.next_row();
+            self.writer.next_row();
             self.right.push(line.less(fixed))?;
         }
         self.columns += rows.len() as u32 + 1;
@@ -93,15 +93,15 @@ impl Builder {
         let first = first_costs(alloc, costs, self.columns)?;
         let second = second_costs(alloc, costs, self.columns)?;
         let Builder {
-            sheet,
+            writer,
             right,
             parameters,
             columns,
         } = self;
         Ok(Problem {
-            rows: sheet.row,
+            rows: writer.row,
             cols: 2 * parameters + columns,
-            entries: sheet.entries,
+            entries: writer.entries,
             right,
             first,
             second,

@@ -11,7 +11,7 @@ pub struct Goal {
     pub form: Row,
 }
 
-/// What a parameter costs.
+/// The cost of a parameter.
 #[derive(Clone, Copy, Debug)]
 pub struct Cost {
     /// Weighs its absolute value, by the first costs.

@@ -1,9 +1,9 @@
-//! What a problem that holds a question is.
+//! What a problem of a question guarantees.
 
 ghost use Rattle.lp_builder.specs.Problems.{HeldQuestionsAreProper};
 
-/// A problem that holds a question's lines, right sides and costs meets the condition of `solve`, and its linear
-/// program agrees with the question's inside its rows and columns.
+/// A problem with a question's lines, right sides and costs meets the precondition of `solve`, and its linear program
+/// agrees with the question's inside its rows and columns.
 pub fn held_questions_are_proper()
     ensures { HeldQuestionsAreProper }
 {}

@@ -1,7 +1,9 @@
-//! Builds the problem of a question, group by group: `Builder` takes the rows, the goals and the fixed form of each
-//! group and writes its lines on a `Sheet`, which keeps the numbers that aren't 0. So the entries come in order, and no
-//! cell has two. Contract to the layer above: what `Builder::finish` gives meets the condition of `solve`, and its
-//! linear program agrees with the question's.
+//! Builds the linear program of a question, group by group: `Builder` takes the rows, the goals and the fixed form of
+//! each group and writes its lines on a `EntryWriter`, which keeps the nonzero numbers. So the entries come in order, and no
+//! cell has two.
+//!
+//! Builds on `simplex_core` (the problems that `solve` takes) and `poly_terms` (rows). Main guarantee: what
+//! `Builder::finish` gives meets the precondition of `solve`, and its linear program agrees with the question's.
 #![tactic(auto)]
 
 mod builder;
@@ -9,10 +11,10 @@ mod costs;
 mod description;
 mod law;
 mod line;
-mod sheet;
+mod writer;
 
 pub use builder::Builder;
 pub use description::{Cost, Goal};
 pub use law::held_questions_are_proper;
 pub use poly_terms::Row;
-pub use sheet::Sheet;
+pub use writer::EntryWriter;

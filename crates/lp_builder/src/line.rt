@@ -10,11 +10,12 @@ ghost use Rattle.lp_builder.specs.Descriptions.{goal_forms, AreParameters, IsWri
 ghost use Rattle.lp_builder.specs.Entries.{Writes};
 
 use crate::description::Goal;
-use crate::sheet::Sheet;
+use crate::writer::EntryWriter;
 use model::Memory;
 use poly_terms::Row;
 
-/// A line of a group with so many unknowns: that of the unknown of its number, or, behind them, that of the constant.
+/// A line of a group with this many unknowns: that of the unknown with its number, or, behind these, that of the
+/// constant.
 #[derive(Clone, Copy, Debug)]
 pub(crate) struct Line {
     pub(crate) unknowns: u32,
@@ -60,49 +61,49 @@ fn coefficient(coefs: &[i128], unknown: usize) -> i128
 }
 
 /// Writes a number and then its negation.
-fn put_pair(sheet: &mut Sheet, value: i128) -> Result<(), Memory>
-    requires room { sheet.old.col + 2 < 2 ^ 32 }
+fn put_pair(writer: &mut EntryWriter, value: i128) -> Result<(), Memory>
+    requires room { writer.old.col + 2 < 2 ^ 32 }
     requires narrow { unsigned_abs value < 2 ^ 127 }
-    ensures { IfOk result (λ _. Writes sheet.old sheet.new (value ∷ neg_ℤ value ∷ [])) }
+    ensures { IfOk result (λ _. Writes writer.old writer.new (value ∷ neg_ℤ value ∷ [])) }
 {
-    sheet.put(value)?;
-    sheet.put(-value)
+    writer.put(value)?;
+    writer.put(-value)
 }
 
 /// Writes the pairs of the parameters.
 pub(crate) fn put_goals(
-    sheet: &mut Sheet,
+    writer: &mut EntryWriter,
     line: Line,
     parameters: u32,
     goals: &[Goal],
 ) -> Result<(), Memory>
-    requires room { sheet.old.col + 2 * parameters < 2 ^ 32 }
+    requires room { writer.old.col + 2 * parameters < 2 ^ 32 }
     requires listed { AreParameters parameters goals.now }
     requires writable { All (λ g. IsWritable line.unknowns (form_of g.form)) goals.now }
-    ensures { IfOk result (λ _. Writes sheet.old sheet.new
+    ensures { IfOk result (λ _. Writes writer.old writer.new
         (signed (map (number line.unknowns line.number) (goal_forms 0 parameters goals.now)))
-        × (sheet.new.col ≡ sheet.old.col + 2 * parameters)) }
+        × (writer.new.col ≡ writer.old.col + 2 * parameters)) }
 {
     let mut next = 0;
     for goal in goals {
-        sheet.skip(2 * (goal.parameter - next));
-        put_pair(sheet, line.of(&goal.form))?;
+        writer.skip(2 * (goal.parameter - next));
+        put_pair(writer, line.of(&goal.form))?;
         next = goal.parameter + 1;
     }
-    sheet.skip(2 * (parameters - next));
+    writer.skip(2 * (parameters - next));
     Ok(())
 }
 
 /// Writes the negations of the rows' numbers, one for each multiplier.
-pub(crate) fn put_rows(sheet: &mut Sheet, line: Line, rows: &[Row]) -> Result<(), Memory>
-    requires room { sheet.old.col + length rows.now < 2 ^ 32 }
+pub(crate) fn put_rows(writer: &mut EntryWriter, line: Line, rows: &[Row]) -> Result<(), Memory>
+    requires room { writer.old.col + length rows.now < 2 ^ 32 }
     requires writable { All (λ r. IsWritable line.unknowns (form_of r)) rows.now }
-    ensures { IfOk result (λ _. Writes sheet.old sheet.new (map (λ r. neg_ℤ (number line.unknowns line.number r))
+    ensures { IfOk result (λ _. Writes writer.old writer.new (map (λ r. neg_ℤ (number line.unknowns line.number r))
         (map form_of rows.now))
-        × (sheet.new.col ≡ sheet.old.col + length rows.now)) }
+        × (writer.new.col ≡ writer.old.col + length rows.now)) }
 {
     for row in rows {
-        sheet.put(line.less(row))?;
+        writer.put(line.less(row))?;
     }
     Ok(())
 }
@@ -110,25 +111,25 @@ pub(crate) fn put_rows(sheet: &mut Sheet, line: Line, rows: &[Row]) -> Result<()
 /// Writes a line of a group: the pairs of the parameters, zeros for the columns of the groups before, the rows and the
 /// slack.
 pub(crate) fn put_line(
-    sheet: &mut Sheet,
+    writer: &mut EntryWriter,
     line: Line,
     parameters: u32,
     before: u32,
     goals: &[Goal],
     rows: &[Row],
 ) -> Result<(), Memory>
-    requires room { sheet.old.col + 2 * parameters + before + length rows.now + 1 < 2 ^ 32 }
+    requires room { writer.old.col + 2 * parameters + before + length rows.now + 1 < 2 ^ 32 }
     requires listed { AreParameters parameters goals.now }
     requires goals_writable { All (λ g. IsWritable line.unknowns (form_of g.form)) goals.now }
     requires rows_writable { All (λ r. IsWritable line.unknowns (form_of r)) rows.now }
-    ensures { IfOk result (λ _. Writes sheet.old sheet.new
+    ensures { IfOk result (λ _. Writes writer.old writer.new
         (signed (map (number line.unknowns line.number) (goal_forms 0 parameters goals.now))
         ++ (replicate before (pos 0)
         ++ (map (λ r. neg_ℤ (number line.unknowns line.number r)) (map form_of rows.now)
         ++ (slack line.unknowns line.number ∷ []))))) }
 {
-    put_goals(sheet, line, parameters, goals)?;
-    sheet.skip(before);
-    put_rows(sheet, line, rows)?;
-    sheet.put(line.slack())
+    put_goals(writer, line, parameters, goals)?;
+    writer.skip(before);
+    put_rows(writer, line, rows)?;
+    writer.put(line.slack())
 }

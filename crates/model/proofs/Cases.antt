@@ -25,7 +25,7 @@ same_tests true w f g = sym (f refl)
 same_tests false true f g = g refl
 same_tests false false f g = refl
 
--- below the length of a list something stands
+-- every index below the length of a list has an element
 pub slice_get-there : {A : Type 0} (xs : List A) (i : ℕ) → i < length xs → (x : A) × (slice_get xs i ≡ Some x)
 slice_get-there [] i l = absurd (omega (arith, l))
 slice_get-there (x ∷ xs) zero l = (x, refl)

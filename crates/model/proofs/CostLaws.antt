@@ -7,7 +7,8 @@ use Rattle.std.proofs.lemmas.Bool.Decides.{eqb_tells}
 use Rattle.model.specs.Terms.{value}
 use Rattle.model.specs.Programs.{Program, Rule, rule_at}
 use Rattle.model.specs.Runs.{Config, Step, Leads, IsStep, IsRun, count}
-use Rattle.model.specs.Costs.{cost_at, cost_by, updated, values_after, step_cost, spent, without_cost, without_costs}
+use Rattle.model.specs.Spending.{cost_at, cost_by, updated, values_after, step_cost, spent}
+use Rattle.model.specs.Costs.{without_cost, without_costs}
 use Rattle.model.specs.Costs.{RunsStandAtTheirValues, PlainRulesSpendTheirCount, CostsChangeNoRun}
 use Rattle.model.proofs.RunLaws.{one_if_same-same, one_if_same-other}
 

@@ -9,7 +9,7 @@ use Rattle.std.proofs.lemmas.List.FromFn.{length-range_with_len, get_or-range_wi
 use Rattle.model.specs.Programs.{Program, Rule}
 use Rattle.model.specs.Paths.{source_of, target_of, target_in, same_symbol, entry_and_rules}
 use Rattle.model.specs.Entries.{is_in, IsEntry, is_left_by, enters, entries, EntriesAreListed}
-use Rattle.model.proofs.Membership.{no_is_not_yes, is_in-filter, filter-in, list_any-from, list_any-told}
+use Rattle.model.proofs.Membership.{no_is_not_yes, is_in-filter, filter-in, list_any-from, list_any-sound}
 use Rattle.model.proofs.Membership.{contains-is_in, is_in-contained, rule_is_numbered, entry_is_numbered}
 
 -- what leads to a symbol is the virtual entry or a rule
@@ -41,11 +41,11 @@ listed-from p set e h =
     h.before))
 
 -- what is listed is an entry
-pub listed-told : (p : Program) (set : List ℕ) (e : ℕ) → is_in e (entries p set) ≡ true → IsEntry p set e
-listed-told p set e h =
+pub listed-sound : (p : Program) (set : List ℕ) (e : ℕ) → is_in e (entries p set) ≡ true → IsEntry p set e
+listed-sound p set e h =
     let passed = filter-in (enters p set) (entry_and_rules p) e h in
     let both = and_parts (not (is_in e set)) (is_left_by p set (target_of p e)) passed.1 in
-    let found = list_any-told (λ t. same_symbol (target_of p e) (source_of p t)) set both.1 in record {
+    let found = list_any-sound (λ t. same_symbol (target_of p e) (source_of p t)) set both.1 in record {
       outside = λ c. no_is_not_yes (is_in e set) (not-true (is_in e set) both.0) (is_in-contained set e c);
       member = found.0;
       inside = contains-is_in set found.0 found.1;
@@ -64,7 +64,7 @@ numbers_ascend n k low =
 pub entries_are_listed : (p : Program) (set : List ℕ) → EntriesAreListed p set
 entries_are_listed p set = record {
   each = λ e. (
-    λ h. listed-told p set e (is_in-contained (entries p set) e h),
+    λ h. listed-sound p set e (is_in-contained (entries p set) e h),
     λ h. contains-is_in (entries p set) e (listed-from p set e h),
   );
   ascending =

@@ -1,3 +1,4 @@
+-- laws of runs, paths, entries and costs, and worked values
 pub mod Cases
 pub mod PathLaws
 pub mod RunLaws
@@ -6,7 +7,9 @@ pub mod WorkedRuns
 pub mod CountdownRuns
 pub mod WorkedFacts
 pub mod CostLaws
+pub mod SpendingSums
 pub mod WorkedCosts
+pub mod WorkedTotals
 pub mod StepLaws
 pub mod PathValues
 pub mod Membership

@@ -19,8 +19,8 @@ same_number x = go (eqb_tells x x)
     go (inr (test, other)) = absurd (other refl)
 
 -- numbers that are told to be the same are the same
-pub told_same : (x y : ℕ) → (x == y) ≡ true → x ≡ y
-told_same x y h = go (eqb_tells x y)
+pub same_number-sound : (x y : ℕ) → (x == y) ≡ true → x ≡ y
+same_number-sound x y h = go (eqb_tells x y)
   where
     go : ((x == y) ≡ true) × (x ≡ y) ⊎ ((x == y) ≡ false) × (x ≢ y) → x ≡ y
     go (inl (test, e)) = e
@@ -84,10 +84,10 @@ list_any-from test (y ∷ ys) x h k = go (is_in-cases x y ys h) (λ m. list_any-
     go (inr m) ih = or_right (test y) (list_any test ys) (ih m)
 
 -- an element that passes the test
-pub list_any-told : (test : ℕ → Bool) (xs : List ℕ) → list_any test xs ≡ true
+pub list_any-sound : (test : ℕ → Bool) (xs : List ℕ) → list_any test xs ≡ true
     → (x : ℕ) × (is_in x xs ≡ true) × (test x ≡ true)
-list_any-told test [] h = absurd (no_is_not_yes false refl h)
-list_any-told test (y ∷ ys) h = go (test y) refl (list_any-told test ys)
+list_any-sound test [] h = absurd (no_is_not_yes false refl h)
+list_any-sound test (y ∷ ys) h = go (test y) refl (list_any-sound test ys)
   where
     later : ((x : ℕ) × (is_in x ys ≡ true) × (test x ≡ true)) → (x : ℕ) × (is_in x (y ∷ ys) ≡ true) × (test x ≡ true)
     later (x, m, passes) = (x, or_right (x == y) (is_in x ys) m, passes)

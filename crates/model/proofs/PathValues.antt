@@ -82,8 +82,8 @@ not_entry h = different (ap (λ (t : ℕ). comes_before nested 1 t) (sym (in_one
     different x = cc
 
 -- paths, sets and entries are what was worked out
-pub paths_are_told : PathsAreWorkedOut
-paths_are_told = record {
+pub paths_are_worked : PathsAreWorkedOut
+paths_are_worked = record {
   entry_target = refl;
   entry_source = refl;
   third_target = refl;

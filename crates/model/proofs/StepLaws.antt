@@ -31,7 +31,7 @@ target_of-rule p (suc t) r h = ap target_in h
 pub source_of-rule : (p : Program) (t : ℕ) (r : Rule) → rule_at p t ≡ Some r → source_of p t ≡ Some r.source
 source_of-rule p t r h = ap source_in h
 
--- a run stands where its last rule leads to
+-- a run ends at the target of its last rule
 pub stands : (p : Program) (start : List ℤ) (steps : List Step) (c : Config) → IsRun p start steps c → target_of p (last_rule steps) ≡ Some c.at
 stands p start [] c run = ap Some (sym run.at)
 stands p start (s ∷ earlier) c (b, run, step) = target_of-rule p s.rule step.rule step.numbered ∙ ap Some (sym step.leads.target)
@@ -73,7 +73,7 @@ pub listed : (p : Program) (start : List ℤ) (s : Step) (earlier : List Step) (
 listed p start s earlier c run =
     filter-keeps (λ e. comes_before p e s.rule) (entry_and_rules p) (last_rule earlier) (before p start s earlier c run) (below-listed (suc (length p.rules)) (last_rule earlier) (last_rule-within p start earlier run.0 run.1))
 
--- a run by allowed rules stands at a symbol that they reach
+-- a run that uses allowed rules alone ends at a symbol that is reachable by allowed rules
 pub reached : (p : Program) (is_allowed : ℕ → Bool) (start : List ℤ) (steps : List Step) (c : Config) → IsRun p start steps c → All (λ s. is_allowed s.rule ≡ true) steps → IsReached p is_allowed c.at
 reached p is_allowed start [] c run h = Here (sym run.at)
 reached p is_allowed start (s ∷ earlier) c (b, run, step) h =
@@ -81,7 +81,7 @@ reached p is_allowed start (s ∷ earlier) c (b, run, step) h =
     Onward (reached p is_allowed start earlier b run (All-tail P s earlier h))
     (record { number = s.rule; rule = step.rule; numbered = step.numbered; allowed = All-head P s earlier h; source = sym step.leads.source; target = sym step.leads.target })
 
--- where arities agree a run stands at a configuration with one value for each place
+-- where arities agree, every run ends at a configuration with one value for each argument of its symbol
 pub values : (p : Program) → AritiesAgree p → (start : List ℤ) (steps : List Step) (c : Config) → IsRun p start steps c → length c.values ≡ arity_of p c.at
 values p agree start [] c run = ap length run.values ∙ (run.places ∙ ap (arity_of p) (sym run.at))
 values p agree start (s ∷ earlier) c (b, run, step) =

@@ -5,7 +5,7 @@ use Rattle.std.proofs.Common.{Some, None, refl, sym, ◌∙◌, ap, arith}
 use Rattle.std.proofs.lemmas.Int.{ints}
 use Rattle.model.specs.Programs.{Rule, rule_at}
 use Rattle.model.specs.Runs.{Config, Step, Leads, IsStep, IsRun, count, place_value}
-use Rattle.model.specs.Costs.{or_zero, cost, values_after, step_cost, spent}
+use Rattle.model.specs.Spending.{or_zero, cost, values_after, step_cost, spent}
 use Rattle.model.specs.Worked.{by_rule, two_values, four_steps}
 use Rattle.model.specs.WorkedRuns.{countdown, entering, looping, both}
 use Rattle.model.specs.WorkedCosts.{paying, StepsCost, RunsSpend, CostsHold}
@@ -25,11 +25,11 @@ pub runs_spend : RunsSpend
 runs_spend = record { entering = refl; rounds = refl; all = refl; negative_start = refl; entry = refl; no_step = refl; free_value = refl; all_free_value = refl; plain = refl; all_plain = refl }
 
 -- what a run that pays looks like: it is a run of the program that counts down
-as_countdown : (start : List ℤ) (steps : List Step) (c : Config) → IsRun paying start steps c
+pub as_countdown : (start : List ℤ) (steps : List Step) (c : Config) → IsRun paying start steps c
     → IsRun countdown start steps c
 as_countdown start steps c run = run_without paying start steps c run
 
-as_paying : (start : List ℤ) (steps : List Step) (c : Config) → IsRun countdown start steps c
+pub as_paying : (start : List ℤ) (steps : List Step) (c : Config) → IsRun countdown start steps c
     → IsRun paying start steps c
 as_paying start steps c run = run_back paying start steps c run
 
@@ -73,10 +73,10 @@ plain_step b s c h = go s.rule h.rule h.numbered h.leads
 -- what a run that pays has spent: behind the first step as much as A was, or nothing; on rounds nothing before the
 -- first one, and at most what B was from then on
 pub record Spends (start : List ℤ) (steps : List Step) : Type 0 where
-  unentered : count 1 steps ≡ 0 → spent paying 1 start steps ≡ 0
-  on_entering : spent paying 1 start steps ≤ nat_abs (value_at start 0)
-  unlooped : count 2 steps ≡ 0 → spent paying 2 start steps ≡ 0
-  on_rounds : spent paying 2 start steps ≤ nat_abs (value_at start 1)
+  pub unentered : count 1 steps ≡ 0 → spent paying 1 start steps ≡ 0
+  pub on_entering : spent paying 1 start steps ≤ nat_abs (value_at start 0)
+  pub unlooped : count 2 steps ≡ 0 → spent paying 2 start steps ≡ 0
+  pub on_rounds : spent paying 2 start steps ≤ nat_abs (value_at start 1)
 
 -- what is at least 0 or counts as 0 is at most the absolute value
 or_zero_small : (x : ℤ) → or_zero x ≤ nat_abs x
@@ -132,7 +132,7 @@ second_spends start s earlier b e (Looped k one two len last at sum low high sec
     }
 
 -- each run that pays spends so
-spends : (start : List ℤ) (steps : List Step) (c : Config) → IsRun paying start steps c → Spends start steps
+pub spends : (start : List ℤ) (steps : List Step) (c : Config) → IsRun paying start steps c → Spends start steps
 spends start [] c run = record { unentered = λ h. refl; on_entering = omega arith; unlooped = λ h. refl; on_rounds = omega arith }
 spends start (s ∷ earlier) c (b, run, step) =
     let plain = as_countdown start (s ∷ earlier) c (b, run, step) in
@@ -168,7 +168,7 @@ entry_spends start (s ∷ earlier) c (b, run, step) =
         go (suc t) e h = omega (arith, e)
 
 -- the run of four steps from l0(3, 7)
-four_paid : IsRun paying (both (pos 3) (pos 7)) four_steps (two_values 1 (pos 0) (negsuc 0))
+pub four_paid : IsRun paying (both (pos 3) (pos 7)) four_steps (two_values 1 (pos 0) (negsuc 0))
 four_paid = as_paying (both (pos 3) (pos 7)) four_steps (two_values 1 (pos 0) (negsuc 0)) runs_are_runs.four_steps
 
 -- the run by rule 1 from l0(3, 2)

@@ -7,7 +7,7 @@ use Rattle.model.specs.Programs.{Rule, rule_at}
 use Rattle.model.specs.Runs.{Config, Step, Leads, IsStep, IsRun, count, place_value, sizes_of_start}
 use Rattle.model.specs.Worked.{by_rule, two_values}
 use Rattle.model.specs.WorkedRuns.{entering, countdown, entry_alone, both}
-use Rattle.model.specs.WorkedFacts.{StepsAndPlacesAreCounted, TimesHold, TotalsHold, SizesHold}
+use Rattle.model.specs.WorkedFacts.{StepsAndPlacesAreCounted, TimesHold, LengthsHold, SizesHold}
 use Rattle.model.proofs.RunLaws.{entry_once, one_if_same-same}
 use Rattle.model.proofs.WorkedRuns.{enters_at, entered, looped}
 use Rattle.model.proofs.CountdownRuns.{value_at, looks, two_starts, sizes_of_two, first_once, loop_nine, loop_start}
@@ -18,7 +18,7 @@ pub counted : StepsAndPlacesAreCounted
 counted = record { apart = refl; between = refl; none = refl; entry_of_none = refl; entry_of_three = refl; last_of_three = refl; last_of_two = refl; place_0 = refl; place_3 = refl }
 
 -- a step of the program of the first rule alone is by that rule, and leads from l0 to l1
-alone_step : (b : Config) (s : Step) (c : Config) → IsStep entry_alone b s c → (s.rule ≡ 1) × (b.at ≡ 0) × (c.at ≡ 1)
+pub alone_step : (b : Config) (s : Step) (c : Config) → IsStep entry_alone b s c → (s.rule ≡ 1) × (b.at ≡ 0) × (c.at ≡ 1)
 alone_step b s c h = go s.rule h.rule h.numbered h.leads
   where
     go : (t : ℕ) (r : Rule) → rule_at entry_alone t ≡ Some r → Leads r b s.free c → (t ≡ 1) × (b.at ≡ 0) × (c.at ≡ 1)
@@ -45,7 +45,7 @@ alone_looks start (s ∷ earlier) c (b, run, step) = go (alone_looks start earli
     go (inr (at, len, one)) (e, source, target) = absurd (omega (arith, at, source))
 
 -- so they have one step at most
-alone_one : (start : List ℤ) (steps : List Step) (c : Config) → IsRun entry_alone start steps c
+pub alone_one : (start : List ℤ) (steps : List Step) (c : Config) → IsRun entry_alone start steps c
     → (length steps ≤ 1) × (count 1 steps ≤ 1)
 alone_one start steps c run = go (alone_looks start steps c run)
   where
@@ -55,7 +55,7 @@ alone_one start steps c run = go (alone_looks start steps c run)
     go (inr (at, len, one)) = (omega (arith, len), omega (arith, one))
 
 -- its run of one step
-alone_run : IsRun entry_alone (both (pos 3) (pos 7)) (by_rule 1 ∷ []) (two_values 1 (pos 3) (pos 7))
+pub alone_run : IsRun entry_alone (both (pos 3) (pos 7)) (by_rule 1 ∷ []) (two_values 1 (pos 3) (pos 7))
 alone_run = (two_values 0 (pos 3) (pos 7), record { places = refl; at = refl; values = refl }, record { rule = entering; numbered = refl; leads = enters_at (pos 3) (pos 7) })
 
 -- so many steps by rule 2 behind one by rule 1
@@ -110,8 +110,8 @@ times_hold = record {
 }
 
 -- the bounds on how many steps there are hold, or don't
-pub totals_hold : TotalsHold
-totals_hold = record {
+pub lengths_hold : LengthsHold
+lengths_hold = record {
   all = record { each = λ start steps c run. ten_steps start steps c (looks start steps c run) };
   less = λ h. omega (arith, h.each (both (pos 9) (pos 0)) (loops 9) (two_values 1 (pos 0) (negsuc 0)) nine_loops);
   alone = record { each = λ start steps c run. (alone_one start steps c run).0 };

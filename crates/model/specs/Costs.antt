@@ -1,54 +1,12 @@
--- What the steps of a program cost, and what they cost in a run.
-use Rattle.std.specs.Prelude.{◌≡◌, ℕ, ◌+◌, List, [], ◌∷◌, ◌++◌, map, ℤ, pos, negsuc, Option, Some, None, if◌then◌else◌}
-use Rattle.std.specs.Prelude.{◌==◌}
-use Rattle.model.specs.Terms.{Term, Literal, value}
+-- The program of a rule's cost, programs without costs, and laws of what steps cost.
+use Rattle.std.specs.Prelude.{◌≡◌, ℕ, List, [], ◌∷◌, ◌++◌, length, map, ℤ, pos, Some, None}
+use Rattle.std.specs.List.{range_with_len, sum_by}
+use Rattle.model.specs.Terms.{Term, Literal}
 use Rattle.model.specs.Programs.{Program, Rule, rule_at, AtLeast, Compare}
 use Rattle.model.specs.Runs.{Config, Step, IsRun, count}
-
--- an integer, or 0 where it is negative
-abbrev pub or_zero : ℤ → ℕ
-or_zero (pos n) = n
-or_zero (negsuc n) = 0
-
--- what a written cost comes to at these values of the rule's variables: its value, or 0 where that is negative; and 1
--- where none is written
-abbrev pub cost_at : Option Term → List ℤ → ℕ
-cost_at None env = 1
-cost_at (Some c) env = or_zero (value c env)
-
--- what a step by a rule costs at these values of its variables; where there is no rule, nothing
-abbrev pub cost_by : Option Rule → List ℤ → ℕ
-cost_by None env = 0
-cost_by (Some r) env = cost_at r.cost env
-
--- what a step by the rule with a number costs at these values of its variables, which are those before the step
-abbrev pub cost : Program → ℕ → List ℤ → ℕ
-cost p t env = cost_by (rule_at p t) env
-
--- the values at which a step by a rule ends, at these values of its variables
-abbrev pub updated : Option Rule → List ℤ → List ℤ
-updated None env = []
-updated (Some r) env = map (λ u. value u env) r.updates
-
--- the values at which steps from these start values end, the last step first
-abbrev pub values_after : Program → List ℤ → List Step → List ℤ
-values_after p start [] = start
-values_after p start (s ∷ earlier) = updated (rule_at p s.rule) (values_after p start earlier ++ s.free)
-
--- what a step behind earlier ones costs
-abbrev pub step_cost : Program → List ℤ → Step → List Step → ℕ
-step_cost p start s earlier = cost p s.rule (values_after p start earlier ++ s.free)
-
--- what the steps by rule t cost, all together
-abbrev pub spent : Program → ℕ → List ℤ → List Step → ℕ
-spent p t start [] = 0
-spent p t start (s ∷ earlier) =
-    (if s.rule == t then step_cost p start s earlier else 0) + spent p t start earlier
-
--- what all steps cost, together
-abbrev pub spent_all : Program → List ℤ → List Step → ℕ
-spent_all p start [] = 0
-spent_all p start (s ∷ earlier) = step_cost p start s earlier + spent_all p start earlier
+use Rattle.model.specs.Spending.{values_after, spent, spent_all}
+use Rattle.model.specs.Bounds.{Bound}
+use Rattle.model.specs.Facts.{HoldsTotal, HoldsLength}
 
 -- the rule that leads, from symbol 0 to symbol 1 with one place, to the cost c of a rule: the same variables, the guard
 -- and the atom c >= 0, the one update c, and no cost
@@ -112,3 +70,16 @@ pub record RunsStandAtTheirValues : Type 0 where
 pub record PlainRulesSpendTheirCount : Type 0 where
   pub each : (p : Program) (t : ℕ) (r : Rule) → rule_at p t ≡ Some r → r.cost ≡ None → (start : List ℤ)
       (steps : List Step) → spent p t start steps ≡ count t steps
+
+-- what all steps cost is the sum over the rules of what each rule spends; a step by no rule costs nothing
+pub record SpendingIsByRules : Type 0 where
+  pub each : (p : Program) (start : List ℤ) (steps : List Step)
+      → spent_all p start steps ≡ sum_by (λ t. spent p t start steps) (range_with_len 1 (length p.rules))
+
+-- where no rule has a cost, every run costs as much as it has steps, so a bound on the cost of all steps is a bound on
+-- their number, and the other way round
+pub record PlainTotalsAreLengths : Type 0 where
+  pub spends : (p : Program) → ((t : ℕ) → ¬ (HasCost p t)) → (start : List ℤ) (steps : List Step) (c : Config)
+      → IsRun p start steps c → spent_all p start steps ≡ length steps
+  pub bounds_length : (p : Program) (bound : Bound) → ((t : ℕ) → ¬ (HasCost p t)) → HoldsTotal p bound → HoldsLength p bound
+  pub bounds_cost : (p : Program) (bound : Bound) → ((t : ℕ) → ¬ (HasCost p t)) → HoldsLength p bound → HoldsTotal p bound

@@ -35,6 +35,6 @@ pub record EntriesAreListed (p : Program) (set : List ℕ) : Type 0 where
   pub each : (e : ℕ) → Contains (entries p set) e ↔ IsEntry p set e
   pub ascending : IsStrictlyIncreasing (entries p set)
 
--- so it is with each set of each program
+-- every number and every set of rules of every program meets this
 abbrev pub AllEntriesAreListed : Type 0
 AllEntriesAreListed = (p : Program) (set : List ℕ) → EntriesAreListed p set

@@ -2,7 +2,7 @@
 use Rattle.std.specs.Prelude.{◌≡◌, ℕ, ◌≤◌, List, length, ℤ, nat_abs}
 use Rattle.model.specs.Programs.{Program}
 use Rattle.model.specs.Runs.{Config, Step, IsRun, count, last_rule, place_value, sizes_of_start}
-use Rattle.model.specs.Costs.{spent}
+use Rattle.model.specs.Spending.{spent, spent_all}
 use Rattle.model.specs.Bounds.{Bound, val}
 
 -- a bound on how often a rule occurs, on the absolute value at a place after a rule, or on what all steps by a rule
@@ -17,8 +17,8 @@ pub record HoldsTime (p : Program) (rule : ℕ) (bound : Bound) : Type 0 where
   pub each : (start : List ℤ) (steps : List Step) (c : Config) → IsRun p start steps c
       → count rule steps ≤ val bound (sizes_of_start start)
 
--- after every run whose last step is by the rule, the absolute value at the place is at most what the bound says;
--- of the virtual entry this is said of the runs without a step
+-- After every run whose last step is by the rule, the absolute value of the argument is at most the bound's value. For
+-- the virtual entry, this concerns the runs without a step.
 pub record HoldsSize (p : Program) (rule place : ℕ) (bound : Bound) : Type 0 where
   pub each : (start : List ℤ) (steps : List Step) (c : Config) → IsRun p start steps c → last_rule steps ≡ rule
       → nat_abs (place_value c place) ≤ val bound (sizes_of_start start)
@@ -29,8 +29,13 @@ pub record HoldsCost (p : Program) (rule : ℕ) (bound : Bound) : Type 0 where
   pub each : (start : List ℤ) (steps : List Step) (c : Config) → IsRun p start steps c
       → spent p rule start steps ≤ val bound (sizes_of_start start)
 
--- every run has at most as many steps as the bound says
+-- in every run, from any integers and by any choice of rules, all steps together cost at most what the bound says
 pub record HoldsTotal (p : Program) (bound : Bound) : Type 0 where
+  pub each : (start : List ℤ) (steps : List Step) (c : Config) → IsRun p start steps c
+      → spent_all p start steps ≤ val bound (sizes_of_start start)
+
+-- every run, from any integers and by any choice of rules, has at most as many steps as the bound says
+pub record HoldsLength (p : Program) (bound : Bound) : Type 0 where
   pub each : (start : List ℤ) (steps : List Step) (c : Config) → IsRun p start steps c
       → length steps ≤ val bound (sizes_of_start start)
 

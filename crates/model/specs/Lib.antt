@@ -4,8 +4,9 @@ pub mod Polynomials
 pub mod Programs
 pub mod Runs
 pub mod Bounds
-pub mod Costs
+pub mod Spending
 pub mod Facts
+pub mod Costs
 pub mod Paths
 pub mod Entries
 pub mod Limits
@@ -16,4 +17,5 @@ pub mod Worked
 pub mod WorkedRuns
 pub mod WorkedFacts
 pub mod WorkedCosts
+pub mod WorkedTotals
 pub mod PathValues

@@ -1,4 +1,4 @@
--- Worked values of paths, of what can come before a rule, and of sets and their entries.
+-- Worked values of paths, of the rules that can come just before a rule, and of sets and their entries.
 use Rattle.std.specs.Prelude.{◌≡◌, ℕ, [], ◌∷◌, Bool, not, ◌==◌, ◌||◌, Some, None}
 use Rattle.model.specs.Programs.{Program}
 use Rattle.model.specs.Paths.{IsReached, HasPath, any_rule, target_of, source_of, pre, IsInSet}

@@ -1,4 +1,4 @@
--- Paths along the edges of a graph and along the rules of a program, and what is said by them.
+-- Paths along the edges of a graph and along the rules of a program, and the notions defined by them.
 use Rattle.std.specs.Prelude.{◌≡◌, ◌⊎◌, ℕ, zero, suc, ◌==◌, List, length, filter, Bool, true, false}
 use Rattle.std.specs.Prelude.{Option, Some, None, slice_get}
 use Rattle.std.specs.List.{range_with_len}
@@ -56,7 +56,7 @@ source_in (Some r) = Some r.source
 abbrev pub source_of : Program → ℕ → Option ℕ
 source_of p t = source_in (rule_at p t)
 
--- whether both are there and are the same symbol
+-- whether both symbols exist and are the same
 abbrev pub same_symbol : Option ℕ → Option ℕ → Bool
 same_symbol None b = false
 same_symbol (Some a) None = false

@@ -1,4 +1,4 @@
--- Polynomials as plain data: sums of monomials with integer coefficients, and the integer that each stands for.
+-- Polynomials as plain data: sums of monomials with integer coefficients, and their values.
 use Rattle.std.specs.Prelude.{ℕ, List, [], ◌∷◌, length, max, ℤ, pos, ◌+ℤ◌, ◌*ℤ◌, slice_index_or}
 
 -- a monomial: a coefficient, and variables that are numbered from 0, each as often as it is a factor

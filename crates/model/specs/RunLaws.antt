@@ -1,4 +1,4 @@
--- What holds of every run, step by step.
+-- Laws of every run, step by step.
 use Rattle.std.specs.Prelude.{◌≡◌, ℕ, List, ◌∷◌, ◌++◌, length, ℤ, Bool, true, Some}
 use Rattle.std.specs.List.{All, Contains}
 use Rattle.model.specs.Programs.{Program, Rule, rule_at, arity_of}
@@ -14,9 +14,10 @@ pub record AritiesAgree (p : Program) : Type 0 where
 abbrev pub IsSomeRun : Program → List ℤ → List Step → Type 0
 IsSomeRun p start steps = (c : Config) × IsRun p start steps c
 
--- a beginning of a run is a run; a run stands where its last rule leads to, without a step where the virtual entry
--- does, and the rule before can come just before each of its steps; a run by allowed rules alone stands at a symbol
--- that is reached by them; and where arities agree, a run stands at a configuration with one value for each place
+-- A prefix of a run is a run. A run ends at the target of its last rule, and a run without a step ends at the start
+-- symbol, where the virtual entry leads. The rule of the step before can come just before each step. A run that uses
+-- allowed rules alone ends at a symbol that they reach. Where arities agree, a run ends at a configuration with one
+-- value for each argument.
 pub record RunsGoStepByStep (p : Program) : Type 0 where
   pub beginning : (start : List ℤ) (later earlier : List Step) → IsSomeRun p start (later ++ earlier)
       → IsSomeRun p start earlier

@@ -29,7 +29,7 @@ pub record IsStep (p : Program) (c : Config) (s : Step) (d : Config) : Type 0 wh
   pub numbered : rule_at p s.rule ≡ Some rule
   pub leads : Leads rule c s.free d
 
--- a run stands where it begins: at the start symbol, with one integer for each of its places
+-- a run begins at the start symbol, with one integer for each of its arguments
 pub record Begins (p : Program) (start : List ℤ) (c : Config) : Type 0 where
   pub places : length start ≡ arity_of p p.start
   pub at : c.at ≡ p.start

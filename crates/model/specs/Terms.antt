@@ -1,4 +1,4 @@
--- Integer expressions as plain data, and the integer that each stands for.
+-- Integer expressions as plain data, and their values.
 use Rattle.std.specs.Prelude.{ℕ, List, ℤ, pos, ◌+ℤ◌, ◌-ℤ◌, ◌*ℤ◌, neg_ℤ, slice_index_or}
 use Rattle.std.specs.Int.{int_pow}
 

@@ -1,4 +1,4 @@
--- Values of the definitions that were worked out by hand.
+-- Worked values of the definitions.
 use Rattle.std.specs.Prelude.{◌≡◌, ℕ, List, [], ◌∷◌, ℤ, pos, negsuc, Some, None}
 use Rattle.model.specs.Terms.{Literal, Variable, Negation, Addition, Subtraction, Multiplication, Exponentiation, value}
 use Rattle.model.specs.Programs.{AtLeast, MoreThan, AtMost, LessThan, EqualTo, Related, Always, Compare, Symbol, Rule}

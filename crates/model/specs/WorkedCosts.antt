@@ -3,7 +3,7 @@ use Rattle.std.specs.Prelude.{◌≡◌, [], ◌∷◌, pos, negsuc, Some, None}
 use Rattle.model.specs.Terms.{Term, Variable, Subtraction}
 use Rattle.model.specs.Programs.{Rule, Program}
 use Rattle.model.specs.Bounds.{Constant, Input}
-use Rattle.model.specs.Costs.{cost_at, cost, spent, spent_all}
+use Rattle.model.specs.Spending.{cost_at, cost, spent, spent_all}
 use Rattle.model.specs.Facts.{HoldsCost}
 use Rattle.model.specs.Worked.{with_free, four_steps}
 use Rattle.model.specs.WorkedRuns.{entering, looping, over_two_places, countdown, both}

@@ -1,8 +1,8 @@
--- Bounds that hold on all runs of a small program, and bounds one too small, as they were worked out by hand.
+-- Worked values of bounds that hold on all runs of a small program, and of bounds one too small.
 use Rattle.std.specs.Prelude.{◌≡◌, List, [], ◌∷◌, pos, negsuc}
 use Rattle.model.specs.Runs.{Step, count, last_rule, place_value}
 use Rattle.model.specs.Bounds.{Constant, Input}
-use Rattle.model.specs.Facts.{HoldsTime, HoldsSize, HoldsTotal}
+use Rattle.model.specs.Facts.{HoldsTime, HoldsSize, HoldsLength}
 use Rattle.model.specs.Worked.{by_rule, two_values}
 use Rattle.model.specs.WorkedRuns.{countdown, entry_alone}
 
@@ -10,8 +10,8 @@ use Rattle.model.specs.WorkedRuns.{countdown, entry_alone}
 abbrev pub three_steps : List Step
 three_steps = by_rule 2 ∷ by_rule 1 ∷ by_rule 2 ∷ []
 
--- steps are counted wherever they stand, the entry once also where there is none, the last step is the first in the
--- list, and a place that isn't there, as place 0, has the value 0
+-- every occurrence of a rule is counted, whatever its position; the virtual entry counts once, also in a run without a
+-- step; the last step is the first in the list; and an argument that does not exist, such as number 0, has the value 0
 pub record StepsAndPlacesAreCounted : Type 0 where
   pub apart : count 2 three_steps ≡ 2
   pub between : count 1 three_steps ≡ 1
@@ -41,12 +41,12 @@ pub record TimesHold : Type 0 where
   pub alone_never : ¬ (HoldsTime entry_alone 1 (Constant 0))
 
 -- how many steps a run has: at most 10, and not always at most 9
-pub record TotalsHold : Type 0 where
-  pub all : HoldsTotal countdown (Constant 10)
-  pub less : ¬ (HoldsTotal countdown (Constant 9))
+pub record LengthsHold : Type 0 where
+  pub all : HoldsLength countdown (Constant 10)
+  pub less : ¬ (HoldsLength countdown (Constant 9))
   -- runs of one step count too
-  pub alone : HoldsTotal entry_alone (Constant 1)
-  pub alone_less : ¬ (HoldsTotal entry_alone (Constant 0))
+  pub alone : HoldsLength entry_alone (Constant 1)
+  pub alone_less : ¬ (HoldsLength entry_alone (Constant 0))
 
 -- the absolute values at each place: at the beginning and behind rule 1 those of A and B, behind rule 2 at most 8 and 9
 pub record SizesHold : Type 0 where
@@ -61,6 +61,6 @@ pub record SizesHold : Type 0 where
   pub loop_second_less : ¬ (HoldsSize countdown 2 2 (Constant 8))
   pub first_by_other : ¬ (HoldsSize countdown 1 1 (Input 1))
   pub second_by_other : ¬ (HoldsSize countdown 1 2 (Input 0))
-  -- of the entry it is said too: A may be 5, or -5
+  -- for the virtual entry too, the size bound has to hold for every start value: A may be 5, or -5
   pub entry_less : ¬ (HoldsSize countdown 0 1 (Constant 4))
   pub entry_by_other : ¬ (HoldsSize countdown 0 2 (Input 0))

@@ -1,11 +1,12 @@
--- Steps and runs of a small program with a loop, and relations below zero, as they were worked out by hand.
+-- Worked values of steps and runs of a small program with a loop, and of relations below zero.
 use Rattle.std.specs.Prelude.{List, [], ◌∷◌, ℤ, pos, negsuc, None}
 use Rattle.model.specs.Terms.{Literal, Variable, Negation, Subtraction}
 use Rattle.model.specs.Programs.{Name, AtLeast, MoreThan, AtMost, LessThan, EqualTo, Related, Compare, Rule, Program}
 use Rattle.model.specs.Runs.{Config, IsStep, IsRun}
 use Rattle.model.specs.Worked.{by_rule, with_free, one_value, two_values}
 
--- each relation at 1 and -3, at -3 and 1, at -3 and -2, and at 3 and -3: the less is what stands further left
+-- each relation at 1 and -3, at -3 and 1, at -3 and -2, and at 3 and -3: the lesser number is the one further left on
+-- the number line
 pub record RelationsHoldBelowZero : Type 0 where
   pub at_least : Related AtLeast (pos 1) (negsuc 2) × ¬ (Related AtLeast (negsuc 2) (pos 1))
       × ¬ (Related AtLeast (negsuc 2) (negsuc 1))
@@ -106,9 +107,9 @@ pub record StepsAreSteps : Type 0 where
   pub missing_free_value : (c d : Config) → ¬ (IsStep choosing c (by_rule 1) d)
   pub two_free_values : (c d : Config) → ¬ (IsStep choosing c (record { rule = 1; free = pos 2 ∷ pos 2 ∷ [] }) d)
 
--- runs of the program with the loop; steps stand the last one first
+-- runs of the program with the loop; the list of steps begins with the last step
 pub record RunsAreRuns : Type 0 where
-  -- no step at all is a run, which stands at l0 with the start values, and nowhere else
+  -- a run without a step ends at l0 with the start values, and nowhere else
   pub no_steps : IsRun countdown (both (pos 3) (pos 7)) [] (two_values 0 (pos 3) (pos 7))
   pub begins_at_start : ¬ (IsRun countdown (both (pos 3) (pos 7)) [] (two_values 1 (pos 3) (pos 7)))
   pub begins_with_start_values : ¬ (IsRun countdown (both (pos 3) (pos 7)) [] (two_values 0 (pos 7) (pos 3)))

@@ -1,8 +1,10 @@
-//! What a program, a run, a bound and a fact mean: definitions over unbounded integers, in `specs/`, with their laws.
+//! What a program, a run, a bound and a fact mean, as plain data over unbounded integers: definitions in `specs/`, with
+//! their laws.
 //!
-//! The crates above read their own types as this plain data and state their contracts over it. The functions here have
-//! no code: the contract of each is a law of the definitions, or values that were worked out by hand. The one type here
-//! is the error that all these crates share.
+//! Every other crate reads its own types as this plain data and states its contracts over it; no crate lies below this
+//! one. Main guarantee: the definitions give the values that were worked out by hand for small programs, and the laws
+//! hold (`runs_are_determined`, `runs_go_step_by_step`). The functions here have no code: the contract of each is a law
+//! or a set of worked values. The only type of the code is the error for running out of memory, which all crates share.
 #![tactic(auto)]
 
 mod costs;
@@ -13,29 +15,31 @@ ghost use Rattle.model.specs.Laws.{RunsAreDetermined, EntryOccursOnce};
 ghost use Rattle.model.specs.Worked.{ExpressionsHaveTheirValues, BoundsHaveTheirValues, StepsAreCounted};
 ghost use Rattle.model.specs.Worked.{RelationsHold, StepsLead, PlacesAndRulesCount};
 ghost use Rattle.model.specs.WorkedRuns.{RelationsHoldBelowZero, StepsAreSteps, RunsAreRuns};
-ghost use Rattle.model.specs.WorkedFacts.{StepsAndPlacesAreCounted, TimesHold, TotalsHold, SizesHold};
+ghost use Rattle.model.specs.WorkedFacts.{StepsAndPlacesAreCounted, TimesHold, LengthsHold, SizesHold};
 
-pub use costs::{costs_go_step_by_step, worked_costs_hold};
+pub use costs::{costs_add_up, costs_go_step_by_step, worked_costs_hold};
 pub use limits::{
     ATOM_LIMIT, COEFFICIENT_LIMIT, DEGREE_LIMIT, MONOMIAL_LIMIT, NAME_LIMIT, PLACE_LIMIT,
     RULE_LIMIT, TOKEN_LIMIT, VARIABLE_LIMIT, limits_are_as_defined,
 };
 pub use runs::{entries_are_listed, paths_are_as_worked_out, runs_go_step_by_step};
 
-/// Want of memory, as an error type of its own.
+/// Running out of memory, as an error type of its own.
 pub type Memory = std::alloc::AllocError;
 
-/// Start values and steps, with the values of their free variables, determine the configuration that a run reaches.
+/// The start values and the steps of a run, with the values of their free variables, determine the configuration that
+/// the run reaches.
 pub fn runs_are_determined()
     ensures { RunsAreDetermined }
 {}
 
-/// In every run the virtual entry, rule 0, occurs once.
+/// In every run the virtual entry, rule 0, occurs exactly once.
 pub fn entry_occurs_once()
     ensures { EntryOccursOnce }
 {}
 
-/// The definitions give expressions, bounds, relations, steps, places and rules what was worked out by hand.
+/// Worked values: the definitions agree with values worked out by hand, for expressions, bounds, relations, steps,
+/// places and rules.
 pub fn worked_values_hold()
     ensures expressions { ExpressionsHaveTheirValues }
     ensures bounds { BoundsHaveTheirValues }
@@ -45,17 +49,17 @@ pub fn worked_values_hold()
     ensures numbering { PlacesAndRulesCount }
 {}
 
-/// The steps and runs of a small program with a loop are those that were worked out by hand, and no others are.
+/// Worked values: exactly the expected steps and runs of a small program with a loop.
 pub fn worked_runs_hold()
     ensures relations { RelationsHoldBelowZero }
     ensures steps { StepsAreSteps }
     ensures runs { RunsAreRuns }
 {}
 
-/// The bounds that were worked out by hand hold on all runs of a small program, and those that are one too small don't.
+/// Worked values: bounds that hold on all runs of a small program, and bounds one too small, which don't.
 pub fn worked_facts_hold()
     ensures counting { StepsAndPlacesAreCounted }
     ensures times { TimesHold }
-    ensures totals { TotalsHold }
+    ensures lengths { LengthsHold }
     ensures sizes { SizesHold }
 {}

@@ -1,12 +1,12 @@
-//! What holds of every run, step by step, the entries of a set of rules, and worked values of paths.
+//! Laws of every run, step by step; the entries of a set of rules; and worked values of paths.
 
 ghost use Rattle.model.specs.RunLaws.{AllRunsGoStepByStep};
 ghost use Rattle.model.specs.Entries.{AllEntriesAreListed};
 ghost use Rattle.model.specs.PathValues.{PathsAreWorkedOut};
 
-/// A beginning of a run is a run. A run stands where its last rule leads to, and the rule before can come just before
-/// each of its steps. Allowed rules lead a run to symbols alone that they reach. Where arities agree, a run has one
-/// value for each place of the symbol at which it stands.
+/// A prefix of a run is a run. A run ends at the target of its last rule, and the rule of the step before can come just
+/// before each step. A run that uses allowed rules alone ends at a symbol that they reach. Where arities agree, a run
+/// ends at a configuration with one value for each argument of its symbol.
 pub fn runs_go_step_by_step()
     ensures { AllRunsGoStepByStep }
 {}

@@ -2,7 +2,7 @@
 use Rattle.std.proofs.Common.{ℕ, ◌<◌, ◌^◌, [], ◌∷◌, All}
 use Rattle.std.proofs.lemmas.List.Elements.{All-nil, All-cons}
 use Rattle.poly_terms.specs.declared.poly.Monomial.{Monomial}
-use Rattle.proof_tree.specs.Composing.{HasFewVariables}
+use Rattle.cert_types.specs.Composing.{HasFewVariables}
 
 -- two variables
 pub few_variables : (a b : ℕ) → a < 2 ^ 31 → b < 2 ^ 31 → All (λ v. v < 2 ^ 31) (a ∷ b ∷ [])

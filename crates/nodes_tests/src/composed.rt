@@ -3,9 +3,11 @@
 ghost use Rattle.std.specs.Prelude.{◌≡◌, length, IfOk};
 
 use bound_expr::{Bound, Memory};
-use bound_table::Within;
+use bound_table::RewriteResult;
+use cert_types::{
+    Fact, Form, LocalBound, RankNode, SideBound, Stated, entries, rank_time, spread_size,
+};
 use its_model::{Program, Rule};
-use proof_tree::{Arm, Fact, Form, LocalBound, RankNode, Stated, entries, rank_time, spread_size};
 use std::alloc::Global;
 use std::test::Fail;
 
@@ -83,25 +85,25 @@ fn a_time_is_that_of_the_entries_times_the_function_after_them(
         uses: Vec::new(alloc),
     };
     let time = rank_time(alloc, &p, &node, &Stated { facts: &facts })?;
-    assert!(rt; time == Within::Rewritten(Bound::Var(0)));
+    assert!(rt; time == RewriteResult::Rewritten(Bound::Var(0)));
     // Without a fact nothing is known of the entry.
     let time = rank_time(alloc, &p, &node, &Stated { facts: &[] })?;
-    assert!(rt; time == Within::Rewritten(Bound::Const(0)));
+    assert!(rt; time == RewriteResult::Rewritten(Bound::Const(0)));
     Ok(())
 }
 
 #[test]
-fn a_spread_is_the_maximum_of_both_arms(rt: HostRuntime) -> Result<(), Fail> {
+fn a_spread_is_the_maximum_of_both_side_bounds(rt: HostRuntime) -> Result<(), Fail> {
     let alloc = rt.alloc();
     let facts = after_the_first(alloc)?;
     let local = LocalBound {
-        up: Arm::Linear {
+        up: SideBound::Linear {
             den: 2,
             coefs: vec![in alloc; 3]?,
             constant: -4,
             multipliers: Vec::new(alloc),
         },
-        low: Arm::Linear {
+        low: SideBound::Linear {
             den: 1,
             coefs: vec![in alloc; 0]?,
             constant: 0,
@@ -111,6 +113,6 @@ fn a_spread_is_the_maximum_of_both_arms(rt: HostRuntime) -> Result<(), Fail> {
     // Three halves of the size after the first rule, rounded up.
     let size = spread_size(alloc, &local, None, &[1], &Stated { facts: &facts })?;
     let twice = Bound::Prod(vec![in alloc; Bound::Const(2), Bound::Var(0)]?);
-    assert!(rt; size == Within::Rewritten(twice));
+    assert!(rt; size == RewriteResult::Rewritten(twice));
     Ok(())
 }

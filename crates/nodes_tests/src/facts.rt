@@ -1,7 +1,7 @@
 //! What is known by facts: of each rule the first time, and of each place the first size.
 
 use bound_expr::{Bound, Memory};
-use proof_tree::{Fact, known_or_zero, size_in, time_in};
+use cert_types::{Fact, known_or_zero, size_in, time_in};
 use std::alloc::Global;
 use std::test::Fail;
 

@@ -2,10 +2,10 @@
 #![tactic(auto)]
 
 #[cfg(test)]
-mod arms;
-#[cfg(test)]
 mod composed;
 #[cfg(test)]
 mod facts;
+#[cfg(test)]
+mod side_bounds;
 #[cfg(test)]
 mod times;

@@ -1,13 +1,13 @@
 //! Times over several entries, over a denominator, and at the limit of nodes.
 
 ghost use Rattle.std.specs.Prelude.{◌≡◌, length, IfOk};
-ghost use Rattle.proof_tree.specs.Sizes.{IsShort};
+ghost use Rattle.cert_types.specs.Sizes.{IsShort};
 
 use crate::composed::{entering_a_loop, rule};
 use bound_expr::{Bound, Memory};
-use bound_table::Within;
+use bound_table::RewriteResult;
+use cert_types::{Fact, Form, RankNode, Stated, rank_time};
 use its_model::Program;
-use proof_tree::{Fact, Form, RankNode, Stated, rank_time};
 use std::alloc::Global;
 use std::test::Fail;
 
@@ -83,7 +83,7 @@ fn each_entry_counts_with_its_own_time_and_sizes(rt: HostRuntime) -> Result<(), 
     let found = rank_time(alloc, &p, &node, &Stated { facts: &facts })?;
     let five_times = Bound::Prod(vec![in alloc; Bound::Const(5), Bound::Var(1)]?);
     let want = Bound::Sum(vec![in alloc; Bound::Var(0), five_times]?);
-    assert!(rt; found == Within::Rewritten(want), "{found:?}");
+    assert!(rt; found == RewriteResult::Rewritten(want), "{found:?}");
     Ok(())
 }
 
@@ -97,11 +97,11 @@ fn each_part_of_a_function_is_rounded_up(rt: HostRuntime) -> Result<(), Fail> {
     let node = ranking(alloc, vec![in alloc; 1, 2]?, 2, forms);
     let found = rank_time(alloc, &p, &node, &Stated { facts: &facts })?;
     let want = Bound::Sum(vec![in alloc; Bound::Var(0), Bound::Const(1)]?);
-    assert!(rt; found == Within::Rewritten(want), "{found:?}");
+    assert!(rt; found == RewriteResult::Rewritten(want), "{found:?}");
     Ok(())
 }
 
-// A sum of so many parts A.
+// A sum of this many parts A.
 fn wide(alloc: Global, parts: u32) -> Result<Bound, Memory> {
     let mut sum = Vec::new(alloc);
     for _ in 0..parts {
@@ -124,8 +124,8 @@ fn a_composed_bound_may_be_too_large(rt: HostRuntime) -> Result<(), Fail> {
     );
     let most = Bound::Prod(vec![in alloc; Bound::Const(4088), Bound::Var(0)]?);
     let table = [
-        (4088, Within::Rewritten(most)),
-        (4089, Within::Large { nodes: 4097 }),
+        (4088, RewriteResult::Rewritten(most)),
+        (4089, RewriteResult::Large { nodes: 4097 }),
     ];
     for (parts, want) in table {
         let facts = vec![in alloc; time(1, Bound::Const(1)), size(1, wide(alloc, parts)?)]?;

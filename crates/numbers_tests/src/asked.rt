@@ -1,5 +1,5 @@
 //! Questions about rules of small programs, with their linear programs written by hand, column by column, and the
-//! answers in whole numbers that are known of them.
+//! answers in integers that are known of them.
 
 use crate::tables::Answer::{Infeasible, Optimal};
 use crate::tables::Row;
@@ -17,15 +17,15 @@ pub(super) struct Group {
     pub(super) fixed: Form,
 }
 
-// What is found, over a denominator.
+// The expected solution, over a denominator.
 #[derive(Clone, Copy)]
 pub(super) enum Found {
     Solution(&'static [i64], u128),
     Dual(&'static [i64], u128),
 }
 
-// A question, by the size and the height of each parameter and its groups; the same linear program by hand; and what is
-// found.
+// A question, by the size and the height of each parameter and its groups; the same linear program by hand; and the
+// expected answer.
 #[derive(Clone, Copy)]
 pub(super) struct Asked {
     pub(super) costs: &'static [(u32, u32)],
@@ -198,8 +198,8 @@ pub(super) const ASKED: [Asked; 10] = [
         },
         found: Solution(&[0, 0, 1, 0, 0, 0, 0, 0, 0, 0], 1),
     },
-    // No function over l1(A,B) -> l1(A+B,B-1) where A >= 1 decreases: the move (1, 1) over 1 and the floor (1, -1) over
-    // 0 balance.
+    // No function over l1(A,B) -> l1(A+B,B-1) where A >= 1 decreases: the move (1, 1) over 1 and the floor (1, -1)
+    // above 0 balance.
     Asked {
         costs: &[(1, 0), (1, 0), (0, 1)],
         groups: &[

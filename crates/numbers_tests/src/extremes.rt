@@ -1,4 +1,4 @@
-//! Programs whose numbers pass the range, with their answers.
+//! Linear programs whose numbers are out of range, with their answers.
 
 use crate::tables::Answer::Range;
 use crate::tables::Row;

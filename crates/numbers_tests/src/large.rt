@@ -1,5 +1,5 @@
-//! A program of 250 equations in 650 unknowns: flows of least cost, whose tableaux hold only small
-//! whole numbers. The pivots and the cost were worked out with Python by the rules of the method.
+//! A program of 250 equations in 650 unknowns: flows of least cost, whose tableaux hold only small integers. The pivots
+//! and the cost were worked out with Python by the rules of the method.
 
 use crate::rows::solved;
 use frac128::Frac;
@@ -19,12 +19,12 @@ fn ends(arc: u16) -> (u32, u32) {
     (tail, head)
 }
 
-// What flows along an arc in the solution that the right sides are made from.
+// The flow along an arc in the solution that the right sides are made from.
 fn flow(arc: u16) -> i128 {
     i128::from(u32::from(arc) * 5 % 4)
 }
 
-// What leaves a node less what reaches it.
+// What leaves a node minus what reaches it.
 fn balance(node: u32) -> Option<i128> {
     let mut sum: i128 = 0;
     for arc in 0..ARCS {

@@ -2,7 +2,7 @@
 
 ghost use Rattle.std.specs.Prelude.{◌≡◌, ◌≢◌, ℕ, pos, IsTrue, Some};
 ghost use Rattle.frac128.specs.declared.frac.Frac.{Frac};
-ghost use Rattle.merges.specs.Listing.{Ascends, listed};
+ghost use Rattle.sparse_merge.specs.Listing.{Ascends, listed};
 ghost use Rattle.sparse_rows.specs.Rows.{column_of, IsRow};
 
 use frac128::Frac;
@@ -23,7 +23,7 @@ fn is_row_from(pairs: &[(u32, Frac)], from: u64) -> bool
     is_row_from(rest, col + 1)
 }
 
-/// Whether pairs may be listed by a sparse row.
+/// Whether pairs are a valid list for a sparse row.
 pub(super) fn is_row(pairs: &[(u32, Frac)]) -> bool
     ensures { IsTrue result → IsRow pairs.now }
 {

@@ -1,4 +1,4 @@
-//! Linear programs of many rows, of which nearly all numbers are 0.
+//! Linear programs of many rows, with few nonzero numbers.
 
 use crate::rows::solved;
 use frac128::Frac;
@@ -8,7 +8,7 @@ use std::alloc::Global;
 use std::process::Abort;
 use std::test::Fail;
 
-// So many rows, each with a column of its own, or none with one. The first rows are `x = 1` and the others `-x = 0`;
+// This many rows, each with a column of its own, or none with one. The first rows are `x = 1` and the others `-x = 0`;
 // without a column all right sides are 0. And how many numbers there are, where they are too many.
 #[derive(Clone, Copy)]
 struct Many {

@@ -1,4 +1,4 @@
-//! The method as it is defined, slowly: exact fractions, and every number worked out anew.
+//! The simplex method as it is defined, slowly: exact fractions, and every number computed anew.
 
 use crate::coded::coded;
 use crate::rows::solved;
@@ -18,7 +18,7 @@ struct Tableau {
     basis: Vec<usize>,
 }
 
-// A whole number.
+// An integer.
 fn whole(number: i128) -> Option<Frac> {
     Frac::new(number, 1).ok()
 }

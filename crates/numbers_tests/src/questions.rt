@@ -55,7 +55,7 @@ fn parts_of(alloc: Global, groups: &[Group]) -> Result<Vec<Part>, Memory> {
     Ok(parts)
 }
 
-// What the parameters cost.
+// The costs of the parameters.
 fn costs_of(alloc: Global, costs: &[(u32, u32)]) -> Result<Vec<Cost>, Memory> {
     let mut made = Vec::new(alloc);
     for (size, height) in costs {
@@ -116,7 +116,7 @@ fn questions_are_built_as_by_hand(rt: HostRuntime) -> Result<(), Fail> {
     Ok(())
 }
 
-// What is known of the rank problem of a shape with 8 rules or loops.
+// The expected answer to the rank problem of a shape with 8 rules or loops.
 #[derive(Clone, Copy)]
 struct Known {
     shape: Shape,
@@ -175,7 +175,7 @@ fn pivots_of(rt: &impl Abort, alloc: Global, problem: &Problem) -> Result<u32, F
     }
 }
 
-// The solution of a problem in whole numbers.
+// The solution of a problem in integers.
 fn solution_of(alloc: Global, problem: &Problem) -> Result<Numerators, Fail>
     requires { IsProper problem.now }
 {

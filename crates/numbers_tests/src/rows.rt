@@ -78,7 +78,7 @@ fn answer_of(alloc: Global, answer: Answer) -> Result<Result<Solved, SolveError>
     })
 }
 
-/// What `solve` answers to a problem, which has to be proper.
+/// The answer of `solve` to a problem, which has to be valid.
 pub(super) fn solved(
     rt: &impl Abort,
     alloc: Global,

@@ -1,7 +1,7 @@
-//! Answers in whole numbers: at the limits of what they may be, on both sides, and what trips.
+//! Answers in integers: at their limits, on both sides, and which limit is exceeded.
 
-use Whole::{Dual, Solution, Tripped};
-use linear_forms::TripCause;
+use Whole::{Dual, OutOfLimits, Solution};
+use linear_forms::LimitCause;
 use model::Memory;
 use sample_questions::is_proper;
 use simplex_core::{Answer, Entry, Numerators, Problem, solve_scaled};
@@ -20,47 +20,48 @@ struct Case {
     answer: Whole,
 }
 
-// An answer: the numbers and their denominator, or what trips.
+// An answer: the numbers and their denominator, or the limit that is exceeded.
 #[derive(Clone, Copy)]
 enum Whole {
     Solution(&'static [i64], u128),
     Dual(&'static [i64], u128),
-    Tripped(TripCause),
+    OutOfLimits(LimitCause),
 }
 
-// 2^55 + 1 is 48912491*736597059, 2^55 - 1 is 644457551*55905617, and 2^45 + 1 is 1867833*18837001.
+// 2^56 + 2 is 97824982*736597059, 2^56 - 1 is 2005370767*35932305, and 2^45 + 1 is 1867833*18837001; 2^56 + 1 has a
+// prime factor over 2^32.
 const CASES: [Case; 9] = [
-    // x = 2^25 and 2^30*y = 1: over 2^30 the numbers are 2^55 and 1.
+    // x = 2^26 and 2^30*y = 1: over 2^30 the numbers are 2^56 and 1.
     Case {
         numbers: &[(0, 0, 1), (1, 1, 1_073_741_824)],
-        right: &[33_554_432, 1],
+        right: &[67_108_864, 1],
         columns: 2,
         pivots: 9,
-        answer: Solution(&[36_028_797_018_963_968, 1], 1_073_741_824),
+        answer: Solution(&[72_057_594_037_927_936, 1], 1_073_741_824),
     },
-    // A number is 2^55 + 1.
+    // A number is 2^56 + 2.
     Case {
         numbers: &[(0, 0, 1), (1, 1, 736_597_059)],
-        right: &[48_912_491, 1],
+        right: &[97_824_982, 1],
         columns: 2,
         pivots: 9,
-        answer: Tripped(TripCause::Scale),
+        answer: OutOfLimits(LimitCause::Scale),
     },
-    // The denominator is 2^55 - 1.
+    // The denominator is 2^56 - 1.
     Case {
-        numbers: &[(0, 0, 644_457_551), (1, 1, 55_905_617)],
+        numbers: &[(0, 0, 2_005_370_767), (1, 1, 35_932_305)],
         right: &[1, 1],
         columns: 2,
         pivots: 9,
-        answer: Solution(&[55_905_617, 644_457_551], 36_028_797_018_963_967),
+        answer: Solution(&[35_932_305, 2_005_370_767], 72_057_594_037_927_935),
     },
-    // The denominator is 2^55 + 1.
+    // The denominator is 2^56 + 2.
     Case {
-        numbers: &[(0, 0, 48_912_491), (1, 1, 736_597_059)],
+        numbers: &[(0, 0, 97_824_982), (1, 1, 736_597_059)],
         right: &[1, 1],
         columns: 2,
         pivots: 9,
-        answer: Tripped(TripCause::Scale),
+        answer: OutOfLimits(LimitCause::Scale),
     },
     // 3*x = 0, 2^25*y = 0 and 2^20*x + y = 1: over 3*2^25 the dual's first number is -2^45.
     Case {
@@ -76,7 +77,7 @@ const CASES: [Case; 9] = [
         right: &[0, 0, 1],
         columns: 2,
         pivots: 9,
-        answer: Tripped(TripCause::Scale),
+        answer: OutOfLimits(LimitCause::Scale),
     },
     // A dual's last number is 1, so over the denominator 2^46 - 2^23 it is that.
     Case {
@@ -84,7 +85,7 @@ const CASES: [Case; 9] = [
         right: &[0, 0, 1],
         columns: 2,
         pivots: 9,
-        answer: Tripped(TripCause::Scale),
+        answer: OutOfLimits(LimitCause::Scale),
     },
     // What trips before any answer.
     Case {
@@ -92,14 +93,14 @@ const CASES: [Case; 9] = [
         right: &[1],
         columns: 1,
         pivots: 9,
-        answer: Tripped(TripCause::Range { pivot: 0 }),
+        answer: OutOfLimits(LimitCause::Range { pivot: 0 }),
     },
     Case {
         numbers: &[(0, 0, 1)],
         right: &[1],
         columns: 1,
         pivots: 0,
-        answer: Tripped(TripCause::Budget { pivots: 0 }),
+        answer: OutOfLimits(LimitCause::Budget { pivots: 0 }),
     },
 ];
 
@@ -124,7 +125,7 @@ fn problem_of(alloc: Global, case: &Case) -> Result<Problem, Memory> {
     })
 }
 
-// What `solve_scaled` answers to a problem, which has to be proper.
+// The answer of `solve_scaled` to a problem, which has to be valid.
 fn answered(
     rt: &impl Abort,
     alloc: Global,
@@ -146,7 +147,7 @@ fn answer_of(alloc: Global, answer: Whole) -> Result<Answer, Memory> {
             numbers: numbers.to_vec(alloc)?,
             den,
         }),
-        Tripped(cause) => Answer::Tripped(cause),
+        OutOfLimits(cause) => Answer::OutOfLimits(cause),
     })
 }
 

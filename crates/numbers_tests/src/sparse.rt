@@ -1,4 +1,4 @@
-//! Rows that list what isn't 0: how they are made, what stands at each column, and sums.
+//! Tests of sparse rows: how they are made, the fraction at each column, and sums.
 
 use crate::listed::is_row;
 use frac128::Frac;

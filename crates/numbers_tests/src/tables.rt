@@ -104,7 +104,7 @@ pub(super) const CHOICES: [Row; 28] = [
         pivots: 9,
         answer: Infeasible(&[(-1, 1), (-2, 1)], 2),
     },
-    // Two rows have equal quotients: the one with the least basic column leaves, wherever it stands.
+    // Two rows have equal quotients: the one with the least basic column leaves, whatever its position.
     Row {
         equations: &[&[0, 2], &[1, 1]],
         right: &[0, 0],

@@ -1,1 +1,2 @@
+-- worked values of reports
 pub mod WorkedReports

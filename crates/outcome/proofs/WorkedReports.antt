@@ -1,9 +1,9 @@
 -- Which worked reports hold: by the facts of the program that counts down.
 use Rattle.std.proofs.Common.{◌≡◌, ℕ, zero, suc, [], ◌∷◌, Some, None, refl, subst, arith}
 use Rattle.farkas_cert.specs.model.Bounds.{Bound, Constant, Input}
-use Rattle.farkas_cert.specs.model.Facts.{HoldsTime, HoldsSize, HoldsTotal}
+use Rattle.farkas_cert.specs.model.Facts.{HoldsTime, HoldsSize, HoldsLength}
 use Rattle.farkas_cert.specs.model.WorkedRuns.{countdown}
-use Rattle.farkas_cert.proofs.model.WorkedFacts.{times_hold, totals_hold, sizes_hold}
+use Rattle.farkas_cert.proofs.model.WorkedFacts.{times_hold, lengths_hold, sizes_hold}
 use Rattle.outcome.specs.Reports.{NoTime, TimeLarge, Timed, Untimed}
 use Rattle.outcome.specs.Reports.{NoSize, SizeUntimed, SizeLarge, Sized, Unsized}
 use Rattle.outcome.specs.Holding.{numbered_entry, place_entry}
@@ -58,7 +58,7 @@ times_of_two a c one two (suc zero) b e = subst (λ (d : Bound). HoldsTime count
 times_of_two a c one two (suc (suc zero)) b e = subst (λ (d : Bound). HoldsTime countdown 2 d) (same_time c b e) two
 times_of_two a c one two (suc (suc (suc t))) b e = absurd (no_time b e)
 
--- so do those of places
+-- the same for those of places
 places_of_two : (rule : ℕ) (a c : Bound) → HoldsSize countdown rule 1 a → HoldsSize countdown rule 2 c
     → (i : ℕ) (b : Bound) → place_entry (Some (two_sizes a c)) i ≡ Some (Sized b) → HoldsSize countdown rule i b
 places_of_two rule a c one two zero b e = absurd (no_size b e)
@@ -91,14 +91,14 @@ pub reports_hold : ReportsHold
 reports_hold = record {
   whole = record {
     times = times_of_two (Constant 1) (Constant 9) times_hold.first times_hold.loop;
-    total = λ b e. subst (λ (d : Bound). HoldsTotal countdown d) (same_total (Constant 10) b e) totals_hold.all;
+    total = λ b e. subst (λ (d : Bound). HoldsLength countdown d) (same_total (Constant 10) b e) lengths_hold.all;
     sizes = right_sizes_hold;
   };
   first_time_less = λ h. times_hold.first_never (h.times 1 (Constant 0) refl);
   second_time_less = λ h. times_hold.loop_less (h.times 2 (Constant 8) refl);
   time_of_other_rule = λ h. never_once (h.times 2 (Constant 1) refl);
   times_swapped = λ h. never_once (h.times 2 (Constant 1) refl);
-  total_less = λ h. totals_hold.less (h.total (Constant 9) refl);
+  total_less = λ h. lengths_hold.less (h.total (Constant 9) refl);
   first_size_less = λ h. sizes_hold.loop_first_less (h.sizes 2 1 (Constant 7) refl);
   second_size_less = λ h. sizes_hold.loop_second_less (h.sizes 2 2 (Constant 8) refl);
   sizes_swapped = λ h. sizes_hold.first_by_other (h.sizes 1 1 (Input 1) refl);
@@ -156,7 +156,7 @@ reasons_hold = record {
     sizes = λ t i b e. absurd (none_sized t i b e);
   };
   one_time_less = λ h. times_hold.loop_less (h.times 2 (Constant 8) refl);
-  one_total_less = λ h. totals_hold.less (h.total (Constant 9) refl);
+  one_total_less = λ h. lengths_hold.less (h.total (Constant 9) refl);
   one_size_less = λ h. sizes_hold.loop_second_less (h.sizes 2 2 (Constant 8) refl);
 }
   where

@@ -1,10 +1,10 @@
--- Reports on a program, and when what a report says holds on all of its runs.
+-- Reports on a program, and when the bounds of a report hold on all of its runs.
 use Rattle.std.specs.Prelude.{◌≡◌, ◌↔◌, ℕ, zero, suc, List, length, map, Option, Some, None, IsTrue, IsSome}
 use Rattle.std.specs.Prelude.{slice_get}
 use Rattle.std.specs.List.{list_all}
 use Rattle.farkas_cert.specs.model.Programs.{Program, arity_of}
 use Rattle.farkas_cert.specs.model.Bounds.{Bound}
-use Rattle.farkas_cert.specs.model.Facts.{HoldsTime, HoldsSize, HoldsTotal}
+use Rattle.farkas_cert.specs.model.Facts.{HoldsTime, HoldsSize, HoldsLength}
 use Rattle.outcome.specs.Reports.{Time, Timed, Size, Sized, Report, is_timed}
 
 -- a report on a program: one entry for each rule; a total exactly where every rule has a time; and for each rule an
@@ -19,7 +19,7 @@ abbrev pub numbered_entry : {A : Type 0} → List A → ℕ → Option A
 numbered_entry entries zero = None
 numbered_entry entries (suc n) = slice_get entries n
 
--- what is said of the place of this number, from 1, where there are entries of places
+-- the entry of the place of this number, from 1, where there are entries of places
 abbrev pub place_entry : Option (List Size) → ℕ → Option Size
 place_entry None i = None
 place_entry (Some sizes) i = numbered_entry sizes i
@@ -28,5 +28,5 @@ place_entry (Some sizes) i = numbered_entry sizes i
 -- says, a run has at most as many steps as the total says, and the value at a place after a rule is at most its size
 pub record ReportHolds (p : Program) (r : Report) : Type 0 where
   pub times : (t : ℕ) (b : Bound) → numbered_entry r.times t ≡ Some (Timed b) → HoldsTime p t b
-  pub total : (b : Bound) → r.total ≡ Some b → HoldsTotal p b
+  pub total : (b : Bound) → r.total ≡ Some b → HoldsLength p b
   pub sizes : (t i : ℕ) (b : Bound) → place_entry (numbered_entry r.sizes t) i ≡ Some (Sized b) → HoldsSize p t i b

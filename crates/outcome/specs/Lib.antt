@@ -6,6 +6,6 @@ pub mod WorkedReports
 pub mod Views
 pub mod Printing
 -- the crates below, which callers name through this one
-pub use Rattle.proof_tree.specs.proof_nodes
-pub use Rattle.proof_tree.specs.proof_setting
-pub use Rattle.proof_tree.specs as proof_tree
+pub use Rattle.cert_types.specs.cert_rules
+pub use Rattle.cert_types.specs.cert_program
+pub use Rattle.cert_types.specs as cert_types

@@ -19,23 +19,23 @@ IsPrintable n b = IsTidy (bound_of b) × ReadsBelow n (bound_of b)
 abbrev pub IsPrintableTime : ℕ → TimeEntry → Type 0
 IsPrintableTime n (times.Known s) = IsPrintable n s.bound
 IsPrintableTime n (times.Gap g) = ⊤
-IsPrintableTime n (times.Tripped t) = ⊤
+IsPrintableTime n (times.OutOfLimits t) = ⊤
 IsPrintableTime n (times.Large nodes) = ⊤
 
--- the gap that a time names, where it names one, is one of so many
+-- the gap that a time names, where it names one, is one of this many
 abbrev pub HasItsGap : ℕ → TimeEntry → Type 0
 HasItsGap n (times.Known s) = ⊤
 HasItsGap n (times.Gap g) = (1 ≤ g) × (g ≤ n)
-HasItsGap n (times.Tripped t) = ⊤
+HasItsGap n (times.OutOfLimits t) = ⊤
 HasItsGap n (times.Large nodes) = ⊤
 
 -- the bound of a size, where there is one, is printable
 abbrev pub IsPrintableSize : ℕ → SizeEntry → Type 0
 IsPrintableSize n (sizes.Known s) = IsPrintable n s.bound
-IsPrintableSize n (sizes.Loose l) = ⊤
-IsPrintableSize n (sizes.Tripped t) = ⊤
+IsPrintableSize n (sizes.UnboundedSide l) = ⊤
+IsPrintableSize n (sizes.OutOfLimits t) = ⊤
 IsPrintableSize n (sizes.Missing s) = ⊤
-IsPrintableSize n (sizes.Bent s) = ⊤
+IsPrintableSize n (sizes.Nonlinear s) = ⊤
 IsPrintableSize n (sizes.Untimed t) = ⊤
 IsPrintableSize n (sizes.Large nodes) = ⊤
 
@@ -43,8 +43,7 @@ abbrev pub IsPrintableTotal : ℕ → Option code.Bound → Type 0
 IsPrintableTotal n None = ⊤
 IsPrintableTotal n (Some b) = IsPrintable n b
 
--- all bounds of an outcome are tidy, over the start arguments alone, of which there are n; and it has the gaps that it
--- names
+-- all bounds of an outcome are tidy, over n start arguments alone; and it has the gaps that it names
 pub record IsPrintableOutcome (n : ℕ) (o : Outcome) : Type 0 where
   pub times : All (IsPrintableTime n) o.times.items
   pub gaps : All (HasItsGap (length o.gaps.items)) o.times.items

@@ -1,15 +1,15 @@
--- What an analysis says of a program, as plain data: a bound for each rule and each place, or a reason.
+-- The report of an analysis as plain data: a bound for each rule and each place, or a reason.
 use Rattle.std.specs.Prelude.{ℕ, Bool, true, false, List, ℤ, Option}
 use Rattle.farkas_cert.specs.model.Bounds.{Bound}
-use Rattle.proof_tree.specs.proof_nodes.Nodes.{Spot}
-use Rattle.proof_tree.specs.proof_nodes.AcceptsSizes.{Side}
-use Rattle.proof_tree.specs.proof_nodes.Gaps.{ScaledPoint, Gap}
-use Rattle.proof_tree.specs.declared.answer.Trip.{Trip}
+use Rattle.cert_types.specs.cert_rules.Nodes.{ResultVariable}
+use Rattle.cert_types.specs.cert_rules.AcceptsSizes.{Side}
+use Rattle.cert_types.specs.cert_rules.Gaps.{ScaledPoint, Gap}
+use Rattle.cert_types.specs.declared.answer.LimitHit.{LimitHit}
 
--- why a rule has no time: no function ranks it, a linear program passed a limit, or the bound is too large
+-- why a rule has no time: no function ranks it, a linear program exceeded a limit, or the bound is too large
 pub data NoTime : Type 0 where
   NoFunction : Gap → NoTime
-  TimeTripped : Trip → NoTime
+  TimeTripped : LimitHit → NoTime
   TimeLarge : ℕ → NoTime
 
 -- a time, or why there is none
@@ -17,13 +17,13 @@ pub data Time : Type 0 where
   Timed : Bound → Time
   Untimed : NoTime → Time
 
--- why a place has no size: a side is loose, along a ray and from a point; a linear program passed a limit; a size from
--- outside is missing; a polynomial arm reads a member; a rule has no time; or the bound is too large
+-- why a place has no size: a side is loose, along a ray and from a point; a linear program exceeded a limit; a size
+-- from outside is missing; a polynomial arm reads a member; a rule has no time; or the bound is too large
 pub data NoSize : Type 0 where
-  SizeLoose : Side → List ℤ → ScaledPoint → NoSize
-  SizeTripped : Trip → NoSize
-  SizeMissing : Spot → NoSize
-  SizeBent : Spot → NoSize
+  SizeUnbounded : Side → List ℤ → ScaledPoint → NoSize
+  SizeTripped : LimitHit → NoSize
+  SizeMissing : ResultVariable → NoSize
+  SizeNonlinear : ResultVariable → NoSize
   SizeUntimed : ℕ → NoSize
   SizeLarge : ℕ → NoSize
 

@@ -2,11 +2,11 @@
 use Rattle.std.specs.Prelude.{ℕ, zero, suc, Bool, true, false, List, [], ◌∷◌, map}
 use Rattle.std.specs.Option.{option_map}
 use Rattle.bound_expr.specs.Views.{bound_of}
-use Rattle.proof_tree.specs.proof_nodes.Gaps.{Gap}
-use Rattle.proof_tree.specs.Views.{spot_of}
-use Rattle.proof_tree.specs.AnswerViews.{scaled_of, gap_of}
-use Rattle.proof_tree.specs.declared.gap.Gap as code
-use Rattle.outcome.specs.declared.loose.Loose.{Loose}
+use Rattle.cert_types.specs.cert_rules.Gaps.{Gap}
+use Rattle.cert_types.specs.Views.{result_variable_of}
+use Rattle.cert_types.specs.AnswerViews.{scaled_of, gap_of}
+use Rattle.cert_types.specs.declared.gap.Gap as code
+use Rattle.outcome.specs.declared.unbounded_side.UnboundedSide.{UnboundedSide}
 use Rattle.outcome.specs.declared.entry.TimeEntry.{TimeEntry}
 use Rattle.outcome.specs.declared.entry.TimeEntry.TheVariants as times
 use Rattle.outcome.specs.declared.entry.SizeEntry.{SizeEntry}
@@ -14,8 +14,8 @@ use Rattle.outcome.specs.declared.entry.SizeEntry.TheVariants as sizes
 use Rattle.outcome.specs.declared.outcome_of.Outcome.{Outcome}
 use Rattle.outcome.specs.Reports.{NoFunction, TimeTripped, TimeLarge}
 use Rattle.outcome.specs.Reports.{Time, Timed, Untimed}
-use Rattle.proof_tree.specs.proof_nodes.AcceptsSizes.{Side, Up, Low}
-use Rattle.outcome.specs.Reports.{NoSize, SizeLoose, SizeTripped, SizeMissing, SizeBent, SizeUntimed, SizeLarge}
+use Rattle.cert_types.specs.cert_rules.AcceptsSizes.{Side, Up, Low}
+use Rattle.outcome.specs.Reports.{NoSize, SizeUnbounded, SizeTripped, SizeMissing, SizeNonlinear, SizeUntimed, SizeLarge}
 use Rattle.outcome.specs.Reports.{Size, Sized, Unsized, Report}
 
 -- the gap without points, over no rule
@@ -33,7 +33,7 @@ numbered_gap (g ∷ gaps) (suc (suc n)) = numbered_gap gaps (suc n)
 abbrev pub time_of : List code.Gap → TimeEntry → Time
 time_of gaps (times.Known s) = Timed (bound_of s.bound)
 time_of gaps (times.Gap n) = Untimed (NoFunction (numbered_gap gaps n))
-time_of gaps (times.Tripped t) = Untimed (TimeTripped t)
+time_of gaps (times.OutOfLimits t) = Untimed (TimeTripped t)
 time_of gaps (times.Large n) = Untimed (TimeLarge n)
 
 -- the side that a flag names
@@ -42,16 +42,16 @@ side_by true = Up
 side_by false = Low
 
 -- why a loose place has no size
-abbrev pub loose_of : Loose → NoSize
-loose_of l = SizeLoose (side_by l.up) l.ray.items (scaled_of l.kept)
+abbrev pub unbounded_of : UnboundedSide → NoSize
+unbounded_of l = SizeUnbounded (side_by l.up) l.ray.items (scaled_of l.kept)
 
 -- a size, or why there is none, as plain data
 abbrev pub size_of : SizeEntry → Size
 size_of (sizes.Known s) = Sized (bound_of s.bound)
-size_of (sizes.Loose l) = Unsized (loose_of l)
-size_of (sizes.Tripped t) = Unsized (SizeTripped t)
-size_of (sizes.Missing s) = Unsized (SizeMissing (spot_of s))
-size_of (sizes.Bent s) = Unsized (SizeBent (spot_of s))
+size_of (sizes.UnboundedSide l) = Unsized (unbounded_of l)
+size_of (sizes.OutOfLimits t) = Unsized (SizeTripped t)
+size_of (sizes.Missing s) = Unsized (SizeMissing (result_variable_of s))
+size_of (sizes.Nonlinear s) = Unsized (SizeNonlinear (result_variable_of s))
 size_of (sizes.Untimed t) = Unsized (SizeUntimed t)
 size_of (sizes.Large n) = Unsized (SizeLarge n)
 

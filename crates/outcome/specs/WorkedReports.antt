@@ -1,5 +1,4 @@
--- Reports on a small program and the entries that they have, as they were worked out by hand: what holds on all of its
--- runs, and what doesn't.
+-- Worked values of reports on a small program and their entries: what holds on all of its runs, and what doesn't.
 use Rattle.std.specs.Prelude.{◌≡◌, ℕ, List, [], ◌∷◌, Option, Some, None}
 use Rattle.farkas_cert.specs.model.Bounds.{Bound, Constant, Input}
 use Rattle.farkas_cert.specs.model.WorkedRuns.{countdown}

@@ -1,8 +1,8 @@
-//! What is known of a time or of a size.
+//! The entries of times and of sizes.
 
-use crate::loose::Loose;
+use crate::unbounded_side::UnboundedSide;
 use bound_expr::Bound;
-use proof_tree::{Spot, Trip};
+use cert_types::{LimitHit, ResultVariable};
 
 /// A bound, with the number of the lemma that states it; lemma 0 is the virtual entry's.
 #[derive(Debug, PartialEq, Eq, Drop)]
@@ -11,30 +11,30 @@ pub struct Stored {
     pub lemma: u32,
 }
 
-/// How often a rule occurs at most, or why no bound is known.
+/// The runtime bound of a rule, or why none is known.
 #[derive(Debug, PartialEq, Eq, Drop)]
 pub enum TimeEntry {
     Known(Stored),
-    /// No affine function ranks the rule: the gap of this number, from 1, shows it.
+    /// No affine function ranks the rule, as the gap of this number, from 1, shows.
     Gap { gap: u32 },
-    /// A linear program passed a limit.
-    Tripped(Trip),
+    /// A linear program exceeded a limit.
+    OutOfLimits(LimitHit),
     /// The bound has this many nodes.
     Large { nodes: u64 },
 }
 
-/// How large the value at a place after a rule is at most, or why no bound is known.
+/// The size bound of a place after a rule, or why none is known.
 #[derive(Debug, PartialEq, Eq, Drop)]
 pub enum SizeEntry {
     Known(Stored),
     /// The place of a member is loose.
-    Loose(Loose),
-    /// A linear program of a member's place passed a limit.
-    Tripped(Trip),
+    UnboundedSide(UnboundedSide),
+    /// A linear program of a member's place exceeded a limit.
+    OutOfLimits(LimitHit),
     /// This size, which is needed from outside, is missing.
-    Missing(Spot),
+    Missing(ResultVariable),
     /// A polynomial arm of this member reads a member.
-    Bent(Spot),
+    Nonlinear(ResultVariable),
     /// The time of this rule, which is needed, is missing.
     Untimed { rule: u32 },
     /// The bound has this many nodes.

@@ -1,10 +1,10 @@
-//! What an analysis found.
+//! The outcome of an analysis.
 
 use crate::entry::{SizeEntry, TimeEntry};
 use bound_expr::Bound;
-use proof_tree::{Gap, Proof};
+use cert_types::{Gap, Proof};
 
-/// What an analysis found of a program: an entry for each rule, and one for each place of each rule's target; the
+/// The outcome of the analysis of a program: an entry for each rule, and one for each place of each rule's target; the
 /// bound on all steps, where each rule has a time; the lemmas that state the bounds; and the gaps.
 #[derive(Debug, PartialEq, Eq, Drop)]
 pub struct Outcome {

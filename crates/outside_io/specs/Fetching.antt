@@ -1,15 +1,15 @@
--- Why a fetch refuses.
+-- When a fetch may be refused.
 use Rattle.std.specs.Prelude.{ℕ, ◌<◌, List, Option, IfNone, IfSome, ◌⊎◌}
 use Rattle.outside_io.specs.Counts.{Rose}
 use Rattle.outside_io.specs.Files.{Files, HoldsMore, Lacks}
 
--- a fetch may fail: the count of faults rose in it, or the shelf tells what it holds and lacks the name
+-- a fetch may fail: the count of faults rose in it, or the shelf discloses its contents and lacks the name
 abbrev pub MayFail : Option Files → List ℕ → ℕ → ℕ → Type 0
 MayFail held name before now = Rose before now ⊎ Lacks held name
 
 -- a fetch found a file too long
 pub record IsTooLong (held : Option Files) (name : List ℕ) (limit taken : ℕ) : Type 0 where
-  -- where the shelf tells what it holds: it holds the file, with more bytes than the limit
+  -- if the shelf discloses its contents, it holds the file, with more bytes than the limit
   pub told : IfSome held (λ files. HoldsMore files name limit)
   -- where it doesn't: the fetch took more bytes than the limit
   pub untold : IfNone held (limit < taken)

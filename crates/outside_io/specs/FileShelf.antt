@@ -1,4 +1,4 @@
--- What is seen of the shelf of the system's files.
+-- The meaning of the shelf of the system's files.
 use Rattle.std.specs.Prelude.{ℕ}
 use Rattle.outside_io.specs.declared.file_shelf.FileShelf.{FileShelf}
 
@@ -9,3 +9,7 @@ fault_count shelf = shelf.faults
 -- how many bytes the last fetch took
 abbrev pub taken_count : {R : Type 0} → FileShelf R → ℕ
 taken_count shelf = shelf.taken
+
+-- the number of fetches so far
+abbrev pub fetch_count : {R : Type 0} → FileShelf R → ℕ
+fetch_count shelf = shelf.calls

@@ -1,4 +1,4 @@
--- What a shelf holds, as plain data.
+-- The contents of a shelf, as plain data.
 use Rattle.std.specs.Prelude.{◌≡◌, ℕ, ◌<◌, List, Option, None, Some, length, IfSome, IsSomeAnd}
 use Rattle.std.specs.Cmp.Lexicographic.{slice_cmp}
 use Rattle.std.specs.Ordering.{nat_cmp}
@@ -12,10 +12,10 @@ Files = FinMap (slice_cmp nat_cmp) (List ℕ)
 abbrev pub HoldsMore : Files → List ℕ → ℕ → Type 0
 HoldsMore files name limit = IsSomeAnd (get files name) (λ bytes. limit < length bytes)
 
--- the shelf tells what it holds, and no file of this name is there
+-- the shelf discloses its contents, and has no file of this name
 abbrev pub Lacks : Option Files → List ℕ → Type 0
 Lacks held name = IsSomeAnd held (λ files. get files name ≡ None)
 
--- the bytes are those of the file of this name, where the shelf tells what it holds
+-- if the shelf discloses its contents, the bytes are those of the file of this name
 abbrev pub IsHeld : Option Files → List ℕ → List ℕ → Type 0
 IsHeld held name bytes = IfSome held (λ files. get files name ≡ Some bytes)

@@ -1,4 +1,4 @@
--- The files of a shelf in memory, seen as a finite map.
+-- The files of a shelf in memory, as a finite map.
 use Rattle.std.specs.Prelude.{◌≡◌, ◌≢◌, ℕ, List, [], ◌∷◌, None, Some, map, string_bytes}
 use Rattle.std.specs.FinMap.{from_entries, get}
 use Rattle.outside_io.specs.declared.held.Held.{Held}

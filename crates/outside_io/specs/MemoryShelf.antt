@@ -1,4 +1,4 @@
--- What is seen of a shelf in memory.
+-- The meaning of a shelf in memory.
 use Rattle.std.specs.Prelude.{ℕ, Bool, List}
 use Rattle.outside_io.specs.declared.memory_shelf.MemoryShelf.{MemoryShelf}
 use Rattle.outside_io.specs.Counts.{names_call, next_count}

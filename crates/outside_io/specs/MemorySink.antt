@@ -1,4 +1,4 @@
--- What is seen of a sink in memory.
+-- The meaning of a sink in memory.
 use Rattle.std.specs.Prelude.{ℕ, ◌-◌, List, Option, length, min, unwrap_or}
 use Rattle.outside_io.specs.declared.memory_sink.MemorySink.{MemorySink}
 use Rattle.outside_io.specs.declared.stop.Stop.{Stop}

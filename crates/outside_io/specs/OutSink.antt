@@ -1,4 +1,4 @@
--- What is seen of a writer as a sink.
+-- The meaning of a writer as a sink.
 use Rattle.std.specs.Prelude.{ℕ}
 use Rattle.outside_io.specs.declared.out_sink.OutSink.{OutSink}
 
@@ -9,3 +9,7 @@ writer_of sink = sink.writer
 -- how many puts failed
 abbrev pub fault_count : {W : Type 0} → OutSink W → ℕ
 fault_count sink = sink.faults
+
+-- the number of puts so far
+abbrev pub put_count : {W : Type 0} → OutSink W → ℕ
+put_count sink = sink.calls

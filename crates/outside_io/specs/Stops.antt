@@ -1,4 +1,4 @@
--- The faults that a sink in memory is told to have.
+-- The faults that a sink in memory is set to have.
 use Rattle.std.specs.Prelude.{ℕ, ◌==◌, List, Option}
 use Rattle.std.specs.List.{find}
 use Rattle.std.specs.Option.{option_map}

@@ -1,10 +1,10 @@
--- Counts, and what was written after a put that failed, as they were worked out by hand.
+-- Worked values of counts, and of what was written after a put that failed.
 use Rattle.std.specs.Prelude.{◌≡◌, ℕ, ◌+◌, ◌-◌, ◌^◌, List, [], ◌∷◌, None, Some}
 use Rattle.outside_io.specs.Counts.{next_count, Rose}
 use Rattle.outside_io.specs.Putting.{AppendsPrefix}
 
--- a count rises by one, up to the maximum of a `u64`; where it is there, it counts as risen; past it, as below it, only
--- a greater one has risen
+-- a count rises by one, up to the maximum of a `u64`; at the maximum it counts as risen; past it, as below it, only a
+-- greater one has risen
 pub record CountsRise : Type 0 where
   pub one_more : next_count 3 ≡ 4
   pub to_the_end : next_count (2 ^ 64 - 2) ≡ 2 ^ 64 - 1
@@ -20,7 +20,7 @@ pub record CountsRise : Type 0 where
   pub fell_past_the_end : ¬ (Rose (2 ^ 64 + 5) (2 ^ 64))
   pub fell_to_the_end : Rose (2 ^ 64 + 5) (2 ^ 64 - 1)
 
--- behind the byte 1 the piece 2, 3 was put, and with a fault these bytes are there
+-- behind the byte 1 the piece 2, 3 was put, and with a fault these bytes remain
 abbrev pub AreLeft : List ℕ → Type 0
 AreLeft bytes = AppendsPrefix (Some (1 ∷ [])) (Some bytes) (2 ∷ 3 ∷ [])
 
@@ -38,5 +38,5 @@ pub record PrefixesAreLeft : Type 0 where
   pub before : ¬ (AreLeft (2 ∷ 1 ∷ []))
   pub over_it : ¬ (AreLeft (2 ∷ 3 ∷ []))
   pub lost : ¬ (AreLeft [])
-  -- what was told stays told
+  -- a sink that disclosed what was written still does
   pub told_no_more : ¬ (AppendsPrefix (Some (1 ∷ [])) None (2 ∷ 3 ∷ []))

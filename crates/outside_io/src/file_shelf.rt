@@ -1,6 +1,6 @@
-//! The system's files and its standard input, as a shelf. What they hold is the system's word.
+//! The system's files and its standard input, as a shelf. Their contents are trusted to the operating system.
 
-ghost use Rattle.std.specs.Prelude.{◌≡◌, ◌≤◌, ◌<◌, ◌+◌, None, IfOk, IsErrOf, length};
+ghost use Rattle.std.specs.Prelude.{◌≡◌, ◌≤◌, ◌<◌, ◌+◌, None, Some, IfOk, IsErrOf, length};
 
 use crate::reading::take_all;
 use crate::shelf::{FetchError, Shelf};
@@ -9,25 +9,28 @@ use std::fs;
 use std::io::Input;
 use std::rt::Files;
 
-/// The files of the system, by their paths; the name `-` is standard input. It doesn't tell what it
-/// holds.
+/// The files of the operating system, by their paths; the name `-` is standard input. This shelf doesn't disclose its
+/// contents.
 #[derive(Debug, Drop)]
 pub struct FileShelf<R> {
     runtime: R,
+    calls: u64,
     faults: u64,
     taken: u64,
 }
 
 impl<R: Files + Input> FileShelf<R> {
-    ghost use Rattle.outside_io.specs.FileShelf.{fault_count, taken_count};
+    ghost use Rattle.outside_io.specs.FileShelf.{fetch_count, fault_count, taken_count};
 
-    /// The shelf of what the runtime reaches; `main` gives it a reference to its own.
+    /// The shelf of the runtime's files; `main` gives it a reference to its own runtime.
     pub fn new(runtime: R) -> FileShelf<R>
+        ensures no_calls { fetch_count result ≡ 0 }
         ensures no_faults { fault_count result ≡ 0 }
         ensures none_taken { taken_count result ≡ 0 }
     {
         FileShelf {
             runtime,
+            calls: 0,
             faults: 0,
             taken: 0,
         }
@@ -35,18 +38,21 @@ impl<R: Files + Input> FileShelf<R> {
 }
 
 impl<R: Files + Input> Shelf for FileShelf<R> {
-    ghost use Rattle.outside_io.specs.Counts.{next_count};
-    ghost use Rattle.outside_io.specs.FileShelf.{fault_count, taken_count};
+    ghost use Rattle.outside_io.specs.Counts.{next_count, one_more};
+    ghost use Rattle.outside_io.specs.FileShelf.{fetch_count, fault_count, taken_count};
 
     ghost held = { λ _. None };
 
     ghost taken = { taken_count };
 
+    ghost fetches = { λ shelf. Some (fetch_count shelf) };
+
     ghost faults = { fault_count };
 
-    /// As the trait says. It takes at most `limit + 1` bytes, and fails where the system refuses to
-    /// open or to read the file.
+    /// As the trait says. It reads at most `limit + 1` bytes, and fails where the system refuses to open or to read the
+    /// file.
     fn fetch(&mut self, alloc: Global, name: &str, limit: u64) -> Result<Vec<u8>, FetchError>
+        ensures counted { Some (fetch_count self.new) ≡ one_more (Some (fetch_count self.old)) }
         ensures keeps_count { fault_count self.old ≤ fault_count self.new }
         ensures within { IfOk result (λ file. length file.items ≤ limit) }
         ensures takes { IfOk result (λ file. taken_count self.new ≡ length file.items) }
@@ -57,6 +63,7 @@ impl<R: Files + Input> Shelf for FileShelf<R> {
             → fault_count self.new ≡ fault_count self.old }
         ensures too_long { IsErrOf result FetchError.TooLong → limit < taken_count self.new }
     {
+        self.calls = self.calls.saturating_add(1);
         let fetched = take_named(&self.runtime, alloc, name, limit, &mut self.taken);
         if let Err(FetchError::Failed) = fetched {
             self.faults = self.faults.saturating_add(1);

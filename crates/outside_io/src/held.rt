@@ -14,12 +14,11 @@ use std::alloc::Global;
 pub struct Held {
     /// The name by which it is fetched.
     pub name: String,
-    /// What it holds.
+    /// Its contents.
     pub bytes: Vec<u8>,
 }
 
-/// What a list of files says, as a map from names to bytes: of several files of one name the first
-/// counts.
+/// A list of files as a map from names to bytes: of several files with one name the first counts.
 pub fn first_file_of_a_name_counts()
     ensures { FirstCounts }
 {}

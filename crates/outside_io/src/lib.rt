@@ -1,11 +1,10 @@
-//! Where bytes come in and go out: shelves, from which files are fetched by name, and sinks, into
-//! which pieces of text are put.
+//! The program's contact with the outside: shelves, from which files are fetched by name, and sinks, into which pieces
+//! of text are put.
 //!
-//! The layer above is written over [`Shelf`] and [`Sink`] and rests on their clauses alone: `Ok` of
-//! a fetch gives the held bytes, `Ok` of a put appends the whole piece, and a failure comes only
-//! where a count of faults rose or the name isn't held. There are three pairs: in memory, with
-//! faults at chosen calls; steady, which never fails; and the files and the standard output of the
-//! system.
+//! Builds on `model`. The crates above are written over the traits [`Shelf`] and [`Sink`] and use their contracts
+//! alone: `Ok` of a fetch gives the held bytes, `Ok` of a put appends the whole piece, and a failure comes only where a
+//! count of faults rose or the name isn't held. There are three pairs of implementations: in memory, with faults at
+//! chosen calls; steady, which never fails; and the files and the standard output of the operating system.
 #![tactic(auto)]
 
 mod command_line;

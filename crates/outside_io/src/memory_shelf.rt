@@ -8,7 +8,7 @@ use crate::held::{Held, copy_of};
 use crate::shelf::{FetchError, Shelf};
 use std::alloc::Global;
 
-/// A shelf in memory. It tells all that it holds, and fails at the calls that it was told to.
+/// A shelf in memory. It discloses all that it holds, and fails at the calls that it was set to fail at.
 #[derive(Debug, Drop)]
 pub struct MemoryShelf {
     files: Vec<Held>,
@@ -49,7 +49,7 @@ impl MemoryShelf {
 }
 
 impl Shelf for MemoryShelf {
-    ghost use Rattle.outside_io.specs.Counts.{next_count};
+    ghost use Rattle.outside_io.specs.Counts.{next_count, one_more};
     ghost use Rattle.outside_io.specs.Fetching.{IsTooLong, MayFail};
     ghost use Rattle.outside_io.specs.Files.{HoldsMore, IsHeld, Lacks};
     ghost use Rattle.outside_io.specs.MemoryShelf.{held_files, failing_calls, fetch_count, fault_count, taken_count};
@@ -58,6 +58,8 @@ impl Shelf for MemoryShelf {
     ghost held = { λ shelf. Some (held_files shelf) };
 
     ghost taken = { taken_count };
+
+    ghost fetches = { λ shelf. Some (fetch_count shelf) };
 
     ghost faults = { fault_count };
 
@@ -69,7 +71,8 @@ impl Shelf for MemoryShelf {
         ensures keeps_failing { failing_calls self.new ≡ failing_calls self.old }
         ensures keeps_count { fault_count self.old ≤ fault_count self.new }
 
-        ensures counted { fetch_count self.new ≡ next_count (fetch_count self.old) }
+        ensures counted { Some (fetch_count self.new) ≡ one_more (Some (fetch_count self.old)) }
+        ensures calls { fetch_count self.new ≡ next_count (fetch_count self.old) }
         ensures faults { fault_count self.new
             ≡ (if fails_next self.old then next_count (fault_count self.old) else fault_count self.old) }
 
@@ -81,7 +84,7 @@ impl Shelf for MemoryShelf {
         ensures takes { IfOk result (λ file. taken_count self.new ≡ length file.items) }
         ensures takes_none { OnErr result (taken_count self.new ≡ 0) }
 
-        // A failing call fails; any other fails exactly where it lacks the name.
+        // A failing call fails; any other fails exactly where the shelf lacks the name.
         ensures failing { IsTrue (fails_next self.old) → IsErrOf result FetchError.Failed }
         ensures lacks { fails_next self.old ≡ false
             → (IsErrOf result FetchError.Failed ↔ Lacks (Some (held_files self.old)) name.now) }

@@ -3,7 +3,7 @@
 ghost use Rattle.std.specs.Prelude.{◌≡◌, ◌≤◌, ◌↔◌, ℕ, List, [], ◌++◌, Option, None, Some, IfOk, IsOk, OnOk, OnErr};
 ghost use Rattle.std.specs.Prelude.{is_ok, if◌then◌else◌, length, take, vec_capacity};
 ghost use Rattle.std.specs.Io.KnownBytes.{Appends};
-ghost use Rattle.outside_io.specs.Counts.{Rose, next_count};
+ghost use Rattle.outside_io.specs.Counts.{Rose, next_count, one_more};
 ghost use Rattle.outside_io.specs.Putting.{AppendsPrefix};
 
 use crate::sink::{PutFailed, Sink};
@@ -11,7 +11,7 @@ use crate::stop::{Stop, first_stop, out_count};
 use model::Memory;
 use std::alloc::Global;
 
-/// A sink in memory. It tells all that was written, and fails at the calls that it was told to.
+/// A sink in memory. It discloses all that was written, and fails at the calls that it was set to fail at.
 #[derive(Debug, Drop)]
 pub struct MemorySink {
     bytes: Vec<u8>,
@@ -26,12 +26,12 @@ pub struct MemorySink {
 impl MemorySink {
     ghost use Rattle.outside_io.specs.MemorySink.{written_bytes, room_of, stops_of, put_count, fault_count};
 
-    /// An empty sink with room for `room` bytes in all, whose memory is taken here. The puts that
-    /// `stops` numbers fail; of several stops of one put the first counts.
+    /// An empty sink with room for `room` bytes in all, whose memory is allocated here. The puts that `stops` numbers
+    /// fail; of several stops of one put the first counts.
     ///
     /// # Errors
     ///
-    /// `Memory` where there is no memory for `room` bytes.
+    /// `Memory` where `room` bytes can't be allocated.
     pub fn new(alloc: Global, room: u64, stops: Vec<Stop>) -> Result<MemorySink, Memory>
         ensures empty { IfOk result (λ sink. written_bytes sink ≡ []) }
         ensures room { IfOk result (λ sink. room_of sink ≡ room) }
@@ -63,17 +63,20 @@ impl Sink for MemorySink {
 
     ghost written = { λ sink. Some (written_bytes sink) };
 
+    ghost puts = { λ sink. Some (put_count sink) };
+
     ghost faults = { fault_count };
 
-    /// As the trait says. The put counts as a call; it works exactly where no stop names the call and
-    /// there is room for the whole piece. Else it raises the count of faults by one, and writes what
-    /// the stop lets out, as far as there is room. It takes no memory.
+    /// As the trait says. The put counts as a call; it succeeds exactly where no stop names the call and there is room
+    /// for the whole piece. Else it raises the count of faults by one, and writes what the stop lets out, as far as
+    /// there is room. It allocates no memory.
     fn put(&mut self, piece: &[u8]) -> Result<(), PutFailed>
         ensures keeps_count { fault_count self.old ≤ fault_count self.new }
         ensures keeps_room { room_of self.new ≡ room_of self.old }
         ensures keeps_stops { stops_of self.new ≡ stops_of self.old }
 
-        ensures counted { put_count self.new ≡ next_count (put_count self.old) }
+        ensures counted { Some (put_count self.new) ≡ one_more (Some (put_count self.old)) }
+        ensures calls { put_count self.new ≡ next_count (put_count self.old) }
         ensures faults { fault_count self.new
             ≡ (if is_ok result then fault_count self.old else next_count (fault_count self.old)) }
         ensures writes { written_bytes self.new

@@ -1,6 +1,7 @@
 //! The shelf: files that are fetched by name.
 
 ghost use Rattle.std.specs.Prelude.{◌≡◌, ℕ, ◌≤◌, List, Option, IfOk, IsErrOf, ◌⊎◌, length};
+ghost use Rattle.outside_io.specs.Counts.{one_more};
 ghost use Rattle.outside_io.specs.Fetching.{IsTooLong, MayFail};
 ghost use Rattle.outside_io.specs.Files.{Files, IsHeld, Lacks};
 ghost use Rattle.outside_io.specs.declared.shelf.FetchError.TheVariants.{Memory};
@@ -26,25 +27,31 @@ impl From<AllocError> for FetchError {
     }
 }
 
-/// Where files are fetched by name.
+/// A store from which files are fetched by name.
 ///
-/// Its meanings are `held`, what it holds, if it tells that; `taken`, how many bytes the last fetch
-/// took; and `faults`, a count of faults, kept in a `u64`, which stays at its maximum.
+/// Its meanings are `held`, its contents, if it discloses them; `taken`, how many bytes the last fetch read; `fetches`,
+/// how many fetches were asked for, if it discloses that; and `faults`, a count of faults. Both counts are kept in a
+/// `u64` and stay at its maximum.
 pub trait Shelf {
     ghost held: { Self → Option Files };
 
     ghost taken: { Self → ℕ };
 
+    ghost fetches: { Self → Option ℕ };
+
     ghost faults: { Self → ℕ };
 
-    /// The bytes of the file of this name, of which there may be at most `limit`.
+    /// The bytes of the file of this name, which may be at most `limit`.
     ///
-    /// Errors: `Failed`, only where `faults` rose in this call or the shelf tells what it holds and
-    /// lacks the name; `TooLong`, only where the file has more bytes than `limit`; `Memory`. What
-    /// the shelf holds stays as it was, after each of them too. The count of faults rises with
-    /// `Failed` alone: with `Ok`, `TooLong` and `Memory` it stays as it was.
+    /// Each call counts as one fetch, whatever its result.
+    ///
+    /// Errors: `Failed`, only where `faults` rose in this call or the shelf discloses its contents and lacks the name;
+    /// `TooLong`, only where the file has more bytes than `limit`; `Memory`. The shelf's contents never change,
+    /// whatever the result. The count of faults rises with `Failed` alone: with `Ok`, `TooLong` and `Memory` it is
+    /// unchanged.
     fn fetch(&mut self, alloc: Global, name: &str, limit: u64) -> Result<Vec<u8>, FetchError>
         ensures keeps_files { held self.new ≡ held self.old }
+        ensures counted { fetches self.new ≡ one_more (fetches self.old) }
         ensures keeps_count { faults self.old ≤ faults self.new }
         ensures counts_failed { ¬ (IsErrOf result FetchError.Failed) → faults self.new ≡ faults self.old }
 
@@ -57,7 +64,7 @@ pub trait Shelf {
         ensures too_long { IsErrOf result FetchError.TooLong
             → IsTooLong (held self.old) name.now limit (taken self.new) }
 
-        // A name that the shelf tells to lack never gets `Ok` or `TooLong`.
+        // A name that the shelf is known to lack never gets `Ok` or `TooLong`.
         ensures lacking { Lacks (held self.old) name.now
             → (IsErrOf result FetchError.Failed ⊎ IsErrOf result FetchError.Memory) };
 }

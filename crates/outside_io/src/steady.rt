@@ -2,46 +2,54 @@
 
 ghost use Rattle.std.specs.Prelude.{◌≡◌, ◌≤◌, ◌↔◌, ◌⊎◌, ℕ, None, Some, IfOk, IsErrOf, IsOk, IsSome, OnOk, OnErr};
 ghost use Rattle.std.specs.Prelude.{length};
-ghost use Rattle.outside_io.specs.Counts.{Rose};
+ghost use Rattle.outside_io.specs.Counts.{Rose, one_more};
 
 use crate::held::{Held, copy_of};
 use crate::shelf::{FetchError, Shelf};
 use crate::sink::{PutFailed, Sink};
 use std::alloc::Global;
 
-/// A shelf in memory without faults. It tells all that it holds, and its count of faults is 0.
+/// A shelf in memory without faults. It discloses all that it holds, and its count of faults is 0.
 #[derive(Debug, Drop)]
 pub struct SteadyShelf {
     files: Vec<Held>,
+    calls: u64,
     taken: u64,
 }
 
-/// A sink that takes and discards every piece. It doesn't tell what was written, and its count of
-/// faults is 0.
+/// A sink that takes and discards every piece. It discloses neither what was written nor how often it was asked to, and
+/// its count of faults is 0.
 #[derive(Clone, Copy, Debug, PartialEq, Eq, Hash)]
 pub struct SteadySink;
 
 impl SteadyShelf {
     ghost use Rattle.outside_io.specs.HeldFiles.{files_of};
-    ghost use Rattle.outside_io.specs.SteadyShelf.{held_files, taken_count};
+    ghost use Rattle.outside_io.specs.SteadyShelf.{held_files, fetch_count, taken_count};
 
     /// A shelf of these files. Of several files of one name the first counts.
     pub fn new(files: Vec<Held>) -> SteadyShelf
         ensures files { held_files result ≡ files_of files.items }
+        ensures no_calls { fetch_count result ≡ 0 }
         ensures none_taken { taken_count result ≡ 0 }
     {
-        SteadyShelf { files, taken: 0 }
+        SteadyShelf {
+            files,
+            calls: 0,
+            taken: 0,
+        }
     }
 }
 
 impl Shelf for SteadyShelf {
     ghost use Rattle.outside_io.specs.Fetching.{IsTooLong, MayFail};
     ghost use Rattle.outside_io.specs.Files.{HoldsMore, IsHeld, Lacks};
-    ghost use Rattle.outside_io.specs.SteadyShelf.{held_files, taken_count};
+    ghost use Rattle.outside_io.specs.SteadyShelf.{held_files, fetch_count, taken_count};
 
     ghost held = { λ shelf. Some (held_files shelf) };
 
     ghost taken = { taken_count };
+
+    ghost fetches = { λ shelf. Some (fetch_count shelf) };
 
     ghost faults = { λ _. 0 };
 
@@ -49,6 +57,7 @@ impl Shelf for SteadyShelf {
     /// the file has more bytes than `limit`.
     fn fetch(&mut self, alloc: Global, name: &str, limit: u64) -> Result<Vec<u8>, FetchError>
         ensures keeps_files { held_files self.new ≡ held_files self.old }
+        ensures counted { Some (fetch_count self.new) ≡ one_more (Some (fetch_count self.old)) }
         ensures ok { IfOk result (λ file. IsHeld (Some (held_files self.old)) name.now file.items) }
         ensures within { IfOk result (λ file. length file.items ≤ limit) }
         ensures takes { IfOk result (λ file. taken_count self.new ≡ length file.items) }
@@ -60,6 +69,7 @@ impl Shelf for SteadyShelf {
         ensures lacking { Lacks (Some (held_files self.old)) name.now
             → (IsErrOf result FetchError.Failed ⊎ IsErrOf result FetchError.Memory) }
     {
+        self.calls = self.calls.saturating_add(1);
         self.taken = 0;
         let file = copy_of(&self.files, alloc, name, limit)?;
         self.taken = file.len() as u64;
@@ -69,6 +79,8 @@ impl Shelf for SteadyShelf {
 
 impl Sink for SteadySink {
     ghost written = { λ _. None };
+
+    ghost puts = { λ _. None };
 
     ghost faults = { λ _. 0 };
 
@@ -80,9 +92,9 @@ impl Sink for SteadySink {
     }
 }
 
-/// The counts of faults of a steady shelf and of a steady sink never rise. So whoever is generic
-/// over a shelf and a sink never hands on `PutFailed` from a steady sink, and hands on `Failed` from a
-/// steady shelf only where the shelf lacks the name.
+/// The counts of faults of a steady shelf and of a steady sink never rise. So code that is generic over a shelf and a
+/// sink never passes on `PutFailed` from a steady sink, and passes on `Failed` from a steady shelf only where the shelf
+/// lacks the name.
 pub fn steady_counts_never_rise()
     ensures shelf { (before after : SteadyShelf)
         → ¬ (Rose (⟦<SteadyShelf as Shelf>⟧.faults before) (⟦<SteadyShelf as Shelf>⟧.faults after)) }

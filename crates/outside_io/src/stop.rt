@@ -1,9 +1,9 @@
-//! Faults that a sink in memory is told to have.
+//! Faults that a sink in memory is set to have.
 
 ghost use Rattle.std.specs.Prelude.{◌≡◌, min, unwrap_or};
 ghost use Rattle.outside_io.specs.Stops.{stop_bytes};
 
-/// That a put is to fail, and how many bytes of its piece go out: at most the whole piece.
+/// A put that has to fail, and how many bytes of its piece go out: at most the whole piece.
 #[derive(Clone, Copy, Debug, PartialEq, Eq, Hash)]
 pub struct Stop {
     /// The number of the put; puts are numbered from 1.

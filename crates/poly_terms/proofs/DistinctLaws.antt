@@ -29,7 +29,7 @@ norm-monomials table (e ∷ es) = ap (λ (n : ℕ). nat_abs e.coef + n) (norm-mo
 pub narrow-norm : (table : List ℕ) (es : List Keyed) → norm_at es ≤ coefficient_limit → has_large (sum_of [] (monomials_at table es)) ≡ false
 narrow-norm table es l = narrow-sum_of (monomials_at table es) (omega (arith, norm-monomials table es, l))
 
--- copies of a variable with greater ones behind them tell how many they are and what is behind
+-- behind copies of a variable come greater ones, so the list determines the number of copies and the rest
 copies-same : (m n v : ℕ) (xs ys : List ℕ) → AreFrom (suc v) xs → AreFrom (suc v) ys
     → replicate m v ++ xs ≡ replicate n v ++ ys → (m ≡ n) × (xs ≡ ys)
 copies-same zero zero v xs ys a b e = (refl, e)
@@ -38,7 +38,7 @@ copies-same (suc m) zero v xs ys a b e = absurd (omega (arith, (subst (AreFrom (
 copies-same (suc m) (suc n) v xs ys a b e =
     let both = copies-same m n v xs ys a b (ap (drop 1) e) in (ap suc both.0, both.1)
 
--- numbers that fit an ascending table are told apart by their variables
+-- in an ascending table, numbers with the same variable are equal
 same-number : (n : ℕ) (table : List ℕ) (j k : ℕ) → ascend_from n table ≡ true → is_within_table table j ≡ true → is_within_table table k ≡ true
     → factors_at table j ≡ factors_at table k → j ≡ k
 same-number n [] j k h a b e = eqb-true j 0 a ∙ sym (eqb-true k 0 b)

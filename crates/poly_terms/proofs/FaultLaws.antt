@@ -53,7 +53,7 @@ first-powers e (suc n) =
 pub first-power : (e : Term) (n : ℕ) → first_fault (Exponentiation e n) ≡ or_else (first_fault e) (faults_of_powers (expanded e) n)
 first-power e n = first-append (subexpressions e) (powers e n) ∙ ap (or_else (first_fault e)) (first-powers e n)
 
--- what is said of the first fault is said of the whole
+-- a fault that holds of the first of two holds of both
 pub says-first : (e : PolyError) (f g : Option Fault) → Says e f → Says e (or_else f g)
 says-first CoefTooLarge f g h = ap (λ (k : Option Fault). or_else k g) h
 says-first TooManyTerms f g h = ap (λ (k : Option Fault). or_else k g) h

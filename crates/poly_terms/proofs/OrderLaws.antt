@@ -161,7 +161,7 @@ ordered-sum_of p ms a f g = record {
   nonzero = nonzero-without_zeros (all_added p ms);
 }
 
--- so are opposites
+-- the same for opposites
 pub ascending-opposite : (p : Polynomial) → IsAscending p → IsAscending (map opposite p)
 ascending-opposite [] h = h
 ascending-opposite (m ∷ p) h = (before-opposite m.vars p h.0, ascending-opposite p h.1)
@@ -177,7 +177,7 @@ nonzero-opposite (m ∷ p) h = ((λ e. h.0 (back m.coef e)), nonzero-opposite p 
     back : (z : ℤ) → neg_ℤ z ≡ pos 0 → z ≡ pos 0
     back z e = omega (arith, ints)
 
--- so are products
+-- the same for products
 ordered-product_of : (p q : Polynomial) → HasFactorsInOrder p → IsOrdered (product_of p q)
 ordered-product_of p q f = ordered-sum_of [] (products p q) tt tt (factors-products p q f)
 

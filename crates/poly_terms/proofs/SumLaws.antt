@@ -81,7 +81,7 @@ bounded-added n k m (t ∷ ts) l h = go (order m.vars t.vars) (bounded-added n k
     go Equal ih = (sum-size t.coef m.coef n k h.0 l, bounded-more n (n + k) ts (omega arith) h.1)
     go Greater ih = (omega (arith, h.0), ih)
 
--- one more multiplied in the list as it stands
+-- one more monomial multiplied, in the order of the list
 pub times-step : (f : ℤ) (p q : Polynomial) (i : ℕ) (d : Monomial) (z : ℤ) → q ≡ times_front f i p → i < length p → z ≡ (get_or p i d).coef *ℤ f
     → set q i (record { coef = z; vars = (get_or q i d).vars }) ≡ times_front f (i + 1) p
 times-step f p q i d z e l g =

@@ -75,7 +75,7 @@ next-power table factor before seen used es k h s u m p =
       product = subst (λ (fs : List Keyed). IsMergedFrom es (all_products fs factor)) u p;
     })
 
--- a list that stands for a power has at most so many times the factor's degree
+-- a list that stands for a power has at most this many times the factor's degree
 pub degree-power-at : (table : List ℕ) (factor : List Keyed) (n : ℕ) (es : List Keyed) → ascend_from 0 table ≡ true
     → n * degree_of (monomials_at table factor) ≤ degree_limit → IsPowerAt table factor n es
     → degree_of (monomials_at table es) ≤ n * degree_of (monomials_at table factor)

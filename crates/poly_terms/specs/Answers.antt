@@ -1,4 +1,4 @@
--- What the answer of an expansion says.
+-- The meaning of the answers of an expansion.
 use Rattle.std.specs.Prelude.{◌≡◌, ⊤, Option, Some, None, Result, MatchResult, true, false}
 use Rattle.model.specs.Polynomials.{Polynomial}
 use Rattle.poly_terms.specs.declared.poly.Poly.{Poly}
@@ -8,7 +8,7 @@ use Rattle.poly_terms.specs.declared.poly_error.PolyError.TheVariants.{Memory}
 use Rattle.poly_terms.specs.Faults.{Fault, LargeCoefficient, ManyTerms, HighDegree, has_large}
 use Rattle.poly_terms.specs.Views.{poly_of}
 
--- the error is the fault; want of memory says nothing
+-- the error is the fault; running out of memory says nothing
 abbrev pub Says : PolyError → Option Fault → Type 0
 Says CoefTooLarge fault = fault ≡ Some LargeCoefficient
 Says TooManyTerms fault = fault ≡ Some ManyTerms
@@ -19,7 +19,7 @@ Says Memory fault = ⊤
 abbrev pub Answers : Result Poly PolyError → Option Fault → Polynomial → Type 0
 Answers result fault p = MatchResult result (λ q. (poly_of q ≡ p) × (fault ≡ None)) (λ e. Says e fault)
 
--- the error is a coefficient over 2^63 - 1 that is there, or want of memory
+-- the error is that of a coefficient over 2^63 - 1 of the polynomial, or memory ran out
 abbrev pub IsLargeOrMemory : PolyError → Polynomial → Type 0
 IsLargeOrMemory CoefTooLarge p = has_large p ≡ true
 IsLargeOrMemory TooManyTerms p = ⊥

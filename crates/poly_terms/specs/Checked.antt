@@ -22,7 +22,7 @@ values_fit (Subtraction d e) env = values_fit d env && (values_fit e env && fits
 values_fit (Multiplication d e) env = values_fit d env && (values_fit e env && fits (value (Multiplication d e) env))
 values_fit (Exponentiation e n) env = values_fit e env && fits (value (Exponentiation e n) env)
 
--- the value of an expression, or none where that of some subexpression is past 128 bits
+-- the value of an expression, or none where that of some subexpression exceeds 128 bits
 abbrev pub value_within : Term → List ℤ → Option ℤ
 value_within t env = if values_fit t env then Some (value t env) else None
 

@@ -1,4 +1,4 @@
--- What makes an expression too large to be expanded, and where.
+-- Why an expression is too large to be expanded, and in which part.
 use Rattle.std.specs.Prelude.{ℕ, zero, suc, Bool, false, ◌||◌, if◌then◌else◌, nat_lt, List, [], ◌∷◌, ◌++◌, length}
 use Rattle.std.specs.Prelude.{Option, Some, None, nat_abs}
 use Rattle.model.specs.Terms.{Term, Literal, Variable, Negation, Addition, Subtraction, Multiplication, Exponentiation}
@@ -65,6 +65,6 @@ abbrev pub first_among : List Term → Option Fault
 first_among [] = None
 first_among (t ∷ ts) = or_else (fault_of t) (first_among ts)
 
--- the fault that stands in the way of expanding an expression: that of the first subexpression that has one
+-- the fault that prevents the expansion of an expression: that of the first subexpression that has one
 abbrev pub first_fault : Term → Option Fault
 first_fault t = first_among (subexpressions t)

@@ -1,4 +1,4 @@
--- Packed monomials that stand for an expression.
+-- Packed monomials that represent an expression.
 use Rattle.std.specs.Prelude.{◌≡◌, ℕ, ◌≤◌, ⊤, Option, None, List, Result, MatchResult, IfSome}
 use Rattle.model.specs.Limits.{degree_limit}
 use Rattle.model.specs.Polynomials.{Polynomial, degree_of}
@@ -60,7 +60,7 @@ pub record IsPackedFrom (table : List ℕ) (p : Polynomial) (f : KeyForm) : Type
   pub factors : degree_of (monomials_at table f.terms.items) ≤ f.degree
   pub degree : f.degree ≡ degree_of p
 
--- the error is the fault; what doesn't fit, and want of memory, say nothing
+-- the error is the fault; what doesn't fit, and running out of memory, say nothing
 abbrev pub IsFaultOf : FormError → Option Fault → Type 0
 IsFaultOf Unfit fault = ⊤
 IsFaultOf (Faulty error) fault = Says error fault

@@ -1,4 +1,5 @@
--- Monomials whose exponents are packed: the digits of a number, which a key has in two limbs; and their products.
+-- Monomials with packed exponents: the exponents are the digits of a number (the key), which is stored in two limbs;
+-- and their products.
 use Rattle.std.specs.Prelude.{◌≡◌, ℕ, zero, suc, ◌≤◌, ◌+◌, ◌*◌, ◌^◌, ◌/◌, ◌%◌, Bool, true, false, nat_lt, if◌then◌else◌}
 use Rattle.std.specs.Prelude.{List, [], ◌∷◌, ◌++◌, map, length, replicate, max, ℤ, pos, ◌+ℤ◌, ◌*ℤ◌, neg_ℤ, nat_abs}
 use Rattle.model.specs.Limits.{monomial_limit}

@@ -1,4 +1,4 @@
--- What expanding keeps.
+-- Expansion keeps values.
 use Rattle.std.specs.Prelude.{◌≡◌, List, ℤ}
 use Rattle.model.specs.Terms.{Term, value}
 use Rattle.model.specs.Polynomials.{Polynomial, polynomial_value}

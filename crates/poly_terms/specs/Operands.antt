@@ -1,4 +1,4 @@
--- What the answer of expanding two operands says.
+-- The meaning of the answers of expanding two operands.
 use Rattle.std.specs.Prelude.{◌≡◌, None, Result, MatchResult}
 use Rattle.model.specs.Terms.{Term}
 use Rattle.poly_terms.specs.declared.expanding.Pair.{Pair}

@@ -1,4 +1,4 @@
--- What the monomials of an expanded form are like.
+-- The form of an expanded polynomial: its monomials are in order, distinct, and not 0.
 use Rattle.std.specs.Prelude.{◌≡◌, ◌≢◌, ℕ, ◌≤◌, List, [], ◌∷◌, length, pos, nat_abs, ⊤}
 use Rattle.std.specs.declared.cmp.Ordering.TheVariants.{Less}
 use Rattle.model.specs.Limits.{coefficient_limit, monomial_limit, degree_limit}

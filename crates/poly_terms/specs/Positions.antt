@@ -1,4 +1,4 @@
--- Where a list of variables has its position in a polynomial.
+-- The position of a list of variables in a polynomial.
 use Rattle.std.specs.Prelude.{ℕ, suc, List, [], ◌∷◌, if◌then◌else◌}
 use Rattle.std.specs.Ordering.{is_lt}
 use Rattle.model.specs.Polynomials.{Polynomial}

@@ -11,7 +11,7 @@ abbrev pub coefficient : List ℕ → Polynomial → ℤ
 coefficient vs [] = pos 0
 coefficient vs (m ∷ ms) = if is_eq (order vs m.vars) then m.coef +ℤ coefficient vs ms else coefficient vs ms
 
--- the coefficients of so many variables, and the constant
+-- the coefficients of this many variables, and the constant
 abbrev pub linear_form : ℕ → Polynomial → Form
 linear_form width p = record {
   coefs = map (λ i. coefficient (i

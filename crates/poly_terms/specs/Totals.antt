@@ -1,4 +1,4 @@
--- Sums over the monomials of a list, and when two lists are one polynomial.
+-- Sums over the monomials of a list, and when two lists are the same polynomial.
 use Rattle.std.specs.Prelude.{◌≡◌, ℕ, ◌+◌, List, [], ◌∷◌, ℤ, pos, ◌+ℤ◌, ◌*ℤ◌, nat_abs}
 use Rattle.model.specs.Polynomials.{Monomial}
 

@@ -1,4 +1,4 @@
--- What expressions, polynomials and rows of the code are as plain data.
+-- Expressions, polynomials and rows of the code as plain data.
 use Rattle.std.specs.Prelude.{List, map}
 use Rattle.model.specs.Terms.{Term, Literal, Variable, Negation, Addition, Subtraction, Multiplication, Exponentiation}
 use Rattle.model.specs.Polynomials as plain

@@ -1,4 +1,4 @@
--- Expanded forms, first faults, rows and values that were worked out by hand.
+-- Worked values of expanded forms, first faults, rows and values.
 use Rattle.std.specs.Prelude.{◌≡◌, ℕ, zero, suc, List, [], ◌∷◌, ℤ, pos, negsuc, Some, None}
 use Rattle.model.specs.Terms.{Term, Literal, Variable, Negation, Addition, Subtraction, Multiplication, Exponentiation}
 use Rattle.model.specs.Polynomials.{Monomial}

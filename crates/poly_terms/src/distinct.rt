@@ -1,4 +1,5 @@
-//! Whether no coefficient of a sum of packed monomials is over 2^63-1: seen from all of them together, or one by one.
+//! Checks that no coefficient of a sum of packed monomials is over 2^63-1: by a bound on all of them together, or one
+//! by one.
 
 ghost use Rattle.std.specs.Prelude.{◌≡◌, ◌<◌, ◌≤◌, [], true, false};
 ghost use Rattle.model.specs.Limits.{coefficient_limit};
@@ -10,8 +11,8 @@ ghost use Rattle.poly_terms.specs.Distinct.{number, is_within_table, HasSmallCoe
 use crate::keyed::{Key, Keyed, NO_FACTORS, is_below, is_same_key, other_digits};
 use model::COEFFICIENT_LIMIT;
 
-/// Whether no coefficient of the sum is over 2^63-1 in absolute value: all of them together aren't, or they stay apart
-/// since the keys ascend and the last one fits the table.
+/// Whether no coefficient of the sum is over 2^63-1 in absolute value: either all of them together aren't, or the
+/// monomials are distinct since the keys ascend and the last one fits the table.
 pub(crate) fn is_narrow(table: &[u32], es: &[Keyed]) -> bool
     requires { ascend_from 0 table.now ≡ true }
     ensures { result ≡ true → has_large (sum_of [] (monomials_at table.now es.now)) ≡ false }

@@ -1,4 +1,4 @@
-//! From an expression to its expanded polynomial.
+//! Expands an expression into a polynomial.
 
 ghost use Rattle.std.specs.Prelude.{pos, IfOk};
 ghost use Rattle.model.specs.Terms.{Literal, Subtraction};

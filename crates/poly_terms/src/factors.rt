@@ -18,7 +18,7 @@ pub(crate) fn joined(alloc: Global, left: &[u32], right: &[u32]) -> Result<Vec<u
     Ok(vars)
 }
 
-// Puts a variable at its position.
+// Inserts a variable at its position.
 fn insert_factor(vars: &mut Vec<u32>, v: u32) -> Result<(), Memory>
     ensures { OnOk result (vars.new.items ≡ inserted v vars.old.items) }
 {

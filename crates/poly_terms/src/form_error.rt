@@ -7,10 +7,10 @@ ghost use Rattle.poly_terms.specs.KeyForms.{IsFaultOf};
 use crate::key_error::KeyError;
 use crate::poly_error::PolyError;
 
-/// Why an expression has no form of packed monomials.
+/// Why an expression has no form in packed monomials.
 #[derive(Clone, Copy)]
 pub(crate) enum FormError {
-    /// Something doesn't fit, as too many variables, so it has to be made the other way.
+    /// Something doesn't fit, such as the number of variables, so it has to be computed by polynomials.
     Unfit,
     /// It has this fault, or memory ran out.
     Faulty(PolyError),

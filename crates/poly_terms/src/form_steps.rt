@@ -1,4 +1,4 @@
-//! Forms of single steps that don't fit packed exponents: made exactly by polynomials, and packed again.
+//! Single steps whose result doesn't fit packed exponents: computed exactly by polynomials, and packed again.
 
 ghost use Rattle.std.specs.Prelude.{IfOk};
 ghost use Rattle.model.specs.Terms.{Term, Literal, Addition, Subtraction, Multiplication, Exponentiation};
@@ -23,14 +23,14 @@ use crate::scale::opposite_of;
 use crate::sum::limited_sum;
 use std::alloc::Global;
 
-/// What stands for a literal, or its fault.
+/// The packed form of a literal, or its fault.
 pub(crate) fn exact_literal(alloc: Global, table: &[u32], z: i128) -> Result<KeyForm, FormError>
     ensures { GivesForm table.now result (Literal z) }
 {
     packed_form(alloc, table, literal(alloc, z))
 }
 
-/// What stands for the sum of two expressions, or its fault.
+/// The packed form of the sum of two expressions, or its fault.
 pub(crate) fn exact_sum(
     alloc: Global,
     table: &[u32],
@@ -47,7 +47,7 @@ pub(crate) fn exact_sum(
     packed_form(alloc, table, limited_sum(alloc, p, q))
 }
 
-/// What stands for their difference, or its fault.
+/// The packed form of their difference, or its fault.
 pub(crate) fn exact_difference(
     alloc: Global,
     table: &[u32],
@@ -64,7 +64,7 @@ pub(crate) fn exact_difference(
     packed_form(alloc, table, limited_sum(alloc, p, opposite_of(q)))
 }
 
-/// What stands for their product, or its fault.
+/// The packed form of their product, or its fault.
 pub(crate) fn exact_product(
     alloc: Global,
     table: &[u32],
@@ -81,7 +81,7 @@ pub(crate) fn exact_product(
     packed_form(alloc, table, limited_product(alloc, p, q))
 }
 
-/// What stands for a power of an expression, or its first fault.
+/// The packed form of a power of an expression, or its first fault.
 pub(crate) fn exact_power(
     alloc: Global,
     table: &[u32],
@@ -96,7 +96,7 @@ pub(crate) fn exact_power(
     packed_form(alloc, table, power(alloc, p, exponent))
 }
 
-// What stands for an expression that has this polynomial, or its fault.
+// The packed form of an expression that has this polynomial, or its fault.
 fn packed_form(
     alloc: Global,
     table: &[u32],

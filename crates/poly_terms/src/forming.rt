@@ -1,5 +1,5 @@
-//! From an expression to its form of packed monomials, or its first fault. A step that doesn't fit packed exponents is
-//! made exactly.
+//! Expands an expression into packed monomials, or gives its first fault. A step that doesn't fit packed exponents is
+//! computed exactly.
 
 ghost use Rattle.std.specs.Prelude.{◌≡◌, ℕ, true, IfOk, List};
 ghost use Rattle.model.specs.Terms.{Term, Literal, Negation, Addition, Subtraction, Multiplication};
@@ -21,14 +21,14 @@ use crate::poly_error::PolyError;
 use crate::table::{add_variable, ascending};
 use std::alloc::Global;
 
-/// The expanded polynomial or the first fault, or `None` where it has to be made the other way.
+/// The expanded polynomial or the first fault, or `None` where it has to be computed by polynomials.
 pub(crate) fn expansion_by_keys(alloc: Global, e: &Expr) -> Result<Option<Poly>, PolyError>
     ensures { MayGiveExpansion result (term_of e.now) }
 {
     unless_unfit(expansion_by_table(alloc, e))
 }
 
-/// The expanded polynomial of a difference or the first fault, or `None` where it has to be made the other way.
+/// The expanded polynomial of a difference or the first fault, or `None` where it has to be computed by polynomials.
 pub(crate) fn difference_by_keys(
     alloc: Global,
     d: &Expr,
@@ -73,7 +73,7 @@ fn difference_by_table(alloc: Global, d: &Expr, e: &Expr) -> Result<Poly, FormEr
     unpacked(alloc, &table, form)
 }
 
-// The polynomial of a form, or the fault that stands in its place.
+// The polynomial of a form, or its fault.
 fn unpacked(
     alloc: Global,
     table: &[u32],
@@ -110,7 +110,7 @@ fn add_variables(table: &mut Vec<u32>, e: &Expr) -> Result<(), KeyError> {
     }
 }
 
-// What stands for an expression, or its first fault.
+// The packed form of an expression, or its first fault.
 #[cycle(forming)]
 fn form_of(alloc: Global, table: &[u32], e: &Expr) -> Result<KeyForm, FormError>
     requires { ascend_from 0 table.now ≡ true }
@@ -139,7 +139,7 @@ fn form_of(alloc: Global, table: &[u32], e: &Expr) -> Result<KeyForm, FormError>
     }
 }
 
-// What stands for a difference, or its first fault.
+// The packed form of a difference, or its first fault.
 #[cycle(forming)]
 fn difference_form(alloc: Global, table: &[u32], d: &Expr, e: &Expr) -> Result<KeyForm, FormError>
     requires { ascend_from 0 table.now ≡ true }
@@ -158,7 +158,7 @@ struct FormPair {
     right: KeyForm,
 }
 
-// What stands for two operands, or the first fault among them.
+// The packed forms of two operands, or the first fault among them.
 #[cycle(forming)]
 fn both_forms(alloc: Global, table: &[u32], d: &Expr, e: &Expr) -> Result<FormPair, FormError>
     requires { ascend_from 0 table.now ≡ true }
@@ -173,7 +173,7 @@ fn both_forms(alloc: Global, table: &[u32], d: &Expr, e: &Expr) -> Result<FormPa
     }
 }
 
-// What stands for a literal, or its fault.
+// The packed form of a literal, or its fault.
 fn literal_or_fault(alloc: Global, table: &[u32], z: i128) -> Result<KeyForm, FormError>
     requires { ascend_from 0 table.now ≡ true }
     ensures { GivesForm table.now result (Literal z) }
@@ -185,14 +185,14 @@ fn literal_or_fault(alloc: Global, table: &[u32], z: i128) -> Result<KeyForm, Fo
     }
 }
 
-// What stands for the negation of an expression.
+// The packed form of the negation of an expression.
 fn negated_form(alloc: Global, form: &KeyForm) -> Result<KeyForm, FormError>
     ensures { (table : List ℕ) (e : Term) → StandsFor table e form.now → GivesForm table result (Negation e) }
 {
     Ok(negation(alloc, form)?)
 }
 
-// What stands for the sum of two expressions, or its fault.
+// The packed form of the sum of two expressions, or its fault.
 fn sum_or_fault(
     alloc: Global,
     table: &[u32],
@@ -212,7 +212,7 @@ fn sum_or_fault(
     }
 }
 
-// What stands for their difference, or its fault.
+// The packed form of their difference, or its fault.
 fn difference_or_fault(
     alloc: Global,
     table: &[u32],
@@ -232,7 +232,7 @@ fn difference_or_fault(
     }
 }
 
-// What stands for their product, or its fault.
+// The packed form of their product, or its fault.
 fn product_or_fault(
     alloc: Global,
     table: &[u32],
@@ -252,7 +252,7 @@ fn product_or_fault(
     }
 }
 
-// What stands for a power of an expression, or its first fault.
+// The packed form of a power of an expression, or its first fault.
 fn power_or_fault(
     alloc: Global,
     table: &[u32],

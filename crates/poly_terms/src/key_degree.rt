@@ -1,4 +1,4 @@
-//! How many factors packed monomials have.
+//! The degree of packed monomials.
 
 ghost use Rattle.std.specs.Prelude.{◌≡◌, ◌≤◌, length};
 ghost use Rattle.model.specs.Limits.{degree_limit};

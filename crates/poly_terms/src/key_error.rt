@@ -1,4 +1,4 @@
-//! Why a polynomial isn't made by packed exponents.
+//! Why a polynomial can't be computed with packed exponents.
 
 ghost use Rattle.std.specs.Prelude.{◌≡◌, IfOk, IfSome, Ok};
 ghost use Rattle.poly_terms.specs.declared.key_error.KeyError.TheVariants.{Memory};
@@ -7,10 +7,11 @@ use crate::Memory;
 use crate::poly::Poly;
 use std::alloc::{AllocError, AllocFailed};
 
-/// Why a polynomial isn't made by packed exponents.
+/// Why a polynomial can't be computed with packed exponents.
 #[derive(Clone, Copy)]
 pub(crate) enum KeyError {
-    /// Variables, factors, coefficients or monomials are too many or too large, so it has to be made the other way.
+    /// Variables, factors, coefficients or monomials are too many or too large, so it has to be computed without
+    /// packing.
     Unfit,
     /// Memory ran out.
     Memory,

@@ -1,5 +1,5 @@
-//! What stands for an expression, by packed exponents: that of a literal and of a variable, and of a negation, a sum, a
-//! difference, a product or a power from what stands for the operands, where all fits.
+//! Representations of expressions by packed exponents: of a literal, a variable, a negation, a sum, a difference, a
+//! product or a power, given those of the operands, where everything fits.
 
 ghost use Rattle.std.specs.Prelude.{◌≡◌, ◌≤◌, ◌+◌, ◌*◌, ℕ, true, IfOk, List, map};
 ghost use Rattle.model.specs.Limits.{degree_limit};
@@ -20,7 +20,7 @@ use crate::poly::{Monomial, Poly};
 use model::DEGREE_LIMIT;
 use std::alloc::Global;
 
-/// What stands for an expression: packed monomials, and a degree that none of them passes.
+/// A packed form of an expression: packed monomials, and an upper bound on their degrees.
 #[derive(Drop)]
 pub(crate) struct KeyForm {
     pub(crate) terms: Vec<Keyed>,
@@ -35,7 +35,7 @@ pub(crate) fn expansion_of(alloc: Global, table: &[u32], form: &KeyForm) -> Resu
     unpacked_sum(alloc, table, &form.terms)
 }
 
-/// What stands for a literal.
+/// The packed form of a literal.
 pub(crate) fn literal(alloc: Global, table: &[u32], z: i128) -> Result<KeyForm, KeyError>
     requires { ascend_from 0 table.now ≡ true }
     ensures { IfOk result (StandsFor table.now (Literal z)) }
@@ -47,7 +47,7 @@ pub(crate) fn literal(alloc: Global, table: &[u32], z: i128) -> Result<KeyForm, 
     within_limits(table, vec![in alloc; e]?, 0)
 }
 
-/// What stands for a variable.
+/// The packed form of a variable.
 pub(crate) fn variable(alloc: Global, table: &[u32], i: u32) -> Result<KeyForm, KeyError>
     requires { ascend_from 0 table.now ≡ true }
     ensures { IfOk result (StandsFor table.now (Variable i)) }
@@ -57,7 +57,7 @@ pub(crate) fn variable(alloc: Global, table: &[u32], i: u32) -> Result<KeyForm, 
     within_limits(table, vec![in alloc; e]?, 1)
 }
 
-/// What stands for the negation of an expression.
+/// The packed form of the negation of an expression.
 pub(crate) fn negation(alloc: Global, form: &KeyForm) -> Result<KeyForm, KeyError>
     ensures { (table : List ℕ) (e : Term) → StandsFor table e form.now → IfOk result (StandsFor table (Negation e)) }
 {
@@ -90,7 +90,7 @@ fn opposite(e: Keyed) -> Result<Keyed, KeyError>
     }
 }
 
-/// What stands for the sum of two expressions.
+/// The packed form of the sum of two expressions.
 pub(crate) fn sum(
     alloc: Global,
     table: &[u32],
@@ -105,7 +105,7 @@ pub(crate) fn sum(
     within_limits(table, terms, left.degree.max(right.degree))
 }
 
-/// What stands for their difference.
+/// The packed form of their difference.
 pub(crate) fn difference(
     alloc: Global,
     table: &[u32],
@@ -120,7 +120,7 @@ pub(crate) fn difference(
     within_limits(table, terms, left.degree.max(right.degree))
 }
 
-/// What stands for their product.
+/// The packed form of their product.
 pub(crate) fn product(
     alloc: Global,
     table: &[u32],
@@ -135,7 +135,7 @@ pub(crate) fn product(
     within_limits(table, terms, degree_of_product(table, left, right))
 }
 
-/// What stands for a power of an expression.
+/// The packed form of a power of an expression.
 pub(crate) fn power(
     alloc: Global,
     table: &[u32],
@@ -153,8 +153,8 @@ pub(crate) fn power(
     within_limits(table, terms, degree)
 }
 
-// The degree of a product: by what is known of the operands, and if that is too high, by their monomials, of which the
-// fewer are looked at first.
+// The degree of a product: the sum of the operands' bounds, or, if that is too high, the one computed from their
+// monomials, beginning with the shorter list.
 fn degree_of_product(table: &[u32], left: &KeyForm, right: &KeyForm) -> u32
     ensures { HasDegree table.now left.now → HasDegree table.now right.now → result ≤ degree_limit
         → degree_of (monomials_at table.now left.now.terms.items) + degree_of (monomials_at table.now right.now.terms.items) ≤ result }

@@ -18,7 +18,7 @@ use crate::table::table_of;
 use model::{DEGREE_LIMIT, MONOMIAL_LIMIT};
 use std::alloc::Global;
 
-/// The power, where no lower one has a fault, or `None` where it has to be made factor by factor.
+/// The power, where no lower one has a fault, or `None` where it has to be computed factor by factor.
 pub(crate) fn power_by_keys(alloc: Global, p: &Poly, exponent: u32) -> Result<Option<Poly>, Memory>
     requires { IsSmall (poly_of p.now) }
     ensures { IfOk result (λ found. IfSome found (λ r. IsPowerWithout (poly_of p.now) exponent (poly_of r))) }

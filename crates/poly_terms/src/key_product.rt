@@ -1,6 +1,6 @@
-//! Products of polynomials by packed exponents. The keys of a row, the products of one monomial with each of a list in
-//! ascending order, ascend as the list does: so rows are merged. Where no list ascends the result is the same, but
-//! longer.
+//! Products of polynomials with packed exponents. The keys of a row, the products of one monomial with each of a list
+//! in ascending order, ascend as the list does, so rows are merged. If a list doesn't ascend, the result is the same
+//! but longer.
 
 ghost use Rattle.std.specs.Prelude.{◌≡◌, ◌≤◌, nat_abs, ◌+ℤ◌, ◌++◌, ◌∷◌, drop, map, IfOk, IfSome, OnOk, []};
 ghost use Rattle.model.specs.Limits.{coefficient_limit};
@@ -23,16 +23,17 @@ use std::mem;
 /// The degree up to which no digit of a key carries.
 const DIGIT_LIMIT: usize = 15;
 
-/// The fewest products for which packing is worth its while.
+/// The least number of products for which packing pays.
 const PRODUCT_MINIMUM: usize = 8;
 
-/// The most monomials to which a further row is merged. Where there are more, nearly always too many differ in the end.
+/// The greatest number of monomials to which a further row is merged. With more, nearly always too many differ in the
+/// end.
 const ROWS_MAXIMUM: usize = 256;
 
 /// The room for merged rows at first: as many monomials as an expanded form may have.
 const ROWS_CAPACITY: usize = MONOMIAL_LIMIT;
 
-/// The product, or `None` where it has to be made monomial by monomial.
+/// The product, or `None` where it has to be computed monomial by monomial.
 pub(crate) fn product_by_keys(alloc: Global, p: &Poly, q: &Poly) -> Result<Option<Poly>, Memory>
     ensures { IfOk result (λ found. IfSome found (λ r. poly_of r ≡ product_of (poly_of p.now) (poly_of q.now))) }
 {
@@ -54,7 +55,7 @@ fn product_by_table(alloc: Global, p: &[Monomial], q: &[Monomial]) -> Result<Pol
     unpacked_sum(alloc, &table, &whole)
 }
 
-/// The products of two lists, merged, where not too many differ on the way. The shorter one gives the rows.
+/// The products of two lists, merged, unless too many differ on the way. The shorter list gives the rows.
 pub(crate) fn product_of_lists(
     alloc: Global,
     left: &[Keyed],
@@ -93,7 +94,7 @@ pub(crate) fn in_order(alloc: Global, es: &[Keyed]) -> Result<Vec<Keyed>, KeyErr
     rows_merged(alloc, es, &[ONE])
 }
 
-/// A row more: the products of a monomial with each of a list.
+/// One more row: the products of a monomial with each of a list.
 pub(crate) fn with_row(
     alloc: Global,
     so_far: &[Keyed],
@@ -128,8 +129,8 @@ fn merge_row(
     copy_rest(merged, so_far, i)
 }
 
-// The product of two packed monomials, where no exponent is too high and no coefficient over 2^63-1. It may pass 64
-// bits itself, since what is put together with it may cancel.
+// The product of two packed monomials, if no exponent is too high and no coefficient over 2^63-1. The product's
+// coefficient may exceed 64 bits, since it may cancel with others.
 fn multiplied(e: Keyed, f: Keyed) -> Result<Keyed, KeyError>
     requires { nat_abs e.coef ≤ coefficient_limit }
     ensures { IfOk result (λ g. g ≡ product_at e f) }
@@ -142,7 +143,7 @@ fn multiplied(e: Keyed, f: Keyed) -> Result<Keyed, KeyError>
     Ok(Keyed { key, coef })
 }
 
-// Puts a product at its place, behind what is less than it from i on; where it goes on. In most rows it is at i already.
+// Inserts a product at its place in order, from i on; returns where to continue. In most rows the place is i.
 fn put_at_place(
     merged: &mut Vec<Keyed>,
     so_far: &[Keyed],
@@ -188,7 +189,8 @@ fn copy_rest(merged: &mut Vec<Keyed>, so_far: &[Keyed], i: usize) -> Result<(), 
     Ok(())
 }
 
-// Puts a product behind what is merged, together with the monomial at i if that has the same key; where it goes on.
+// Appends a product to the merged monomials, added to the monomial at i if that has the same key; returns where to
+// continue.
 fn put(
     merged: &mut Vec<Keyed>,
     so_far: &[Keyed],

@@ -1,5 +1,9 @@
-//! Integer expressions as trees, and their expanded polynomials. Contract to the layer above: a tree `e` stands for the
-//! integer `value (term_of e)` of the plain data that `term_of` reads it as, and so does what `expand` makes of it.
+//! Integer expressions as trees, their expanded polynomials, and the linear rows read off polynomials of degree at most
+//! 1.
+//!
+//! Builds on `model` (the meaning of terms) and `linear_forms` (rows). Main guarantee: a tree `e` has the value `value
+//! (term_of e)`, where `term_of` reads it as plain data, and `expand` gives a polynomial with the same value, or
+//! refuses exactly where a limit is exceeded.
 #![tactic(auto)]
 
 mod checked;

@@ -1,4 +1,4 @@
-//! Expressions made from smaller ones, which are moved to the heap.
+//! Constructors of expressions from smaller ones, which are moved to the heap.
 
 ghost use Rattle.std.specs.Prelude.{◌≡◌, IfOk};
 ghost use Rattle.model.specs.Terms.{Negation, Addition, Subtraction, Multiplication, Exponentiation};

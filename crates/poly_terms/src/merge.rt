@@ -27,7 +27,7 @@ pub(crate) fn merged(alloc: Global, p: Poly, q: Poly) -> Result<Poly, Memory>
     Ok(Poly { terms })
 }
 
-// The first monomial of the sum of what is left, which leaves it.
+// Takes the first monomial of the sum of the remaining ones.
 fn next_term(left: &mut VecDeque<Monomial>, right: &mut VecDeque<Monomial>) -> Option<Monomial>
     requires { CanMerge (monomials_of left.old.items) (monomials_of right.old.items) }
     ensures first { MatchOption result

@@ -1,4 +1,4 @@
-//! Monomials packed, and unpacked again.
+//! Packs and unpacks monomials.
 
 ghost use Rattle.std.specs.Prelude.{◌≡◌, ◌≤◌, ◌^◌, ◌++◌, nat_abs, [], replicate, IfOk, OnOk};
 ghost use Rattle.poly_terms.specs.Expanding.{sum_of};
@@ -71,7 +71,7 @@ fn key_of(table: &[u32], vars: &[u32]) -> Result<Key, KeyError> {
     Ok(key)
 }
 
-// What one factor of a variable adds to a key.
+// The number that one factor of a variable adds to a key.
 fn unit_of(table: &[u32], v: u32) -> Key {
     let mut unit = Key { high: 0, low: 1 };
     for w in table {

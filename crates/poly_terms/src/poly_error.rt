@@ -1,11 +1,11 @@
-//! Why an expression isn't expanded.
+//! Why an expression can't be expanded.
 
 ghost use Rattle.std.specs.Prelude.{◌≡◌};
 ghost use Rattle.poly_terms.specs.declared.poly_error.PolyError.TheVariants.{Memory};
 
 use std::alloc::{AllocError, AllocFailed};
 
-/// Why an expression isn't expanded: the least fault of its first subexpression with a fault, or want of memory.
+/// Why an expression can't be expanded: the least fault of its first subexpression with a fault, or memory ran out.
 #[derive(Clone, Copy, Debug, PartialEq, Eq)]
 pub enum PolyError {
     /// An expanded coefficient is over 2^63-1 in absolute value.

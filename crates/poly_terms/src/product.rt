@@ -1,4 +1,4 @@
-//! Products of polynomials, in near-linear time in the number of products of their monomials.
+//! Products of polynomials, in time near-linear in the number of products of their monomials.
 
 ghost use Rattle.std.specs.Prelude.{◌≡◌, ℕ, ◌+◌, ◌≤◌, ◌^◌, ◌+ℤ◌, nat_abs, length, map, OnOk};
 ghost use Rattle.std.specs.BTreeMap.{is_at};

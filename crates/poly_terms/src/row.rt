@@ -1,4 +1,4 @@
-//! Polynomials of degree at most 1 as rows.
+//! Reads polynomials of degree at most 1 as rows.
 
 ghost use Rattle.std.specs.Prelude.{◌≡◌, ◌≤◌, length, IfOk, IfSome, MatchOption};
 ghost use Rattle.model.specs.Polynomials.{degree_of};
@@ -45,7 +45,7 @@ impl Poly {
     }
 }
 
-// Puts the coefficient of a monomial of degree at most 1 into a row.
+// Writes the coefficient of a monomial of degree at most 1 into a row.
 fn put(row: &mut Row, m: &Monomial)
     requires linear { length m.now.vars.items ≤ 1 }
     requires in_range { AreVariablesBelow (length row.old.coefs.items) m.now.vars.items }

@@ -84,7 +84,7 @@ pub(crate) fn add(terms: &mut Vec<Monomial>, m: Monomial) -> Result<(), Memory>
     Ok(())
 }
 
-// Whether a monomial stands at i, and has these variables.
+// Whether there is a monomial at i, with these variables.
 fn has_variables_at(terms: &[Monomial], i: usize, vars: &Vec<u32>) -> bool
     ensures yes { result ≡ true → i < length terms.now }
     ensures same { result ≡ true → (d : Monomial) → (slice_index_or terms.now i d).vars.items ≡ vars.now.items }

@@ -1,4 +1,4 @@
-//! The variables that packed exponents belong to, one for each digit of a key.
+//! The table of variables for packed exponents: one variable for each digit of a key.
 
 ghost use Rattle.std.specs.Prelude.{◌≡◌, IfOk, true};
 ghost use Rattle.poly_terms.specs.Keys.{ascend_from};
@@ -25,7 +25,8 @@ pub(crate) fn table_of(
     ascending(table)
 }
 
-/// The table, which ascends; where a variable was left out or stands twice this shows here and when one is packed.
+/// The table, which must ascend; a variable that is missing or occurs twice is noticed here and when a monomial is
+/// packed.
 pub(crate) fn ascending(table: Vec<u32>) -> Result<Vec<u32>, KeyError>
     ensures { IfOk result (λ ascending. ascend_from 0 ascending.items ≡ true) }
 {

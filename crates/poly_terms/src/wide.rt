@@ -1,4 +1,4 @@
-//! Sums of products of coefficients, which may pass 128 bits and cancel all the same.
+//! Sums of products of coefficients that may exceed 128 bits before they cancel.
 
 ghost use Rattle.std.specs.Prelude.{◌≡◌, ℕ, ◌+◌, ◌*◌, ◌<◌, ◌≤◌, ◌^◌, pos, ◌+ℤ◌, ◌*ℤ◌, nat_abs, MatchOption};
 ghost use Rattle.model.specs.Limits.{coefficient_limit};

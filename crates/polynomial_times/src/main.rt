@@ -1,4 +1,4 @@
-//! Expands an expression of a shape and a size so often, as its words tell; for measuring.
+//! A benchmark: expands an expression of a shape and a size a number of times, as the words say.
 #![tactic(auto)]
 
 use poly_terms::{Expr, Memory, expand};
@@ -6,7 +6,7 @@ use std::alloc::Global;
 use std::env;
 use std::process::ExitCode;
 
-// The sum of so many variables from one on.
+// The sum of this many variables from one on.
 fn variables(alloc: Global, first: u32, count: u32) -> Result<Expr, Memory> {
     let mut sum = Expr::Var(first);
     for i in 1..count {
@@ -30,7 +30,7 @@ fn chain_of_products(alloc: Global, size: u32) -> Result<Expr, Memory> {
     Ok(e)
 }
 
-// So many first powers of the sum of 64 variables, one in the other.
+// This many first powers of the sum of 64 variables, one in the other.
 fn chain_of_powers(alloc: Global, size: u32) -> Result<Expr, Memory> {
     let mut e = variables(alloc, 0, 64)?;
     for _ in 0..size {
@@ -39,7 +39,7 @@ fn chain_of_powers(alloc: Global, size: u32) -> Result<Expr, Memory> {
     Ok(e)
 }
 
-// The sum of so many ones, with brackets to the right.
+// The sum of this many ones, with brackets to the right.
 fn sum_to_the_right(alloc: Global, size: u32) -> Result<Expr, Memory> {
     let mut sum = Expr::Num(0);
     for _ in 0..size {
@@ -48,7 +48,7 @@ fn sum_to_the_right(alloc: Global, size: u32) -> Result<Expr, Memory> {
     Ok(sum)
 }
 
-// The sum of 64 variables, and so many ones more on its right.
+// The sum of 64 variables, and this many ones more on its right.
 fn ones_behind(alloc: Global, size: u32) -> Result<Expr, Memory> {
     let mut e = variables(alloc, 0, 64)?;
     for _ in 0..size {
@@ -57,7 +57,7 @@ fn ones_behind(alloc: Global, size: u32) -> Result<Expr, Memory> {
     Ok(e)
 }
 
-// The sum of 64 variables, and so many ones more on its left.
+// The sum of 64 variables, and this many ones more on its left.
 fn ones_before(alloc: Global, size: u32) -> Result<Expr, Memory> {
     let mut e = variables(alloc, 0, 64)?;
     for _ in 0..size {
@@ -75,7 +75,7 @@ fn taken_from_one(alloc: Global, size: u32) -> Result<Expr, Memory> {
     Ok(e)
 }
 
-// The sum of 64 variables, and so many sums of two of them more.
+// The sum of 64 variables, and this many sums of two of them more.
 fn pairs_behind(alloc: Global, size: u32) -> Result<Expr, Memory> {
     let mut e = variables(alloc, 0, 64)?;
     for i in 0..size {
@@ -94,12 +94,12 @@ fn products_before(alloc: Global, size: u32) -> Result<Expr, Memory> {
     Ok(e)
 }
 
-// The sum of so many eighth powers of a sum of three.
+// The sum of this many eighth powers of a sum of three.
 fn sum_of_powers(alloc: Global, size: u32) -> Result<Expr, Memory> {
     with_powers(alloc, Expr::Num(0), size)
 }
 
-// An expression and so many eighth powers of a sum of three variables.
+// An expression and this many eighth powers of a sum of three variables.
 fn with_powers(alloc: Global, e: Expr, size: u32) -> Result<Expr, Memory> {
     let mut sum = e;
     for _ in 0..size {
@@ -118,7 +118,7 @@ fn minuses(alloc: Global, size: u32) -> Result<Expr, Memory> {
     Ok(e)
 }
 
-// The sum of so many products of two fourth powers of a sum of three.
+// The sum of this many products of two fourth powers of a sum of three.
 fn sum_of_products(alloc: Global, size: u32) -> Result<Expr, Memory> {
     let mut sum = Expr::Num(0);
     for _ in 0..size {
@@ -129,7 +129,7 @@ fn sum_of_products(alloc: Global, size: u32) -> Result<Expr, Memory> {
     Ok(sum)
 }
 
-// The sum of 40 variables, and so many eighth powers of a sum of two others.
+// The sum of 40 variables, and this many eighth powers of a sum of two others.
 fn powers_behind(alloc: Global, size: u32) -> Result<Expr, Memory> {
     let mut sum = variables(alloc, 0, 40)?;
     for _ in 0..size {
@@ -139,7 +139,7 @@ fn powers_behind(alloc: Global, size: u32) -> Result<Expr, Memory> {
     Ok(sum)
 }
 
-// The product of two products of two sums of so many variables, all different.
+// The product of two products of two sums of this many variables, all different.
 fn product_of_products(alloc: Global, size: u32) -> Result<Expr, Memory> {
     let left = product_of_sums(alloc, size)?;
     let third = variables(alloc, size.saturating_mul(2), size)?;
@@ -147,13 +147,13 @@ fn product_of_products(alloc: Global, size: u32) -> Result<Expr, Memory> {
     Expr::product(alloc, left, Expr::product(alloc, third, fourth)?)
 }
 
-// A sum of 40 variables less itself, and so many eighth powers of a sum of three others.
+// A sum of 40 variables less itself, and this many eighth powers of a sum of three others.
 fn powers_beside_nothing(alloc: Global, size: u32) -> Result<Expr, Memory> {
     let nothing = Expr::difference(alloc, variables(alloc, 3, 40)?, variables(alloc, 3, 40)?)?;
     with_powers(alloc, nothing, size)
 }
 
-// So many eighth powers of a sum of three variables, and a coefficient of 2^63-1.
+// This many eighth powers of a sum of three variables, and a coefficient of 2^63-1.
 fn powers_and_large(alloc: Global, size: u32) -> Result<Expr, Memory> {
     let large = large(alloc)?;
     Expr::sum(alloc, sum_of_powers(alloc, size)?, large)
@@ -170,8 +170,8 @@ fn large(alloc: Global) -> Result<Expr, Memory> {
     Expr::product(alloc, Expr::Num(0x7fff_ffff_ffff_ffff), Expr::Var(3))
 }
 
-// So many eighth powers of a sum of three variables, and a product one of whose operands is an eighth power less itself
-// and a variable: its degree is 2, but 9 at first sight.
+// This many eighth powers of a sum of three variables, and a product one of whose operands is an eighth power less
+// itself and a variable: its degree is 2, but 9 at first sight.
 fn powers_and_low_product(alloc: Global, size: u32) -> Result<Expr, Memory> {
     let left = Expr::power(alloc, Expr::Var(3), 8)?;
     let right = Expr::power(alloc, Expr::Var(3), 8)?;
@@ -181,13 +181,13 @@ fn powers_and_low_product(alloc: Global, size: u32) -> Result<Expr, Memory> {
     Expr::sum(alloc, sum_of_powers(alloc, size)?, product)
 }
 
-// So many eighth powers of a sum of three variables, and a ninth power, which is refused.
+// This many eighth powers of a sum of three variables, and a ninth power, which is refused.
 fn powers_and_ninth(alloc: Global, size: u32) -> Result<Expr, Memory> {
     let ninth = Expr::power(alloc, Expr::Var(3), 9)?;
     Expr::sum(alloc, sum_of_powers(alloc, size)?, ninth)
 }
 
-// An eighth power of a sum with a term that is 0, whose degree is 2 at first sight, and so many eighth powers more.
+// An eighth power of a sum with a term that is 0, whose degree is 2 at first sight, and this many eighth powers more.
 fn power_with_zero_and_powers(alloc: Global, size: u32) -> Result<Expr, Memory> {
     let square = Expr::power(alloc, Expr::Var(3), 2)?;
     let zero = Expr::product(alloc, Expr::Num(0), square)?;
@@ -207,7 +207,7 @@ fn power_with_zero_and_variables(alloc: Global, size: u32) -> Result<Expr, Memor
     Ok(sum)
 }
 
-// An eighth power of a sum of three variables, and so many times 0 times another one more.
+// An eighth power of a sum of three variables, and this many times 0 times another one more.
 fn power_and_zeros(alloc: Global, size: u32) -> Result<Expr, Memory> {
     let mut sum = Expr::power(alloc, variables(alloc, 0, 3)?, 8)?;
     for _ in 0..size {
@@ -228,7 +228,7 @@ fn power_times_ones(alloc: Global, size: u32) -> Result<Expr, Memory> {
     Ok(whole)
 }
 
-// So many products of 17 by 17 monomials, of which 48 differ.
+// This many products of 17 by 17 monomials, of which 48 differ.
 fn sum_of_long_products(alloc: Global, size: u32) -> Result<Expr, Memory> {
     let mut sum = Expr::Num(0);
     for _ in 0..size {
@@ -241,7 +241,7 @@ fn sum_of_long_products(alloc: Global, size: u32) -> Result<Expr, Memory> {
     Ok(sum)
 }
 
-// So many products of fourth powers with coefficients that pass 64 bits on the way, with alternating signs.
+// This many products of fourth powers with coefficients that pass 64 bits on the way, with alternating signs.
 fn sum_of_wide_products(alloc: Global, size: u32) -> Result<Expr, Memory> {
     let mut sum = Expr::Num(0);
     for i in 0..size {

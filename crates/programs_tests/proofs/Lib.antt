@@ -1,1 +1,2 @@
+-- laws of the programs that tests try
 mod TriedPrograms

@@ -1,1 +1,2 @@
+-- the programs that tests try
 pub mod Programs

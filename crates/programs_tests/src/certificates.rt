@@ -70,7 +70,7 @@ fn have_row_numbers(rows: &[Row]) -> bool
     true
 }
 
-// Whether there are so few rows, with such small numbers, that certificates on them can be looked at.
+// Whether there are few enough rows, with small enough numbers, to check certificates on them.
 fn are_small(rows: &[Row]) -> bool
     ensures { IsTrue result → AreSmall (map form_of rows.now) }
 {
@@ -193,8 +193,8 @@ const GOALS: &[(&[(i128, i128)], &[u64], (i128, i128), Option<bool>)] = &[
         &[(LARGEST, -LARGEST)],
         &[LIMIT],
         (
-            LARGEST * 36_028_797_018_963_968,
-            -LARGEST * 36_028_797_018_963_968,
+            LARGEST * 72_057_594_037_927_936,
+            -LARGEST * 72_057_594_037_927_936,
         ),
         Some(true),
     ),

@@ -126,7 +126,7 @@ const FAULTS: &[(&str, Option<PolyError>)] = &[
     ("9223372036854775808 9^", LARGE),
     ("4294967296 A4^*3^", LARGE),
     ("A4^3^", HIGH),
-    // What stands round a subexpression doesn't help it.
+    // The context of a subexpression doesn't help it.
     ("AA-A9^*", HIGH),
     ("0A9^*", HIGH),
     ("A9^A9^-", HIGH),
@@ -171,7 +171,7 @@ fn check_faults(alloc: Global, wrong: &mut String) -> Result<(), Fail> {
     Ok(())
 }
 
-// Sums of so many variables.
+// Sums of this many variables.
 fn check_sums(alloc: Global, wrong: &mut String) -> Result<(), Fail> {
     for (count, fault) in [(1, None), (63, None), (64, None), (65, MANY), (128, MANY)] {
         let right = expand(alloc, &variables(alloc, count)?).err() == fault;
@@ -180,7 +180,7 @@ fn check_sums(alloc: Global, wrong: &mut String) -> Result<(), Fail> {
     Ok(())
 }
 
-// The row of the polynomial of an expression over so many variables, or none where its degree is at least 2.
+// The row of the polynomial of an expression over this many variables, or none where its degree is at least 2.
 #[tactic(auto, using(crate::proofs::TriedPrograms::below_of))]
 fn row_of(alloc: Global, e: &Expr, width: u32) -> Result<Option<Row>, Fail> {
     if !reads_below(width as usize, e) {

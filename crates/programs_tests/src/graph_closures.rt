@@ -77,7 +77,7 @@ fn untimed_part(graph: u64, nodes: usize, own: u32, rest: u32) -> u64
     part
 }
 
-// Which of so many symbols 0 leads to, a 1 or a 0 for each.
+// Which of this many symbols 0 leads to, a 1 or a 0 for each.
 fn slow_reached(alloc: Global, graph: u64, nodes: usize) -> Result<String, Memory>
     requires { nodes ≤ 6 }
 {
@@ -180,7 +180,7 @@ fn are_sets_right(alloc: Global, graph: u64, nodes: usize, rest: u32) -> Result<
     Ok(true)
 }
 
-// Whether a graph of three symbols is said to have a cycle where its closure has one.
+// Whether a graph of three symbols is found to have a cycle where its closure has one.
 fn is_cycle_right(alloc: Global, graph: u64) -> Result<bool, Memory> {
     let p = program(alloc, 3, &edges(alloc, graph, 3)?)?;
     Ok(has_cycle(alloc, &p)? == slow_cycle(graph))

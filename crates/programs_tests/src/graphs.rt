@@ -8,7 +8,7 @@ use its_model::{Program, Rule, Symbol};
 use model::Memory;
 use std::alloc::Global;
 
-// So many symbols without places.
+// This many symbols without places.
 fn symbols(alloc: Global, count: u32) -> Result<Vec<Symbol>, Memory> {
     let mut symbols = Vec::new(alloc);
     for _ in 0..count {
@@ -26,7 +26,7 @@ pub(crate) fn nodes_of(edges: &[(u32, u32)]) -> u32 {
     last.saturating_add(1)
 }
 
-/// A program with so many symbols and a rule for each edge, which starts at symbol 0.
+/// A program with this many symbols and a rule for each edge, which starts at symbol 0.
 pub(crate) fn program(alloc: Global, nodes: u32, edges: &[(u32, u32)]) -> Result<Program, Memory> {
     let mut rules = Vec::new(alloc);
     for (source, target) in edges {
@@ -116,7 +116,7 @@ fn parts(alloc: Global, edges: &[(u32, u32)], untimed: &[bool]) -> Result<String
     Ok(text)
 }
 
-/// Which of so many symbols are reached, a 1 or a 0 for each.
+/// Which of this many symbols are reached, a 1 or a 0 for each.
 pub(crate) fn reached(
     alloc: Global,
     nodes: u32,

@@ -300,34 +300,34 @@ fn check_guards(alloc: Global, wrong: &mut String) -> Result<(), Memory> {
 #[derive(Clone, Copy)]
 struct Case {
     updates: &'static [&'static [i128]],
-    bent: &'static [bool],
+    nonlinear: &'static [bool],
     row: &'static [i128],
-    news: &'static [&'static [i128]],
+    new_values: &'static [&'static [i128]],
     polys: &'static [Written],
 }
 
 const CASES: &[Case] = &[
     Case {
         updates: &[],
-        bent: &[],
+        nonlinear: &[],
         row: &[-1, 1, -1],
-        news: &[],
+        new_values: &[],
         polys: &[],
     },
     // A + 2*C - 3 and 2^63-1
     Case {
         updates: &[&[-3, 1, 2], &[MOST]],
-        bent: &[false, false],
+        nonlinear: &[false, false],
         row: &[-1, 1, -1],
-        news: &[&[-3, 1, 2], &[MOST, 0, 0]],
+        new_values: &[&[-3, 1, 2], &[MOST, 0, 0]],
         polys: &[&[(-3, &[]), (1, &[0]), (2, &[1])], &[(MOST, &[])]],
     },
     // A*A, A + 2*C - 3 and C - A*A
     Case {
         updates: &[&[0, 0, 0, 1], &[-3, 1, 2], &[0, 0, 1, -1]],
-        bent: &[true, false, true],
+        nonlinear: &[true, false, true],
         row: &[-1, 1, -1, 0, 0],
-        news: &[&[0, 0, 0, 1, 0], &[-3, 1, 2, 0, 0], &[0, 0, 0, 0, 1]],
+        new_values: &[&[0, 0, 0, 1, 0], &[-3, 1, 2, 0, 0], &[0, 0, 0, 0, 1]],
         polys: &[
             &[(1, &[0, 0])],
             &[(-3, &[]), (1, &[0]), (2, &[1])],
@@ -337,17 +337,17 @@ const CASES: &[Case] = &[
     // C and A*A
     Case {
         updates: &[&[0, 0, 1], &[0, 0, 0, 1]],
-        bent: &[false, true],
+        nonlinear: &[false, true],
         row: &[-1, 1, -1, 0],
-        news: &[&[0, 0, 1, 0], &[0, 0, 0, 1]],
+        new_values: &[&[0, 0, 1, 0], &[0, 0, 0, 1]],
         polys: &[&[(1, &[1])], &[(1, &[0, 0])]],
     },
     // -A + 0*A*A isn't bent.
     Case {
         updates: &[&[0, -1, 0, 0]],
-        bent: &[false],
+        nonlinear: &[false],
         row: &[-1, 1, -1],
-        news: &[&[0, -1, 0]],
+        new_values: &[&[0, -1, 0]],
         polys: &[&[(-1, &[0])]],
     },
 ];
@@ -355,13 +355,13 @@ const CASES: &[Case] = &[
 // Whether what is prepared of a rule is as a table writes it.
 fn is_case(alloc: Global, found: &RuleRows, case: &Case) -> Result<bool, Memory> {
     let rows = forms(alloc, &[case.row])?;
-    let news = forms(alloc, case.news)?;
+    let new_values = forms(alloc, case.new_values)?;
     let counted = found.left == 1 && found.unknowns as usize == case.row.len().saturating_sub(1);
-    let formed = found.rows == rows && found.news == news;
+    let formed = found.rows == rows && found.new_values == new_values;
     Ok(
         counted
             && formed
-            && found.bent.as_slice() == case.bent
+            && found.nonlinear.as_slice() == case.nonlinear
             && are_as_written(&found.polys, case.polys),
     )
 }

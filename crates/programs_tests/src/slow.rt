@@ -1,4 +1,4 @@
-//! Expansion beside a plain and slow one: the same polynomial, or the same fault, for many trees.
+//! Compares expansion with a plain and slow one: the same polynomial, or the same fault, for many trees.
 
 use crate::expansions::variables;
 use crate::wrong::note_unless;
@@ -178,7 +178,7 @@ fn operand(stack: &mut Vec<Expr>, seed: &mut u32) -> Expr {
     }
 }
 
-// A tree of so many choices, from what looks like chance.
+// A tree of this many choices, from pseudo-random numbers.
 fn any_tree(alloc: Global, seed: &mut u32, choices: u32) -> Result<Expr, Memory> {
     let mut stack = Vec::new(alloc);
     for _ in 0..choices {
@@ -258,7 +258,7 @@ fn check_trees(alloc: Global, wrong: &mut String) -> Result<Tally, Memory> {
     Ok(tally)
 }
 
-// Expands products in which so many variables stand, with monomials that cancel.
+// Expands products with this many variables, and with monomials that cancel.
 fn check_variables(alloc: Global, wrong: &mut String) -> Result<(), Memory> {
     for last in 30..34u32 {
         let e = product_with_difference(alloc, variables(alloc, last.saturating_add(1))?, last)?;
@@ -289,8 +289,7 @@ fn one_and_nothings(alloc: Global, last: u32) -> Result<Expr, Memory> {
     Ok(sum)
 }
 
-/// Notes which trees expand to something else than by a plain expansion, and whether an answer comes too rarely to tell
-/// something.
+/// Notes which trees expand to something else than by a plain expansion, and whether answers are too rare to be a test.
 pub(crate) fn check(alloc: Global, wrong: &mut String) -> Result<(), Memory> {
     check_variables(alloc, wrong)?;
     let tally = check_trees(alloc, wrong)?;

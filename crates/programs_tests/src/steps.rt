@@ -1,4 +1,4 @@
-//! Steps in 128 bits: which are taken, and what keeps the others from being steps.
+//! Steps in 128 bits: which are taken, and why the others are no steps.
 
 use crate::trees::tree;
 use crate::trying::{Body, Outcome, tried_step};
@@ -198,7 +198,7 @@ const CASES: &[Case] = &[
         free: 0,
         wanted: Err(PASSED),
     },
-    // An atom that fails before one with a side that passes 128 bits, and the other way round.
+    // An atom that fails before one with a side that exceeds 128 bits, and the other way round.
     Case {
         guard: &[Is("A", Le, "B"), Is("A1+", Gt, "B")],
         updates: &["A"],

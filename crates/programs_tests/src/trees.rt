@@ -1,4 +1,4 @@
-//! Expressions and rules for tests, written shortly, and whether they may be handed to a call.
+//! Expressions and rules for tests, in a short notation, and whether they are valid arguments of a call.
 
 ghost use Rattle.std.specs.Prelude.{◌≡◌, map, option_map, true, None, IfOk, IfSome};
 ghost use Rattle.std.specs.List.{AllByRecursion};

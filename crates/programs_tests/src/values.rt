@@ -14,7 +14,7 @@ const LEAST: i128 = -MOST - 1;
 /// 2^126.
 const HALF: i128 = 0x4000_0000_0000_0000_0000_0000_0000_0000;
 
-// The value, or none where it passes 128 bits. An expression that reads a variable without a value is a fault of the
+// The value, or none where it exceeds 128 bits. An expression that reads a variable without a value is a fault of the
 // test.
 fn value(e: &Expr, env: &[i128]) -> Result<Option<i128>, Fail> {
     if reads_below(env.len(), e) {

@@ -1,4 +1,4 @@
-//! The tests of this crate: no row of a table comes to something else than it says.
+//! The tests of this crate: no row of a table differs from its expected result.
 
 use crate::{
     certificates, components, costs, expansions, graph_closures, graphs, rows, slow, steps, values,
@@ -22,8 +22,7 @@ pub(crate) fn note_unless(
     wrong.push_str(words.as_str())
 }
 
-// What is wrong with programs, their steps, costs and expressions, as the names of tables and the numbers of their
-// rows.
+// The faults of programs, their steps, costs and expressions, as the names of tables and the numbers of their rows.
 fn wrong_programs(alloc: Global) -> Result<String, Fail> {
     let mut wrong = String::new(alloc);
     values::check(alloc, &mut wrong)?;

@@ -17,27 +17,27 @@ use Rattle.simplex_core.specs.linear_forms.RuleQuestions.{RankedSet, constant_fo
 use Rattle.simplex_core.specs.linear_forms.RuleQuestions.{rank_question}
 use Rattle.simplex_core.proofs.linear_forms.ListLaws.{length-listed, after-is, All-front, All-behind}
 use Rattle.simplex_core.proofs.linear_forms.SolutionLaws.{All-listed}
-use Rattle.proof_tree.specs.rule_forms.Ranking.{Function}
-use Rattle.proof_tree.specs.rule_forms.RankLaws.{AreImplied, lost_by}
-use Rattle.proof_tree.proofs.rule_forms.RankFits.{function-fits}
-use Rattle.proof_tree.proofs.rule_forms.RankSolutions.{rank-shown}
+use Rattle.cert_types.specs.rule_forms.Ranking.{Function}
+use Rattle.cert_types.specs.rule_forms.RankLaws.{AreImplied, lost_by}
+use Rattle.cert_types.proofs.rule_forms.RankFits.{function-fits}
+use Rattle.cert_types.proofs.rule_forms.RankSolutions.{rank-shown}
 use Rattle.poly_terms.specs.model.Programs.{Program, Rule, rule_at, arity_of}
 use Rattle.poly_terms.specs.model.Paths.{source_in, target_in, source_of, target_of}
 use Rattle.its_model.specs.Valid.{IsValid}
 use Rattle.guard_prep.proofs.StepLaws.{valid-at}
-use Rattle.proof_tree.specs.proof_nodes.AcceptsPlain.{IsRule, AreMultipliers}
-use Rattle.proof_tree.specs.proof_nodes.AcceptsRank.{HasFormShape, HasRankShape, Loses, HasFloor, moves_of, AcceptsRank}
+use Rattle.cert_types.specs.cert_rules.AcceptsPlain.{IsRule, AreMultipliers}
+use Rattle.cert_types.specs.cert_rules.AcceptsRank.{HasFormShape, HasRankShape, Loses, HasFloor, moves_of, AcceptsRank}
 use Rattle.simplex_core.specs.linear_forms.Combinations.{less}
 use Rattle.simplex_core.specs.linear_forms.Losses.{loss}
-use Rattle.proof_tree.specs.proof_nodes.Composed.{rank_form}
-use Rattle.proof_tree.specs.proof_nodes.Gaps.{SymbolPlace}
-use Rattle.proof_tree.specs.proof_nodes.Graph.{symbols_of}
-use Rattle.proof_tree.specs.proof_nodes.Known.{Table}
-use Rattle.proof_tree.specs.proof_nodes.Limits.{IsInLimit, AreInLimit}
-use Rattle.proof_tree.specs.proof_nodes.Nodes.{SymbolForm, RankNode}
+use Rattle.cert_types.specs.cert_rules.Composed.{rank_form}
+use Rattle.cert_types.specs.cert_rules.Gaps.{SymbolPlace}
+use Rattle.cert_types.specs.cert_rules.Graph.{symbols_of}
+use Rattle.cert_types.specs.cert_rules.Known.{Table}
+use Rattle.cert_types.specs.cert_rules.Limits.{IsInLimit, AreInLimit}
+use Rattle.cert_types.specs.cert_rules.Nodes.{SymbolForm, RankNode}
 use Rattle.poly_terms.specs.model.Entries.{is_in}
-use Rattle.proof_tree.specs.proof_nodes.Numbers.{IsAscending}
-use Rattle.proof_tree.specs.proof_setting.Setting.{rows_in, news_in, setting_of}
+use Rattle.cert_types.specs.cert_rules.Numbers.{IsAscending}
+use Rattle.cert_types.specs.cert_program.Setting.{rows_in, new_values_in, setting_of}
 use Rattle.rule_questions.specs.ProgramQuestions.{forms_in, ranked_set}
 use Rattle.rank_search.specs.RankAnswers.{IsRuleSet, IsRankNode, part_at}
 use Rattle.rank_search.specs.RankLaws.{function_of_node, HoldsFacts, HasCertificates, RankedNodesAreAccepted}
@@ -54,16 +54,16 @@ same-rows (Some r) = refl
 accepted-loss : (f : Function) (forms : List SymbolForm) (o : Option Rule) (r : Rule) (m : List ℕ) (k : ℤ) → o ≡ Some r
     → rank_form forms (Some r.source) ≡ f r.source → rank_form forms (Some r.target) ≡ f r.target
     → Implies (forms_in o).rows m (lost_by f (forms_in o) k)
-    → Implies (rows_in o) m (loss (rank_form forms (source_in o)) (rank_form forms (target_in o)) (news_in o) k)
+    → Implies (rows_in o) m (loss (rank_form forms (source_in o)) (rank_form forms (target_in o)) (new_values_in o) k)
 accepted-loss f forms None r m k e s t h = absurd (nothing e)
   where
     nothing : None ≡ Some r → ⊥
     nothing e = cc
 accepted-loss f forms (Some q) r m k e s t h =
     let same : r ≡ q = cc in
-    subst (λ (g : Form). Implies (rows_in (Some q)) m (loss g (rank_form forms (Some q.target)) (news_in (Some q)) k))
+    subst (λ (g : Form). Implies (rows_in (Some q)) m (loss g (rank_form forms (Some q.target)) (new_values_in (Some q)) k))
     (sym (subst (λ (x : Rule). rank_form forms (Some x.source) ≡ f x.source) same s))
-    (subst (λ (g : Form). Implies (rows_in (Some q)) m (loss (f q.source) g (news_in (Some q)) k))
+    (subst (λ (g : Form). Implies (rows_in (Some q)) m (loss (f q.source) g (new_values_in (Some q)) k))
     (sym (subst (λ (x : Rule). rank_form forms (Some x.target) ≡ f x.target) same t)) h)
 
 accepted-floor : (f : Function) (forms : List SymbolForm) (o : Option Rule) (r : Rule) (m : List ℕ) (d : ℤ) → o ≡ Some r
@@ -108,7 +108,7 @@ module _ (p : Program) (set : List ℕ) (strict : ℕ) (shut : List SymbolPlace)
       go (inr l) = subst (λ (z : ℤ). pos 0 ≤ℤ z) (sym (get_or_past n.numbers j (pos 0) l))
           (let k : pos 0 ≤ℤ pos 0 = omega (arith, ints) in k)
 
-  -- so are the parameters within it
+  -- the same for the parameters within it
   parameter-small : (k : ℕ) → nat_abs (parameters_of column k) ≤ certificate_limit
   parameter-small k =
       apart (column (double k)) (column (suc (double k))) certificate_limit (column-nonneg (double k))
@@ -225,13 +225,13 @@ module _ (p : Program) (set : List ℕ) (strict : ℕ) (shut : List SymbolPlace)
       let k = moved t h in
       let i = rule-at t k in
       subst (λ (xs : List ℕ). Implies (rows_in (rule_at p t)) (moves_of xs node.moves t)
-      (loss (rank_form node.forms (source_of p t)) (rank_form node.forms (target_of p t)) (news_in (rule_at p t))
+      (loss (rank_form node.forms (source_of p t)) (rank_form node.forms (target_of p t)) (new_values_in (rule_at p t))
       (cond (t == node.rule) (pos node.den) (pos 0)))) (sym n.same_set)
       (subst (λ (u : ℕ). Implies (rows_in (rule_at p t)) (moves_of set node.moves t)
-      (loss (rank_form node.forms (source_of p t)) (rank_form node.forms (target_of p t)) (news_in (rule_at p t))
+      (loss (rank_form node.forms (source_of p t)) (rank_form node.forms (target_of p t)) (new_values_in (rule_at p t))
       (cond (t == u) (pos node.den) (pos 0)))) (sym n.numbered)
       (subst (λ (o : Option ℕ). Implies (rows_in (rule_at p t)) (moves_of set node.moves t)
-      (loss (rank_form node.forms (source_of p t)) (rank_form node.forms o) (news_in (rule_at p t))
+      (loss (rank_form node.forms (source_of p t)) (rank_form node.forms o) (new_values_in (rule_at p t))
       (cond (t == strict) (pos node.den) (pos 0)))) (led t i)
       (accepted-loss f node.forms (rule_at p t) i.rule (moves_of set node.moves t)
       (cond (t == strict) (pos node.den) (pos 0)) i.numbered
@@ -282,7 +282,7 @@ module _ (p : Program) (set : List ℕ) (strict : ℕ) (shut : List SymbolPlace)
   pub node-shown : HasCertificates (setting_of p) node
   node-shown = record { shape = shaped; moves = loses; floor = floor-holds }
 
--- found nodes are shown, are accepted with the facts that they need, and look at no shut place
+-- found nodes are certified, are accepted with their premises, and have coefficient 0 at every shut place
 pub nodes-accepted : RankedNodesAreAccepted
 nodes-accepted = record {
   shown = λ p set strict shut pivots node valid rules n. node-shown p set strict shut pivots node valid rules n;

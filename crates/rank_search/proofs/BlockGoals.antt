@@ -1,4 +1,4 @@
--- The goals of a rule, whose coefficients stand in two blocks: those before, between and behind them have none.
+-- The goals of a rule, whose coefficients are in two blocks of positions; those outside the blocks are 0.
 use Rattle.std.proofs.Common.{◌≡◌, ◌≢◌, ◌⊎◌, inl, inr, ℕ, zero, suc, ◌+◌, ◌-◌, ◌<◌, ◌≤◌, ◌||◌, max, nat_eq, arith, refl}
 use Rattle.std.proofs.Common.{sym, ap, subst, ◌∙◌, Bool, true, false, List, [], length, map, get_or}
 use Rattle.std.proofs.lemmas.Bool.{true≢false, eqb-true}
@@ -64,7 +64,7 @@ module _ (part : Part) (r : RuleForms) (cs : List Coefficient) where
       subst (λ (n : ℕ). AreGoalsUpTo part r cs n gs) e
       (several-skipped (j - i) i gs (omega (arith, e, m)) (λ k d a b. none k d a (omega (arith, b, e))) h)
 
-  -- where all that have one stand in two blocks
+  -- where all coefficients of a goal are in two blocks
   module _ (b c : Block) (h : HoldGoals r.source r.target cs b c) where
     -- a coefficient outside both has none
     outside : (k : ℕ) (d : Coefficient) → k < length cs → ¬ IsInside b k → ¬ IsInside c k
@@ -119,7 +119,7 @@ module _ (part : Part) (r : RuleForms) (cs : List Coefficient) where
 
 -- the blocks of the source and of the target
 module _ (blocks : List Block) (cs : List Coefficient) (h : AreBlocks (length cs) blocks cs) (source target : ℕ) where
-  -- a coefficient of either stands in one of them
+  -- a coefficient at the source or the target is in one of the blocks
   either : (i : ℕ) (d : Coefficient) → i < length cs → concerned source target (get_or cs i d) ≡ true
       → IsInside (block_at blocks source) i ⊎ IsInside (block_at blocks target) i
   either i d l e = go (nat_eq (get_or cs i d).symbol source) refl (nat_eq (get_or cs i d).symbol target) refl

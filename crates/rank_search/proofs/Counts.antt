@@ -15,9 +15,9 @@ use Rattle.simplex_core.proofs.linear_forms.SolutionLaws.{length-map}
 use Rattle.poly_terms.specs.model.Limits.{rule_limit}
 use Rattle.poly_terms.specs.model.Programs.{Program, Rule}
 use Rattle.its_model.specs.Valid.{IsValid}
-use Rattle.proof_tree.specs.proof_nodes.AcceptsPlain.{IsRule}
-use Rattle.proof_tree.specs.proof_nodes.Gaps.{SymbolPlace}
-use Rattle.proof_tree.specs.proof_nodes.Numbers.{IsAscending}
+use Rattle.cert_types.specs.cert_rules.AcceptsPlain.{IsRule}
+use Rattle.cert_types.specs.cert_rules.Gaps.{SymbolPlace}
+use Rattle.cert_types.specs.cert_rules.Numbers.{IsAscending}
 use Rattle.rank_search.specs.declared.coefficients.Coefficient.{Coefficient as Sought}
 use Rattle.rank_search.specs.Coefficients.{coefficient_of, AreCoefficients}
 use Rattle.rule_questions.specs.ProgramQuestions.{ranked_set}

@@ -19,21 +19,21 @@ use Rattle.simplex_core.proofs.linear_forms.ElementLaws.{dual-refutes}
 use Rattle.simplex_core.proofs.linear_forms.ListLaws.{after-is, length-listed, listed-is}
 use Rattle.simplex_core.proofs.linear_forms.SolutionLaws.{All-listed}
 use Rattle.simplex_core.specs.Trips.{IsScaledDual}
-use Rattle.proof_tree.proofs.rule_forms.RankSolutions.{rank-shaped}
+use Rattle.cert_types.proofs.rule_forms.RankSolutions.{rank-shaped}
 use Rattle.poly_terms.specs.model.Programs.{Program, Rule, rule_at}
 use Rattle.poly_terms.specs.model.Entries.{is_in}
 use Rattle.its_model.specs.Valid.{IsValid}
-use Rattle.proof_tree.specs.proof_nodes.AcceptsPlain.{IsRule}
-use Rattle.proof_tree.specs.proof_nodes.GapChecks.{IsGapPoint, HasGapShape, IsPointOf, GapHolds, point_of}
-use Rattle.proof_tree.specs.proof_nodes.Gaps.{ScaledPoint, SymbolPlace, Gap}
-use Rattle.proof_tree.specs.proof_nodes.Numbers.{IsAscending}
-use Rattle.proof_tree.proofs.proof_nodes.GapExclusion.{element_of, groups_with, elements_with}
-use Rattle.proof_tree.proofs.proof_nodes.GapPoints.{AreEach, each-long, each-of}
-use Rattle.proof_tree.proofs.proof_nodes.RefutedGaps.{refuted-holds}
-use Rattle.proof_tree.specs.declared.answer.EmptyAnswer.{EmptyAnswer}
-use Rattle.proof_tree.specs.declared.answer.EmptyAnswer.TheVariants as answers
-use Rattle.proof_tree.specs.AnswerViews.{scaled_of, gap_of}
-use Rattle.proof_tree.specs.guard_prep.Prepared.{prepared}
+use Rattle.cert_types.specs.cert_rules.AcceptsPlain.{IsRule}
+use Rattle.cert_types.specs.cert_rules.GapChecks.{IsGapPoint, HasGapShape, IsPointOf, GapHolds, point_of}
+use Rattle.cert_types.specs.cert_rules.Gaps.{ScaledPoint, SymbolPlace, Gap}
+use Rattle.cert_types.specs.cert_rules.Numbers.{IsAscending}
+use Rattle.cert_types.proofs.cert_rules.GapExclusion.{element_of, groups_with, elements_with}
+use Rattle.cert_types.proofs.cert_rules.GapPoints.{AreEach, each-long, each-of}
+use Rattle.cert_types.proofs.cert_rules.RefutedGaps.{refuted-holds}
+use Rattle.cert_types.specs.declared.answer.GuardFeasibility.{GuardFeasibility}
+use Rattle.cert_types.specs.declared.answer.GuardFeasibility.TheVariants as answers
+use Rattle.cert_types.specs.AnswerViews.{scaled_of, gap_of}
+use Rattle.cert_types.specs.guard_prep.Prepared.{prepared}
 use Rattle.rule_questions.specs.EmptyAnswers.{IsNearPoint}
 use Rattle.rule_questions.specs.ProgramQuestions.{forms_in, forms_at, ranked_set}
 use Rattle.rule_questions.specs.RuleAnswers.{AreEmptyAnswers, answer_for, point_in}
@@ -149,7 +149,7 @@ module _ (b : RankedSet) (cs : List Coefficient) (floor : ScaledPoint) where
       tails = cc
 
 module _ (p : Program) (set : List ℕ) (strict : ℕ) (shut : List SymbolPlace) (pivots : ℕ)
-    (empties : List EmptyAnswer) (valid : IsValid p) (rules : IsRuleSet p set strict)
+    (empties : List GuardFeasibility) (valid : IsValid p) (rules : IsRuleSet p set strict)
     (known : AreEmptyAnswers p pivots empties) where
   abbrev b : RankedSet
   b = ranked_set p set strict shut
@@ -161,7 +161,7 @@ module _ (p : Program) (set : List ℕ) (strict : ℕ) (shut : List SymbolPlace)
   abbrev IsKept : ℕ → ScaledPoint → Type 0
   IsKept t z = IsGapPoint (forms_at p t) z × IsPointOf (forms_at p t).rows z
 
-  kept-one : (t : ℕ) (z : ScaledPoint) → IsRule p t → (o : Option EmptyAnswer) → answer_for empties t ≡ o
+  kept-one : (t : ℕ) (z : ScaledPoint) → IsRule p t → (o : Option GuardFeasibility) → answer_for empties t ≡ o
       → Some z ≡ point_in o → IsKept t z
   kept-one t z i None e f = absurd (let no : ⊥ = cc in no)
   kept-one t z i (Some (answers.Empty n)) e f = absurd (let no : ⊥ = cc in no)
@@ -176,7 +176,7 @@ module _ (p : Program) (set : List ℕ) (strict : ℕ) (shut : List SymbolPlace)
 
       same : z ≡ scaled_of w
       same = cc
-  kept-one t z i (Some (answers.Tripped w)) e f = absurd (let no : ⊥ = cc in no)
+  kept-one t z i (Some (answers.OutOfLimits w)) e f = absurd (let no : ⊥ = cc in no)
 
   kept-each : (ts : List ℕ) (kept : List ScaledPoint) → All (IsRule p) ts
       → map (λ z. Some z) kept ≡ map (λ t. point_in (answer_for empties t)) ts → AreEach IsKept ts kept
@@ -195,7 +195,7 @@ module _ (p : Program) (set : List ℕ) (strict : ℕ) (shut : List SymbolPlace)
       others = cc
 
   module _ (g : Gap) (r : IsReadOff b shut pivots empties g) where
-    -- the gap with what was handed in
+    -- the gap with the given set, strict rule and shut places
     abbrev own : Gap
     own = record { rule = strict; set = set; shut = shut; moves = g.moves; floor = g.floor; kept = g.kept }
 

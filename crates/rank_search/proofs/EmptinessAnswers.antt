@@ -19,15 +19,15 @@ use Rattle.guard_prep.specs.Views.{prepared_of}
 use Rattle.simplex_core.specs.declared.problem.Problem.{Problem}
 use Rattle.simplex_core.specs.declared.scaling.Numerators.{Numerators}
 use Rattle.simplex_core.specs.declared.answers.Answer.{Answer}
-use Rattle.simplex_core.specs.declared.answers.Answer.TheVariants.{Solution, Dual, Tripped}
-use Rattle.simplex_core.specs.linear_forms.declared.trip_cause.TripCause.{TripCause}
+use Rattle.simplex_core.specs.declared.answers.Answer.TheVariants.{Solution, Dual, OutOfLimits}
+use Rattle.simplex_core.specs.linear_forms.declared.limit_cause.LimitCause.{LimitCause}
 use Rattle.simplex_core.specs.Problem.{program_of}
 use Rattle.simplex_core.specs.Trips.{Trips, IsWholeAnswer}
 use Rattle.simplex_core.proofs.Agreement.{whole-answers-agree}
-use Rattle.proof_tree.specs.declared.proof.EmptyNode.{EmptyNode}
-use Rattle.proof_tree.specs.declared.answer.Trip.{Trip}
-use Rattle.proof_tree.specs.declared.answer.Question.TheVariants as asked
-use Rattle.proof_tree.specs.declared.answer.EmptyAnswer.TheVariants as answers
+use Rattle.cert_types.specs.declared.proof.EmptyNode.{EmptyNode}
+use Rattle.cert_types.specs.declared.answer.LimitHit.{LimitHit}
+use Rattle.cert_types.specs.declared.answer.Question.TheVariants as asked
+use Rattle.cert_types.specs.declared.answer.GuardFeasibility.TheVariants as answers
 use Rattle.rule_questions.specs.EmptyAnswers.{IsPrepared, IsEmptyAnswer, empty_program}
 use Rattle.rule_questions.specs.ProgramQuestions.{forms_of}
 use Rattle.rule_questions.specs.Programs.{IsProblemOf}
@@ -132,8 +132,8 @@ module _ (m : RuleRows) (is : IsPrepared m) (pivots : ℕ) (problem : Problem)
       whole (negsuc n) l = absurd (omega (arith, ints, l))
 
   -- a trip
-  pub trip-answer : (c : TripCause) (rule : ℕ) (t : Trip) → IsWholeAnswer (program_of problem) pivots (Tripped c)
+  pub limit_hit-answer : (c : LimitCause) (rule : ℕ) (t : LimitHit) → IsWholeAnswer (program_of problem) pivots (OutOfLimits c)
       → t.question ≡ asked.Empty rule → cause_of t.cause ≡ cause_of c
-      → IsEmptyAnswer (prepared_of m) rule pivots (answers.Tripped t)
-  trip-answer c rule t h e f =
-      (e, subst (λ (k : Cause). Trips (empty_program (prepared_of m)) pivots k) (sym f) (moved (Tripped c) h))
+      → IsEmptyAnswer (prepared_of m) rule pivots (answers.OutOfLimits t)
+  limit_hit-answer c rule t h e f =
+      (e, subst (λ (k : Cause). Trips (empty_program (prepared_of m)) pivots k) (sym f) (moved (OutOfLimits c) h))

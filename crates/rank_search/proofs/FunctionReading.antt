@@ -12,11 +12,11 @@ use Rattle.simplex_core.specs.linear_forms.Questions.{listed}
 use Rattle.simplex_core.specs.linear_forms.RuleQuestions.{RankedSet, Coefficient, coefficients, has_symbol}
 use Rattle.simplex_core.specs.linear_forms.RuleQuestions.{symbols_of_set}
 use Rattle.simplex_core.proofs.linear_forms.SolutionLaws.{length-map}
-use Rattle.proof_tree.specs.rule_forms.RankLaws.{coefficient, function_of}
-use Rattle.proof_tree.proofs.rule_forms.Losses.{share, share-other, share-own}
+use Rattle.cert_types.specs.rule_forms.RankLaws.{coefficient, function_of}
+use Rattle.cert_types.proofs.rule_forms.Losses.{share, share-other, share-own}
 use Rattle.poly_terms.specs.model.Programs.{Program, arity_of}
-use Rattle.proof_tree.specs.proof_nodes.Gaps.{SymbolPlace, is_shut}
-use Rattle.proof_tree.specs.proof_nodes.Nodes.{SymbolForm}
+use Rattle.cert_types.specs.cert_rules.Gaps.{SymbolPlace, is_shut}
+use Rattle.cert_types.specs.cert_rules.Nodes.{SymbolForm}
 use Rattle.rule_questions.specs.ProgramQuestions.{ranked_set}
 use Rattle.rank_search.specs.RankAnswers.{part_at}
 use Rattle.rank_search.specs.Reading.{open_count, read_coefs, read_form, read_forms}
@@ -252,7 +252,7 @@ module _ (shut : ℕ → Bool) (v : ℕ → ℤ) where
   left-places : (before n : ℕ) → before < n → n - before ≡ suc (n - (before + 1))
   left-places before n l = omega (arith, l)
 
-  -- a place that isn't shut takes the next parameter, and those that are left still make the form
+  -- a place that isn't shut takes the next parameter, and the remaining places complete the form
   pub place-read : (k before n : ℕ) (old new all : List ℤ) (x : ℤ) → before < n → old ++ read_coefs shut v k
       (before + 1) (n - before) ≡ all
       → new ≡ old ++ x ∷ [] → shut (before + 1) ≡ false → x ≡ v k
@@ -266,7 +266,7 @@ module _ (shut : ℕ → Bool) (v : ℕ → ℤ) where
       (if c then pos 0 ∷ read_coefs shut v k (before + 1 + 1) (n - (before + 1)) else v k ∷ read_coefs shut v
       (k + 1) (before + 1 + 1) (n - (before + 1)))) opened) ∙ kept)))
 
-  -- a shut place takes 0 and no parameter, and those that are left still make the form
+  -- a shut place takes 0 and no parameter, and the remaining places complete the form
   pub place-left : (k before n : ℕ) (old new all : List ℤ) (x : ℤ) → before < n → old ++ read_coefs shut v k
       (before + 1) (n - before) ≡ all
       → new ≡ old ++ x ∷ [] → shut (before + 1) ≡ true → x ≡ pos 0

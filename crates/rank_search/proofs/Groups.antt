@@ -17,9 +17,9 @@ use Rattle.poly_terms.specs.model.Programs.{Program, Rule}
 use Rattle.guard_prep.specs.declared.rule_rows.RuleRows.{RuleRows}
 use Rattle.guard_prep.specs.Prepared.{Prepared, prepared}
 use Rattle.guard_prep.specs.Views.{prepared_of}
-use Rattle.proof_tree.specs.proof_nodes.AcceptsPlain.{IsRule}
-use Rattle.proof_tree.specs.proof_nodes.Gaps.{SymbolPlace, ScaledPoint}
-use Rattle.proof_tree.specs.Composing.{AreRowsOf}
+use Rattle.cert_types.specs.cert_rules.AcceptsPlain.{IsRule}
+use Rattle.cert_types.specs.cert_rules.Gaps.{SymbolPlace, ScaledPoint}
+use Rattle.cert_types.specs.Composing.{AreRowsOf}
 use Rattle.rule_questions.specs.ProgramQuestions.{forms_in, ranked_set}
 use Rattle.rank_search.specs.RankAnswers.{points_of, IsRuleSet}
 use Rattle.rank_search.specs.Reading.{shape_of, shape_at, shapes}
@@ -69,50 +69,50 @@ parts-many x g z e =
     first (y ∷ ys) = length y.parts
 
 -- the groups that are left, and one of them
-module _ (x : ℕ → ℤ) (preps : List RuleRows) (set : List ℕ) where
+module _ (x : ℕ → ℤ) (prepared_rules : List RuleRows) (set : List ℕ) where
   -- with the multipliers of the next group pushed, those of the groups that are left still make all
   pub multipliers-more : (i t next then : ℕ) (old new all : List (List ℕ)) (ms : List ℕ) → i < length set → t
       ≡ get_or set i t
-      → old ++ multipliers_by_group (after next x) (map (shape_at preps) (drop i set)) ≡ all
-      → ms ∷ [] ≡ multipliers_by_group (after next x) (shape_at preps t ∷ []) → new ≡ old ++ ms ∷ []
-      → then ≡ next + suc (length (shape_at preps t).rows)
-      → new ++ multipliers_by_group (after then x) (map (shape_at preps) (drop (i + 1) set)) ≡ all
+      → old ++ multipliers_by_group (after next x) (map (shape_at prepared_rules) (drop i set)) ≡ all
+      → ms ∷ [] ≡ multipliers_by_group (after next x) (shape_at prepared_rules t ∷ []) → new ≡ old ++ ms ∷ []
+      → then ≡ next + suc (length (shape_at prepared_rules t).rows)
+      → new ++ multipliers_by_group (after then x) (map (shape_at prepared_rules) (drop (i + 1) set)) ≡ all
   multipliers-more i t next then old new all ms l is kept one e f =
-      ap (λ (ns : List (List ℕ)). ns ++ multipliers_by_group (after then x) (map (shape_at preps) (drop (i + 1) set))) e
-      ∙ (append_assoc old (ms ∷ []) (multipliers_by_group (after then x) (map (shape_at preps) (drop (i + 1) set)))
+      ap (λ (ns : List (List ℕ)). ns ++ multipliers_by_group (after then x) (map (shape_at prepared_rules) (drop (i + 1) set))) e
+      ∙ (append_assoc old (ms ∷ []) (multipliers_by_group (after then x) (map (shape_at prepared_rules) (drop (i + 1) set)))
       ∙ (ap (λ (ns : List (List ℕ)). old ++
-      (ns ++ multipliers_by_group (after then x) (map (shape_at preps) (drop (i + 1) set)))) one
-      ∙ (ap (λ (y : ℕ → ℤ). old ++ multipliers_of (after next x) (shape_at preps t).rows ∷ multipliers_by_group y
-      (map (shape_at preps) (drop (i + 1) set)))
-      (sym (after-more next (suc (length (shape_at preps t).rows)) then x f))
-      ∙ (sym (ap (λ (ts : List ℕ). old ++ multipliers_by_group (after next x) (map (shape_at preps) ts))
+      (ns ++ multipliers_by_group (after then x) (map (shape_at prepared_rules) (drop (i + 1) set)))) one
+      ∙ (ap (λ (y : ℕ → ℤ). old ++ multipliers_of (after next x) (shape_at prepared_rules t).rows ∷ multipliers_by_group y
+      (map (shape_at prepared_rules) (drop (i + 1) set)))
+      (sym (after-more next (suc (length (shape_at prepared_rules t).rows)) then x f))
+      ∙ (sym (ap (λ (ts : List ℕ). old ++ multipliers_by_group (after next x) (map (shape_at prepared_rules) ts))
       (drop_more set i t l ∙ ap (λ (u : ℕ). u ∷ drop (i + 1) set) (sym is))) ∙ kept))))
 
   -- behind the columns of the next group, those of the groups that are left still make all
   pub columns-more : (i t next then all : ℕ) → i < length set → t ≡ get_or set i t
-      → next + group_columns (map (shape_at preps) (drop i set)) ≡ all
-      → then ≡ next + suc (length (shape_at preps t).rows)
-      → then + group_columns (map (shape_at preps) (drop (i + 1) set)) ≡ all
+      → next + group_columns (map (shape_at prepared_rules) (drop i set)) ≡ all
+      → then ≡ next + suc (length (shape_at prepared_rules t).rows)
+      → then + group_columns (map (shape_at prepared_rules) (drop (i + 1) set)) ≡ all
   columns-more i t next then all l is kept f =
-      let e = ap (λ (ts : List ℕ). group_columns (map (shape_at preps) ts))
+      let e = ap (λ (ts : List ℕ). group_columns (map (shape_at prepared_rules) ts))
       (drop_more set i t l ∙ ap (λ (u : ℕ). u ∷ drop (i + 1) set) (sym is)) in
       omega (arith, kept, f, e)
 
   -- the columns of the next group end within all
   pub columns-room : (i t next all : ℕ) → i < length set → t ≡ get_or set i t
-      → next + group_columns (map (shape_at preps) (drop i set)) ≡ all → next + group_columns (shape_at preps t ∷ [])
+      → next + group_columns (map (shape_at prepared_rules) (drop i set)) ≡ all → next + group_columns (shape_at prepared_rules t ∷ [])
       ≤ all
   columns-room i t next all l is kept =
-      let e = ap (λ (ts : List ℕ). group_columns (map (shape_at preps) ts))
+      let e = ap (λ (ts : List ℕ). group_columns (map (shape_at prepared_rules) ts))
       (drop_more set i t l ∙ ap (λ (u : ℕ). u ∷ drop (i + 1) set) (sym is)) in
       omega (arith, kept, e)
 
   -- where no group is left, the multipliers so far are all
   pub multipliers-end : (i next : ℕ) (old all : List (List ℕ)) → length set ≤ i
-      → old ++ multipliers_by_group (after next x) (map (shape_at preps) (drop i set)) ≡ all → old ≡ all
+      → old ++ multipliers_by_group (after next x) (map (shape_at prepared_rules) (drop i set)) ≡ all → old ≡ all
   multipliers-end i next old all l kept =
       sym (nothing old) ∙ (sym
-      (ap (λ (ts : List ℕ). old ++ multipliers_by_group (after next x) (map (shape_at preps) ts))
+      (ap (λ (ts : List ℕ). old ++ multipliers_by_group (after next x) (map (shape_at prepared_rules) ts))
       (drop_all i set l)) ∙ kept)
     where
       nothing : (xs : List (List ℕ)) → xs ++ [] ≡ xs
@@ -120,65 +120,65 @@ module _ (x : ℕ → ℤ) (preps : List RuleRows) (set : List ℕ) where
       nothing (y ∷ ys) = ap (λ (zs : List (List ℕ)). y ∷ zs) (nothing ys)
 
   -- where no group is left, the columns so far are all
-  pub columns-end : (i next all : ℕ) → length set ≤ i → next + group_columns (map (shape_at preps) (drop i set)) ≡ all
+  pub columns-end : (i next all : ℕ) → length set ≤ i → next + group_columns (map (shape_at prepared_rules) (drop i set)) ≡ all
       → next ≡ all
   columns-end i next all l kept =
-      let e = ap (λ (ts : List ℕ). group_columns (map (shape_at preps) ts)) (drop_all i set l) in omega (arith, kept, e)
+      let e = ap (λ (ts : List ℕ). group_columns (map (shape_at prepared_rules) ts)) (drop_all i set l) in omega (arith, kept, e)
 
   -- the same of points
   pub points-more : (i t next then : ℕ) (old new all : List ScaledPoint) (z : ScaledPoint) → i < length set → t
       ≡ get_or set i t
-      → old ++ points_of (after next x) (map (shape_at preps) (drop i set)) ≡ all
-      → z ∷ [] ≡ points_of (after next x) (shape_at preps t ∷ []) → new ≡ old ++ z ∷ []
-      → then ≡ next + suc (shape_at preps t).unknowns
-      → new ++ points_of (after then x) (map (shape_at preps) (drop (i + 1) set)) ≡ all
+      → old ++ points_of (after next x) (map (shape_at prepared_rules) (drop i set)) ≡ all
+      → z ∷ [] ≡ points_of (after next x) (shape_at prepared_rules t ∷ []) → new ≡ old ++ z ∷ []
+      → then ≡ next + suc (shape_at prepared_rules t).unknowns
+      → new ++ points_of (after then x) (map (shape_at prepared_rules) (drop (i + 1) set)) ≡ all
   points-more i t next then old new all z l is kept one e f =
-      ap (λ (ns : List ScaledPoint). ns ++ points_of (after then x) (map (shape_at preps) (drop (i + 1) set))) e
-      ∙ (append_assoc old (z ∷ []) (points_of (after then x) (map (shape_at preps) (drop (i + 1) set)))
+      ap (λ (ns : List ScaledPoint). ns ++ points_of (after then x) (map (shape_at prepared_rules) (drop (i + 1) set))) e
+      ∙ (append_assoc old (z ∷ []) (points_of (after then x) (map (shape_at prepared_rules) (drop (i + 1) set)))
       ∙ (ap (λ (ns : List ScaledPoint). old ++
-      (ns ++ points_of (after then x) (map (shape_at preps) (drop (i + 1) set)))) one
+      (ns ++ points_of (after then x) (map (shape_at prepared_rules) (drop (i + 1) set)))) one
       ∙ (ap (λ (y : ℕ → ℤ). old ++
-      (points_of (after next x) (shape_at preps t ∷ []) ++ points_of y (map (shape_at preps) (drop (i + 1) set))))
-      (sym (after-more next (suc (shape_at preps t).unknowns) then x f))
-      ∙ (sym (ap (λ (ts : List ℕ). old ++ points_of (after next x) (map (shape_at preps) ts))
+      (points_of (after next x) (shape_at prepared_rules t ∷ []) ++ points_of y (map (shape_at prepared_rules) (drop (i + 1) set))))
+      (sym (after-more next (suc (shape_at prepared_rules t).unknowns) then x f))
+      ∙ (sym (ap (λ (ts : List ℕ). old ++ points_of (after next x) (map (shape_at prepared_rules) ts))
       (drop_more set i t l ∙ ap (λ (u : ℕ). u ∷ drop (i + 1) set) (sym is))) ∙ kept))))
 
   -- behind the lines of the next group, those of the groups that are left still make all
   pub lines-more : (i t next then all : ℕ) → i < length set → t ≡ get_or set i t
-      → next + group_lines (map (shape_at preps) (drop i set)) ≡ all
-      → then ≡ next + suc (shape_at preps t).unknowns
-      → then + group_lines (map (shape_at preps) (drop (i + 1) set)) ≡ all
+      → next + group_lines (map (shape_at prepared_rules) (drop i set)) ≡ all
+      → then ≡ next + suc (shape_at prepared_rules t).unknowns
+      → then + group_lines (map (shape_at prepared_rules) (drop (i + 1) set)) ≡ all
   lines-more i t next then all l is kept f =
-      let e = ap (λ (ts : List ℕ). group_lines (map (shape_at preps) ts))
+      let e = ap (λ (ts : List ℕ). group_lines (map (shape_at prepared_rules) ts))
       (drop_more set i t l ∙ ap (λ (u : ℕ). u ∷ drop (i + 1) set) (sym is)) in
       omega (arith, kept, f, e)
 
   -- the lines of the next group end within all
   pub lines-room : (i t next all : ℕ) → i < length set → t ≡ get_or set i t
-      → next + group_lines (map (shape_at preps) (drop i set)) ≡ all → next + group_lines (shape_at preps t ∷ []) ≤ all
+      → next + group_lines (map (shape_at prepared_rules) (drop i set)) ≡ all → next + group_lines (shape_at prepared_rules t ∷ []) ≤ all
   lines-room i t next all l is kept =
-      let e = ap (λ (ts : List ℕ). group_lines (map (shape_at preps) ts))
+      let e = ap (λ (ts : List ℕ). group_lines (map (shape_at prepared_rules) ts))
       (drop_more set i t l ∙ ap (λ (u : ℕ). u ∷ drop (i + 1) set) (sym is)) in
       omega (arith, kept, e)
 
   -- where no group is left, the points so far are all
   pub points-end : (i next : ℕ) (old all : List ScaledPoint) → length set ≤ i
-      → old ++ points_of (after next x) (map (shape_at preps) (drop i set)) ≡ all → old ≡ all
+      → old ++ points_of (after next x) (map (shape_at prepared_rules) (drop i set)) ≡ all → old ≡ all
   points-end i next old all l kept =
       sym (nothing old) ∙ (sym
-      (ap (λ (ts : List ℕ). old ++ points_of (after next x) (map (shape_at preps) ts)) (drop_all i set l)) ∙ kept)
+      (ap (λ (ts : List ℕ). old ++ points_of (after next x) (map (shape_at prepared_rules) ts)) (drop_all i set l)) ∙ kept)
     where
       nothing : (xs : List ScaledPoint) → xs ++ [] ≡ xs
       nothing [] = refl
       nothing (y ∷ ys) = ap (λ (zs : List ScaledPoint). y ∷ zs) (nothing ys)
 
   -- where no group is left, the lines so far are all
-  pub lines-end : (i next all : ℕ) → length set ≤ i → next + group_lines (map (shape_at preps) (drop i set)) ≡ all
+  pub lines-end : (i next all : ℕ) → length set ≤ i → next + group_lines (map (shape_at prepared_rules) (drop i set)) ≡ all
       → next ≡ all
   lines-end i next all l kept =
-      let e = ap (λ (ts : List ℕ). group_lines (map (shape_at preps) ts)) (drop_all i set l) in omega (arith, kept, e)
+      let e = ap (λ (ts : List ℕ). group_lines (map (shape_at prepared_rules) ts)) (drop_all i set l) in omega (arith, kept, e)
 
--- two lists of groups, one behind the other
+-- two lists of groups, one after the other
 pub multipliers-append : (x : ℕ → ℤ) (gs hs : List Group)
     → multipliers_by_group x (gs ++ hs) ≡ multipliers_by_group x gs ++ multipliers_by_group
     (after (group_columns gs) x) hs
@@ -259,21 +259,21 @@ alike-lines (g ∷ gs) (h ∷ hs) a =
     ap (λ (n : ℕ). suc n + group_lines gs) a.0.unknowns ∙ ap (λ (n : ℕ). suc h.unknowns + n) (alike-lines gs hs a.1)
 
 -- the shapes of the rules are those of the question's groups
-module _ (p : Program) (preps : List RuleRows) (rows : AreRowsOf preps p) (set : List ℕ) (strict : ℕ)
+module _ (p : Program) (prepared_rules : List RuleRows) (rows : AreRowsOf prepared_rules p) (set : List ℕ) (strict : ℕ)
     (shut : List SymbolPlace) where
   abbrev b : RankedSet
   b = ranked_set p set strict shut
 
   shape-alike : (t : ℕ) (fixed : Form) (goals : List Form) → IsRule p t
-      → AreAlike (shape_at preps t)
+      → AreAlike (shape_at prepared_rules t)
       (record { unknowns = (b.rule t).unknowns; rows = (b.rule t).rows; goals = goals; fixed = fixed })
   shape-alike zero fixed goals i = absurd (none i.numbered)
     where
       none : {r : Rule} → None ≡ Some r → ⊥
       none f = cc
   shape-alike (suc t) fixed goals i =
-      go (slice_get preps t) (slice_get p.rules t)
-      (sym (slice_get-map prepared_of preps t) ∙
+      go (slice_get prepared_rules t) (slice_get p.rules t)
+      (sym (slice_get-map prepared_of prepared_rules t) ∙
       (ap (λ (qs : List Prepared). slice_get qs t) rows ∙ slice_get-map prepared p.rules t))
       i.rule i.numbered
     where
@@ -294,12 +294,12 @@ module _ (p : Program) (preps : List RuleRows) (rows : AreRowsOf preps p) (set :
           record { unknowns = ap (λ (x : Prepared). x.unknowns) same; rows = ap (λ (x : Prepared). x.rows) same }
 
   -- the shapes of a set and of its strict rule have the unknowns and rows of the question's groups
-  pub shapes-alike : IsRuleSet p set strict → IsRule p strict → AllAlike (shapes preps set strict)
+  pub shapes-alike : IsRuleSet p set strict → IsRule p strict → AllAlike (shapes prepared_rules set strict)
       (rank_question b).groups
   shapes-alike rules i = go set rules.rules
     where
       go : (ts : List ℕ) → All (IsRule p) ts
-          → AllAlike (map (shape_at preps) ts ++ shape_at preps strict ∷ [])
+          → AllAlike (map (shape_at prepared_rules) ts ++ shape_at prepared_rules strict ∷ [])
           (map (move_group b (coefficients b (symbols_of_set b))) ts ++ floor_group b
           (coefficients b (symbols_of_set b)) ∷ [])
       go [] h = (shape-alike strict _ _ i, tt)

@@ -10,10 +10,10 @@ use Rattle.poly_terms.specs.model.Programs as plain
 use Rattle.poly_terms.specs.model.Paths.{source_of, target_of, same_symbol}
 use Rattle.its_model.specs.declared.program.Program.{Program}
 use Rattle.its_model.specs.Views.{program_of, symbol_of}
-use Rattle.proof_tree.specs.proof_nodes.Graph.{touches, symbols_of}
+use Rattle.cert_types.specs.cert_rules.Graph.{touches, symbols_of}
 use Rattle.rule_questions.proofs.Filters.{filter-pushed, filter-passed}
 use Rattle.rank_search.specs.Marks.{mark, AreMarks}
-use Rattle.proof_tree.proofs.Numbers.{numbers-more}
+use Rattle.cert_types.proofs.Numbers.{numbers-more}
 
 -- what a mark says of the test
 pub mark-some : (b : Bool) (n m : ℕ) → Some m ≡ mark b n → (b ≡ true) × (m ≡ n)

@@ -3,9 +3,9 @@ use Rattle.std.proofs.Common.{arith, ap, ◌∙◌, List, Some}
 use Rattle.simplex_core.specs.linear_forms.Forms.{at}
 use Rattle.simplex_core.specs.linear_forms.QuestionLaws.{parameters_of}
 use Rattle.simplex_core.specs.linear_forms.RuleQuestions.{has_symbol}
-use Rattle.proof_tree.proofs.rule_forms.RankFits.{function-fits}
-use Rattle.proof_tree.specs.proof_nodes.Composed.{rank_form}
-use Rattle.proof_tree.specs.proof_nodes.Nodes.{SymbolForm}
+use Rattle.cert_types.proofs.rule_forms.RankFits.{function-fits}
+use Rattle.cert_types.specs.cert_rules.Composed.{rank_form}
+use Rattle.cert_types.specs.cert_rules.Nodes.{SymbolForm}
 use Rattle.rank_search.specs.RankLaws.{function_of_node, RankedNodesRank}
 use Rattle.rank_search.proofs.ShownParts.{part-of}
 use Rattle.rank_search.proofs.RankExact.{node-ranks, node-least}

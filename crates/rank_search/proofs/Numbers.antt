@@ -1,4 +1,4 @@
--- A coefficient of a function has at most one parameter: so it is within the limit where all parameters are.
+-- A coefficient of a function is at most one parameter, so it is within the limit where all parameters are.
 use Rattle.std.proofs.Common.{◌≡◌, ℕ, zero, suc, ◌+◌, ◌<◌, ◌≤◌, ◌≢◌, ap, arith, refl, sym, ◌∙◌, subst, Bool, true}
 use Rattle.std.proofs.Common.{false, not, cond, ◌⊎◌, inl, inr, List, [], ◌∷◌, ◌++◌, length, map, filter, nat_eq}
 use Rattle.std.proofs.Common.{if◌then◌else◌, ◌&&◌}
@@ -8,8 +8,8 @@ use Rattle.std.proofs.lemmas.Int.{ints}
 use Rattle.std.proofs.lemmas.Bool.{ne_eqb}
 use Rattle.std.proofs.lemmas.Bool.Decides.{eqb_tells}
 use Rattle.simplex_core.specs.linear_forms.RuleQuestions.{RankedSet, Coefficient, open_places, coefficients}
-use Rattle.proof_tree.specs.rule_forms.RankLaws.{coefficient}
-use Rattle.proof_tree.proofs.rule_forms.Losses.{share, share-elsewhere, share-other}
+use Rattle.cert_types.specs.rule_forms.RankLaws.{coefficient}
+use Rattle.cert_types.proofs.rule_forms.Losses.{share, share-elsewhere, share-other}
 
 -- the coefficients of the places of a symbol
 abbrev pub block : ℕ → List ℕ → List Coefficient
@@ -54,7 +54,7 @@ block-elsewhere t (j ∷ places) v s i d =
     both : (a b : ℤ) → a ≡ pos 0 → b ≡ pos 0 → a +ℤ b ≡ pos 0
     both a b e f = omega (arith, ints, e, f)
 
--- nor has it one at a place before its own, but for that of the constant
+-- nor has it one at a place before its own, except for that of the constant
 pub block-before : (t : ℕ) (test : ℕ → Bool) (a n : ℕ) (v : ℕ → ℤ) (i : ℕ) → 1 ≤ i → i < a
     → coefficient (block t (filter test (range_with_len a n) ++ 0 ∷ [])) v t i ≡ pos 0
 block-before t test a zero v i l m =

@@ -5,7 +5,7 @@ use Rattle.std.specs.List.{range_with_len}
 use Rattle.std.proofs.lemmas.List.{map-append, drop_more, drop_all}
 use Rattle.simplex_core.specs.linear_forms.RuleQuestions.{Coefficient, coefficients}
 use Rattle.poly_terms.specs.model.Programs.{Program, arity_of}
-use Rattle.proof_tree.specs.proof_nodes.Gaps.{SymbolPlace, is_shut}
+use Rattle.cert_types.specs.cert_rules.Gaps.{SymbolPlace, is_shut}
 use Rattle.rank_search.specs.declared.coefficients.Coefficient.{Coefficient as Sought}
 use Rattle.rank_search.specs.Coefficients.{coefficient_of, open_block, open_set}
 use Rattle.rule_questions.specs.ProgramQuestions.{ranked_set}

@@ -18,23 +18,23 @@ use Rattle.guard_prep.specs.declared.rule_rows.RuleRows.{RuleRows}
 use Rattle.simplex_core.specs.declared.problem.Problem.{Problem}
 use Rattle.simplex_core.specs.declared.scaling.Numerators.{Numerators}
 use Rattle.simplex_core.specs.declared.answers.Answer.{Answer}
-use Rattle.simplex_core.specs.declared.answers.Answer.TheVariants.{Solution, Dual, Tripped}
-use Rattle.simplex_core.specs.linear_forms.declared.trip_cause.TripCause.{TripCause}
+use Rattle.simplex_core.specs.declared.answers.Answer.TheVariants.{Solution, Dual, OutOfLimits}
+use Rattle.simplex_core.specs.linear_forms.declared.limit_cause.LimitCause.{LimitCause}
 use Rattle.simplex_core.specs.Problem.{program_of}
 use Rattle.simplex_core.specs.Trips.{Trips, IsWholeAnswer, IsScaledSolution}
 use Rattle.simplex_core.proofs.Agreement.{whole-answers-agree}
 use Rattle.simplex_core.proofs.Certificates.{dual-excludes}
-use Rattle.proof_tree.specs.proof_nodes.AcceptsPlain.{IsRule}
-use Rattle.proof_tree.specs.proof_nodes.Gaps.{SymbolPlace}
-use Rattle.proof_tree.specs.proof_nodes.Graph.{symbols_of}
-use Rattle.proof_tree.specs.declared.answer.EmptyAnswer.{EmptyAnswer}
-use Rattle.proof_tree.specs.declared.answer.EmptyAnswer.TheVariants as answers
-use Rattle.proof_tree.specs.declared.answer.Question.TheVariants as asked
-use Rattle.proof_tree.specs.declared.answer.Trip.{Trip}
-use Rattle.proof_tree.specs.declared.gap.Gap.{Gap}
-use Rattle.proof_tree.specs.declared.rank.RankNode.{RankNode}
-use Rattle.proof_tree.specs.AnswerViews.{scaled_of}
-use Rattle.proof_tree.specs.Composing.{AreRowsOf}
+use Rattle.cert_types.specs.cert_rules.AcceptsPlain.{IsRule}
+use Rattle.cert_types.specs.cert_rules.Gaps.{SymbolPlace}
+use Rattle.cert_types.specs.cert_rules.Graph.{symbols_of}
+use Rattle.cert_types.specs.declared.answer.GuardFeasibility.{GuardFeasibility}
+use Rattle.cert_types.specs.declared.answer.GuardFeasibility.TheVariants as answers
+use Rattle.cert_types.specs.declared.answer.Question.TheVariants as asked
+use Rattle.cert_types.specs.declared.answer.LimitHit.{LimitHit}
+use Rattle.cert_types.specs.declared.gap.Gap.{Gap}
+use Rattle.cert_types.specs.declared.rank.RankNode.{RankNode}
+use Rattle.cert_types.specs.AnswerViews.{scaled_of}
+use Rattle.cert_types.specs.Composing.{AreRowsOf}
 use Rattle.rank_search.specs.declared.answer.RankAnswer.TheVariants as ranked
 use Rattle.rank_search.specs.declared.coefficients.Coefficient.{Coefficient as CoefficientSought}
 use Rattle.rank_search.specs.Coefficients.{coefficient_of, open_set, AreCoefficients}
@@ -43,8 +43,8 @@ use Rattle.rule_questions.specs.EmptyAnswers.{SaysEmpty}
 use Rattle.rule_questions.specs.Programs.{IsProblemOf}
 use Rattle.rank_search.specs.RankAnswers.{IsRuleSet, MayAllRun, HasPointFor}
 use Rattle.rule_questions.specs.RuleAnswers.{AreEmptyAnswers, answer_for, point_in}
-use Rattle.rule_questions.specs.RuleAnswers.{trip_in}
-use Rattle.rank_search.specs.RankAnswers.{first_of, first_trip, rank_program, IsRankAnswer}
+use Rattle.rule_questions.specs.RuleAnswers.{limit_hit_in}
+use Rattle.rank_search.specs.RankAnswers.{first_of, first_limit_hit, rank_program, IsRankAnswer}
 use Rattle.rank_search.specs.Reading.{shapes, read_forms, IsNodeRead, IsGapRead}
 use Rattle.rule_questions.specs.GroupLines.{group_lines}
 use Rattle.rank_search.proofs.Counts.{few-in-all, few-places, few-symbols, rule-inside}
@@ -56,8 +56,8 @@ use Rattle.rank_search.proofs.RankSets.{in-all, symbols-same}
 use Rattle.rank_search.proofs.FunctionReading.{function-read}
 use Rattle.rule_questions.proofs.Trips.{solution-untripped, dual-untripped}
 
-module _ (p : Program) (preps : List RuleRows) (set : List ℕ) (strict : ℕ) (shut : List SymbolPlace) (valid : IsValid p)
-    (rows : AreRowsOf preps p) (rules : IsRuleSet p set strict) where
+module _ (p : Program) (prepared_rules : List RuleRows) (set : List ℕ) (strict : ℕ) (shut : List SymbolPlace) (valid : IsValid p)
+    (rows : AreRowsOf prepared_rules p) (rules : IsRuleSet p set strict) where
   abbrev b : RankedSet
   b = ranked_set p set strict shut
 
@@ -105,19 +105,19 @@ module _ (p : Program) (preps : List RuleRows) (set : List ℕ) (strict : ℕ) (
 
       -- there is a column for each parameter's pair, each row and each slack
       pub solution-room : (s : Numerators) → IsWholeAnswer (program_of problem) pivots (Solution s)
-          → 2 * length coefs + group_columns (shapes preps set strict) ≤ length s.numbers.items
+          → 2 * length coefs + group_columns (shapes prepared_rules set strict) ≤ length s.numbers.items
       solution-room s h =
           let e = (moved (Solution s) h).columns in
           let f = program-columns (rank_question b) in
-          let g = alike-columns (shapes preps set strict) (rank_question b).groups
-          (shapes-alike p preps rows set strict shut rules strict-rule) in
+          let g = alike-columns (shapes prepared_rules set strict) (rank_question b).groups
+          (shapes-alike p prepared_rules rows set strict shut rules strict-rule) in
           let k = many-parameters in
           let d = double-is (rank_question b).parameters in omega (arith, e, f, g, k, d)
 
       -- a node that is read off it
-      pub node-answer : (empties : List EmptyAnswer) (s : Numerators) (node : RankNode) → IsWholeAnswer
+      pub node-answer : (empties : List GuardFeasibility) (s : Numerators) (node : RankNode) → IsWholeAnswer
           (program_of problem) pivots (Solution s)
-          → IsNodeRead p preps (record { set = set; strict = strict; shut = shut }) symbols
+          → IsNodeRead p prepared_rules (record { set = set; strict = strict; shut = shut }) symbols
           (length coefs) s.numbers.items s.den node
           → IsRankAnswer b shut pivots empties (ranked.Ranked node)
       node-answer empties s node h n = (
@@ -131,11 +131,11 @@ module _ (p : Program) (preps : List RuleRows) (set : List ℕ) (strict : ℕ) (
               ∙ (ap (λ (ss : List ℕ). read_forms p shut (parameters_of (at s.numbers.items)) 0 ss) symbols-are
               ∙ function-read p set strict shut (parameters_of (at s.numbers.items)));
           multipliers = n.multipliers
-              ∙ (ap (λ (k : ℕ). multipliers_by_group (after k (at s.numbers.items)) (shapes preps set strict))
+              ∙ (ap (λ (k : ℕ). multipliers_by_group (after k (at s.numbers.items)) (shapes prepared_rules set strict))
               (ap (λ (k : ℕ). 2 * k) many-parameters ∙ sym (double-is (rank_question b).parameters))
               ∙ alike-multipliers (after (double (rank_question b).parameters) (at s.numbers.items))
-              (shapes preps set strict) (rank_question b).groups
-              (shapes-alike p preps rows set strict shut rules strict-rule));
+              (shapes prepared_rules set strict) (rank_question b).groups
+              (shapes-alike p prepared_rules rows set strict shut rules strict-rule));
           untripped = solution-untripped (rank_program b) pivots s (moved (Solution s) h);
         },
         n.unused,
@@ -143,19 +143,19 @@ module _ (p : Program) (preps : List RuleRows) (set : List ℕ) (strict : ℕ) (
 
       -- there is a line for each unknown and each constant
       pub dual-room : (s : Numerators) → IsWholeAnswer (program_of problem) pivots (Dual s) → group_lines
-          (shapes preps set strict) ≤ length s.numbers.items
+          (shapes prepared_rules set strict) ≤ length s.numbers.items
       dual-room s h =
           let e = (moved (Dual s) h).rows in
           let f = rows-are in
-          let g = alike-lines (shapes preps set strict) (rank_question b).groups
-          (shapes-alike p preps rows set strict shut rules strict-rule) in
+          let g = alike-lines (shapes prepared_rules set strict) (rank_question b).groups
+          (shapes-alike p prepared_rules rows set strict shut rules strict-rule) in
           omega (arith, e, f, g)
 
       -- a gap that is read off it
-      pub gap-answer : (empties : List EmptyAnswer) (s : Numerators) (gap : Gap) → IsWholeAnswer (program_of problem) pivots
+      pub gap-answer : (empties : List GuardFeasibility) (s : Numerators) (gap : Gap) → IsWholeAnswer (program_of problem) pivots
           (Dual s)
-          → IsGapRead preps (record { set = set; strict = strict; shut = shut }) empties s.numbers.items gap → None
-          ≡ first_trip empties set
+          → IsGapRead prepared_rules (record { set = set; strict = strict; shut = shut }) empties s.numbers.items gap → None
+          ≡ first_limit_hit empties set
           → IsRankAnswer b shut pivots empties (ranked.NoRank gap)
       gap-answer empties s gap h g none = (
         record {
@@ -165,8 +165,8 @@ module _ (p : Program) (preps : List RuleRows) (set : List ℕ) (strict : ℕ) (
           numbers = s.numbers.items;
           den = s.den;
           dual = moved (Dual s) h;
-          points = g.points ∙ alike-points (at s.numbers.items) (shapes preps set strict) (rank_question b).groups
-              (shapes-alike p preps rows set strict shut rules strict-rule);
+          points = g.points ∙ alike-points (at s.numbers.items) (shapes prepared_rules set strict) (rank_question b).groups
+              (shapes-alike p prepared_rules rows set strict shut rules strict-rule);
           kept = g.kept;
           untripped = dual-untripped (rank_program b) pivots s (moved (Dual s) h);
         },
@@ -174,10 +174,10 @@ module _ (p : Program) (preps : List RuleRows) (set : List ℕ) (strict : ℕ) (
       )
 
       -- the trip of an emptiness question
-      pub empty-trip : (empties : List EmptyAnswer) (s : Numerators) (t : Trip) → IsWholeAnswer (program_of problem) pivots
+      pub empty-limit_hit : (empties : List GuardFeasibility) (s : Numerators) (t : LimitHit) → IsWholeAnswer (program_of problem) pivots
           (Dual s)
-          → Some t ≡ first_trip empties set → IsRankAnswer b shut pivots empties (ranked.Tripped t)
-      empty-trip empties s t h e = inr (record {
+          → Some t ≡ first_limit_hit empties set → IsRankAnswer b shut pivots empties (ranked.OutOfLimits t)
+      empty-limit_hit empties s t h e = inr (record {
         untripped = dual-untripped (rank_program b) pivots s (moved (Dual s) h);
         unsolved = λ solution. dual-excludes (rank_program b) (at s.numbers.items)
             (moved (Dual s) h).certified solution;
@@ -185,57 +185,57 @@ module _ (p : Program) (preps : List RuleRows) (set : List ℕ) (strict : ℕ) (
       })
 
       -- a trip of its own
-      pub own-trip : (empties : List EmptyAnswer) (c : TripCause) (t : Trip) → IsWholeAnswer (program_of problem) pivots
-          (Tripped c)
+      pub own-limit_hit : (empties : List GuardFeasibility) (c : LimitCause) (t : LimitHit) → IsWholeAnswer (program_of problem) pivots
+          (OutOfLimits c)
           → t.question ≡ asked.Rank strict → cause_of t.cause ≡ cause_of c → IsRankAnswer b shut pivots empties
-          (ranked.Tripped t)
-      own-trip empties c t h e f = inl (record {
+          (ranked.OutOfLimits t)
+      own-limit_hit empties c t h e f = inl (record {
         question = e;
-        trips = subst (λ (k : Cause). Trips (rank_program b) pivots k) (sym f) (moved (Tripped c) h);
+        trips = subst (λ (k : Cause). Trips (rank_program b) pivots k) (sym f) (moved (OutOfLimits c) h);
       })
 
   -- where no rule of the set tripped, and none is known to be empty, each has a point
-  module _ (pivots : ℕ) (empties : List EmptyAnswer) (known : AreEmptyAnswers p pivots empties) where
-    read-inside : (xs : List EmptyAnswer) (k : ℕ) → k < length xs → (a : EmptyAnswer) × (slice_get xs k ≡ Some a)
+  module _ (pivots : ℕ) (empties : List GuardFeasibility) (known : AreEmptyAnswers p pivots empties) where
+    read-inside : (xs : List GuardFeasibility) (k : ℕ) → k < length xs → (a : GuardFeasibility) × (slice_get xs k ≡ Some a)
     read-inside [] k l = absurd (omega (arith, l))
     read-inside (a ∷ xs) zero l = (a, refl)
     read-inside (a ∷ xs) (suc k) l = read-inside xs k (omega (arith, l))
 
-    answered : (t : ℕ) → IsRule p t → (a : EmptyAnswer) × (answer_for empties t ≡ Some a)
+    answered : (t : ℕ) → IsRule p t → (a : GuardFeasibility) × (answer_for empties t ≡ Some a)
     answered t i = go t (rule-inside p t i)
       where
-        go : (t : ℕ) → (0 < t) × (t ≤ length p.rules) → (a : EmptyAnswer) × (answer_for empties t ≡ Some a)
+        go : (t : ℕ) → (0 < t) × (t ≤ length p.rules) → (a : GuardFeasibility) × (answer_for empties t ≡ Some a)
         go zero h = absurd (let l = h.0 in omega (arith, l))
         go (suc t) h = read-inside empties t (let l = h.1 in let e = known.one_each in omega (arith, l, e))
 
-    pub has-points : (ts : List ℕ) → All (IsRule p) ts → MayAllRun ts empties → None ≡ first_trip empties ts → All
+    pub has-points : (ts : List ℕ) → All (IsRule p) ts → MayAllRun ts empties → None ≡ first_limit_hit empties ts → All
         (HasPointFor empties) ts
     has-points [] h m e = All-nil (HasPointFor empties)
     has-points (t ∷ ts) h m e =
         let a = answered t (All-head (IsRule p) t ts h) in
-        let both = untripped (trip_in (answer_for empties t)) (first_trip empties ts) e in
+        let both = untripped (limit_hit_in (answer_for empties t)) (first_limit_hit empties ts) e in
         All-cons (HasPointFor empties) t ts
         (one a.0 a.1 (All-head
-        (λ t. (a : EmptyAnswer) → answer_for empties t ≡ Some a → ¬ (SaysEmpty a)) t ts m.each a.0 a.1)
-        (ap trip_in (sym a.1) ∙ both.0))
+        (λ t. (a : GuardFeasibility) → answer_for empties t ≡ Some a → ¬ (SaysEmpty a)) t ts m.each a.0 a.1)
+        (ap limit_hit_in (sym a.1) ∙ both.0))
         (has-points ts (All-tail (IsRule p) t ts h)
         (record {
           each = All-tail
-              (λ t. (a : EmptyAnswer) → answer_for empties t ≡ Some a → ¬ (SaysEmpty a)) t ts m.each;
+              (λ t. (a : GuardFeasibility) → answer_for empties t ≡ Some a → ¬ (SaysEmpty a)) t ts m.each;
         }) (sym both.1))
       where
-        untripped : (o q : Option Trip) → None ≡ first_of o q → (o ≡ None) × (q ≡ None)
+        untripped : (o q : Option LimitHit) → None ≡ first_of o q → (o ≡ None) × (q ≡ None)
         untripped None q e = (refl, sym e)
         untripped (Some t) q e = absurd (none e)
           where
             none : None ≡ Some t → ⊥
             none f = cc
 
-        one : (a : EmptyAnswer) → answer_for empties t ≡ Some a → ¬ (SaysEmpty a) → trip_in (Some a) ≡ None
+        one : (a : GuardFeasibility) → answer_for empties t ≡ Some a → ¬ (SaysEmpty a) → limit_hit_in (Some a) ≡ None
             → HasPointFor empties t
         one (answers.Empty n) e f g = absurd (f tt)
         one (answers.Point z) e f g = record { point = scaled_of z; found = ap point_in e }
-        one (answers.Tripped t) e f g = absurd (none g)
+        one (answers.OutOfLimits t) e f g = absurd (none g)
           where
             none : Some t ≡ None → ⊥
             none h = cc

@@ -1,4 +1,4 @@
--- Each answer on ranking functions comes exactly where its cause stands.
+-- Each answer on ranking functions comes exactly in its case.
 use Rattle.std.proofs.Common.{◌≡◌, ℕ, ◌<◌, ap, arith, refl, sym, ◌∙◌, subst, inl, inr, List, [], length, map}
 use Rattle.std.proofs.Common.{get_or, Option, Some, None}
 use Rattle.std.specs.Prelude.{◌↔◌, ◌⊎◌, pos}
@@ -9,31 +9,31 @@ use Rattle.simplex_core.specs.linear_forms.RuleQuestions.{RankedSet}
 use Rattle.simplex_core.specs.linear_forms.QuestionLaws.{parameters_of}
 use Rattle.simplex_core.proofs.linear_forms.ColumnLaws.{get_or-map}
 use Rattle.simplex_core.proofs.linear_forms.SolutionLaws.{length-map}
-use Rattle.proof_tree.specs.rule_forms.Laws.{HasPoint}
-use Rattle.proof_tree.specs.rule_forms.Ranking.{Ranks, IsLeastRank, NoRank as NoneRanks}
-use Rattle.proof_tree.specs.rule_forms.RankLaws.{HavePointsOf, rank_multipliers}
-use Rattle.proof_tree.proofs.rule_forms.RankFits.{function-fits}
-use Rattle.proof_tree.proofs.rule_forms.RankSolutions.{rank-shown, shown-ranks}
-use Rattle.proof_tree.proofs.rule_forms.RankExclusion.{dual-excludes_ranks}
-use Rattle.proof_tree.proofs.rule_forms.LeastRanks.{least-rank}
+use Rattle.cert_types.specs.rule_forms.Laws.{HasPoint}
+use Rattle.cert_types.specs.rule_forms.Ranking.{Ranks, IsLeastRank, NoRank as NoneRanks}
+use Rattle.cert_types.specs.rule_forms.RankLaws.{HavePointsOf, rank_multipliers}
+use Rattle.cert_types.proofs.rule_forms.RankFits.{function-fits}
+use Rattle.cert_types.proofs.rule_forms.RankSolutions.{rank-shown, shown-ranks}
+use Rattle.cert_types.proofs.rule_forms.RankExclusion.{dual-excludes_ranks}
+use Rattle.cert_types.proofs.rule_forms.LeastRanks.{least-rank}
 use Rattle.poly_terms.specs.model.Programs.{Program, Rule, rule_at}
 use Rattle.its_model.specs.Valid.{IsValid}
-use Rattle.proof_tree.specs.proof_nodes.AcceptsPlain.{IsRule}
-use Rattle.proof_tree.specs.proof_nodes.Gaps.{SymbolPlace, ScaledPoint}
-use Rattle.proof_tree.specs.proof_nodes.Nodes.{RankNode}
-use Rattle.proof_tree.specs.declared.answer.EmptyAnswer.{EmptyAnswer}
-use Rattle.proof_tree.specs.declared.answer.EmptyAnswer.TheVariants as answers
-use Rattle.proof_tree.specs.declared.answer.Trip.{Trip}
-use Rattle.proof_tree.specs.AnswerViews.{gap_of}
-use Rattle.proof_tree.specs.Views.{rank_of}
+use Rattle.cert_types.specs.cert_rules.AcceptsPlain.{IsRule}
+use Rattle.cert_types.specs.cert_rules.Gaps.{SymbolPlace, ScaledPoint}
+use Rattle.cert_types.specs.cert_rules.Nodes.{RankNode}
+use Rattle.cert_types.specs.declared.answer.GuardFeasibility.{GuardFeasibility}
+use Rattle.cert_types.specs.declared.answer.GuardFeasibility.TheVariants as answers
+use Rattle.cert_types.specs.declared.answer.LimitHit.{LimitHit}
+use Rattle.cert_types.specs.AnswerViews.{gap_of}
+use Rattle.cert_types.specs.Views.{rank_of}
 use Rattle.rule_questions.proofs.EmptyLaws.{at-least-one}
 use Rattle.rank_search.specs.declared.answer.RankAnswer.{RankAnswer}
-use Rattle.rank_search.specs.declared.answer.RankAnswer.TheVariants.{Ranked, NoRank, Tripped}
+use Rattle.rank_search.specs.declared.answer.RankAnswer.TheVariants.{Ranked, NoRank, OutOfLimits}
 use Rattle.rule_questions.specs.ProgramQuestions.{ranked_set, forms_in}
 use Rattle.rule_questions.specs.Programs.{NothingTrips}
 use Rattle.rank_search.specs.RankAnswers.{IsRuleSet, rank_program, IsRankNode}
 use Rattle.rule_questions.specs.RuleAnswers.{AreEmptyAnswers, answer_for, point_in}
-use Rattle.rank_search.specs.RankAnswers.{IsRankAnswer, first_trip, SaysRanked, SaysNoRank, SaysTripped}
+use Rattle.rank_search.specs.RankAnswers.{IsRankAnswer, first_limit_hit, SaysRanked, SaysNoRank, SaysTripped}
 use Rattle.rank_search.specs.RankLaws.{function_of_node, RankAnswersAreExact}
 use Rattle.simplex_core.proofs.Certificates.{dual-excludes}
 use Rattle.rank_search.proofs.RankSets.{set-of}
@@ -60,8 +60,8 @@ module _ (p : Program) (set : List ℕ) (strict : ℕ) (shut : List SymbolPlace)
       (set-of p set strict shut valid rules) points n.solution.solution n.solution.least
 
   -- the points that a gap keeps are points of the rules of the set
-  module _ (pivots : ℕ) (empties : List EmptyAnswer) (known : AreEmptyAnswers p pivots empties) where
-    kept-point : (t : ℕ) (z : ScaledPoint) → IsRule p t → (o : Option EmptyAnswer) → answer_for empties t ≡ o
+  module _ (pivots : ℕ) (empties : List GuardFeasibility) (known : AreEmptyAnswers p pivots empties) where
+    kept-point : (t : ℕ) (z : ScaledPoint) → IsRule p t → (o : Option GuardFeasibility) → answer_for empties t ≡ o
         → Some z ≡ point_in o → HasPoint (forms_in (rule_at p t)).rows
     kept-point t z i None e f = absurd (differ f)
       where
@@ -79,7 +79,7 @@ module _ (p : Program) (set : List ℕ) (strict : ℕ) (shut : List SymbolPlace)
           point =
               (known.each t i.rule (answers.Point w) i.numbered e).0.point;
         })
-    kept-point t z i (Some (answers.Tripped w)) e f = absurd (differ f)
+    kept-point t z i (Some (answers.OutOfLimits w)) e f = absurd (differ f)
       where
         differ : {y : ScaledPoint} → Some y ≡ None → ⊥
         differ h = cc
@@ -106,7 +106,7 @@ module _ (p : Program) (set : List ℕ) (strict : ℕ) (shut : List SymbolPlace)
             ∙ get_or-map (λ (t : ℕ). point_in (answer_for empties t)) set k None d l))
 
     pub none-if : (a : RankAnswer) → IsRankAnswer b shut pivots empties a
-        → SaysNoRank a ↔ (NoneRanks b × NothingTrips (rank_program b) pivots × (first_trip empties set ≡ None))
+        → SaysNoRank a ↔ (NoneRanks b × NothingTrips (rank_program b) pivots × (first_limit_hit empties set ≡ None))
     none-if (Ranked node) h = (
       λ s. absurd s,
       λ g. g.0.each (function_of_node b pivots (rank_of node) h.0) (rank_of node).den (node-ranks pivots (rank_of node) h.0)
@@ -121,14 +121,14 @@ module _ (p : Program) (set : List ℕ) (strict : ℕ) (shut : List SymbolPlace)
       ),
       λ g. tt,
     )
-    none-if (Tripped t) (inl own) = (λ s. absurd s, λ g. g.1.each (cause_of t.cause) own.trips)
-    none-if (Tripped t) (inr other) = (λ s. absurd s, λ g. differ (sym g.2 ∙ other.first))
+    none-if (OutOfLimits t) (inl own) = (λ s. absurd s, λ g. g.1.each (cause_of t.cause) own.trips)
+    none-if (OutOfLimits t) (inr other) = (λ s. absurd s, λ g. differ (sym g.2 ∙ other.first))
       where
-        differ : {y : Trip} → None ≡ Some y → ⊥
+        differ : {y : LimitHit} → None ≡ Some y → ⊥
         differ h = cc
 
 -- `Ranked` comes exactly where the linear program has a solution and nothing trips
-ranked-if : (b : RankedSet) (shut : List SymbolPlace) (pivots : ℕ) (empties : List EmptyAnswer) (a : RankAnswer)
+ranked-if : (b : RankedSet) (shut : List SymbolPlace) (pivots : ℕ) (empties : List GuardFeasibility) (a : RankAnswer)
     → IsRankAnswer b shut pivots empties a → SaysRanked a ↔
     (HasSolution (rank_program b) × NothingTrips (rank_program b) pivots)
 ranked-if b shut pivots empties (Ranked node) h = (
@@ -137,37 +137,37 @@ ranked-if b shut pivots empties (Ranked node) h = (
 )
 ranked-if b shut pivots empties (NoRank gap) h =
     (λ s. absurd s, λ g. dual-excludes (rank_program b) (at h.0.numbers) h.0.dual.certified g.0)
-ranked-if b shut pivots empties (Tripped t) (inl own) = (λ s. absurd s, λ g. g.1.each (cause_of t.cause) own.trips)
-ranked-if b shut pivots empties (Tripped t) (inr other) = (λ s. absurd s, λ g. other.unsolved g.0)
+ranked-if b shut pivots empties (OutOfLimits t) (inl own) = (λ s. absurd s, λ g. g.1.each (cause_of t.cause) own.trips)
+ranked-if b shut pivots empties (OutOfLimits t) (inr other) = (λ s. absurd s, λ g. other.unsolved g.0)
 
--- and `Tripped` exactly where it trips, or has no solution and the emptiness question of a rule of the set tripped
-tripped-if : (b : RankedSet) (shut : List SymbolPlace) (pivots : ℕ) (empties : List EmptyAnswer) (a : RankAnswer)
+-- and `OutOfLimits` exactly where it trips, or has no solution and the emptiness question of a rule of the set tripped
+tripped-if : (b : RankedSet) (shut : List SymbolPlace) (pivots : ℕ) (empties : List GuardFeasibility) (a : RankAnswer)
     → IsRankAnswer b shut pivots empties a
     → SaysTripped a
     ↔ ((¬ NothingTrips (rank_program b) pivots)
-    ⊎ (NothingTrips (rank_program b) pivots × (¬ HasSolution (rank_program b)) × ¬ (first_trip empties b.set ≡ None)))
+    ⊎ (NothingTrips (rank_program b) pivots × (¬ HasSolution (rank_program b)) × ¬ (first_limit_hit empties b.set ≡ None)))
 tripped-if b shut pivots empties (Ranked node) h = (λ s. absurd s, λ g. go g)
   where
     go : ((¬ NothingTrips (rank_program b) pivots)
         ⊎ (NothingTrips (rank_program b) pivots × (¬ HasSolution (rank_program b)) × ¬
-        (first_trip empties b.set ≡ None))) → ⊥
+        (first_limit_hit empties b.set ≡ None))) → ⊥
     go (inl g) = g h.0.untripped
     go (inr g) = g.1 (record { x = at h.0.numbers; d = pos (rank_of node).den; solution = h.0.solution.solution })
 tripped-if b shut pivots empties (NoRank gap) h = (λ s. absurd s, λ g. go g)
   where
     go : ((¬ NothingTrips (rank_program b) pivots)
         ⊎ (NothingTrips (rank_program b) pivots × (¬ HasSolution (rank_program b)) × ¬
-        (first_trip empties b.set ≡ None))) → ⊥
+        (first_limit_hit empties b.set ≡ None))) → ⊥
     go (inl g) = g h.0.untripped
     go (inr g) = g.2 h.1
-tripped-if b shut pivots empties (Tripped t) (inl own) = (λ s. inl (λ n. n.each (cause_of t.cause) own.trips), λ g. tt)
-tripped-if b shut pivots empties (Tripped t) (inr other) =
+tripped-if b shut pivots empties (OutOfLimits t) (inl own) = (λ s. inl (λ n. n.each (cause_of t.cause) own.trips), λ g. tt)
+tripped-if b shut pivots empties (OutOfLimits t) (inr other) =
     (λ s. inr (other.untripped, other.unsolved, λ e. differ (sym e ∙ other.first)), λ g. tt)
   where
-    differ : {y : Trip} → None ≡ Some y → ⊥
+    differ : {y : LimitHit} → None ≡ Some y → ⊥
     differ h = cc
 
--- each answer on ranking functions comes exactly where its cause stands
+-- each answer on ranking functions comes exactly in its case
 pub answers-exact : RankAnswersAreExact
 answers-exact = record {
   ranked = ranked-if;

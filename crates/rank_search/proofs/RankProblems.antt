@@ -15,7 +15,7 @@ use Rattle.simplex_core.specs.linear_forms.RuleQuestions.{move_group, floor_grou
 use Rattle.simplex_core.proofs.linear_forms.ColumnLaws.{get_or-map}
 use Rattle.simplex_core.proofs.linear_forms.ListLaws.{All-front, All-behind}
 use Rattle.simplex_core.proofs.linear_forms.SolutionLaws.{length-map}
-use Rattle.proof_tree.proofs.rule_forms.RankSolutions.{rank-shaped}
+use Rattle.cert_types.proofs.rule_forms.RankSolutions.{rank-shaped}
 use Rattle.poly_terms.specs.model.Programs as plain
 use Rattle.poly_terms.specs.model.Programs.{rule_at}
 use Rattle.poly_terms.specs.declared.poly.Row.{Row}
@@ -35,9 +35,9 @@ use Rattle.lp_builder.specs.declared.description.Cost.{Cost}
 use Rattle.lp_builder.specs.declared.description.Goal.{Goal}
 use Rattle.lp_builder.specs.Builders.{Holds, IsBuilt}
 use Rattle.lp_builder.specs.Descriptions.{goal_forms, group_of, question_of, IsWritable, AreWritable, AreParameters}
-use Rattle.proof_tree.specs.proof_nodes.AcceptsPlain.{IsRule}
-use Rattle.proof_tree.specs.proof_nodes.Gaps.{SymbolPlace}
-use Rattle.proof_tree.specs.Composing.{AreRowsOf}
+use Rattle.cert_types.specs.cert_rules.AcceptsPlain.{IsRule}
+use Rattle.cert_types.specs.cert_rules.Gaps.{SymbolPlace}
+use Rattle.cert_types.specs.Composing.{AreRowsOf}
 use Rattle.rank_search.specs.declared.coefficients.Coefficient.{Coefficient as Sought}
 use Rattle.rank_search.specs.declared.goals.Part.{Part}
 use Rattle.rank_search.specs.declared.goals.Part.TheVariants.{Move, Fall, Floor}
@@ -47,44 +47,44 @@ use Rattle.rank_search.specs.Goals.{goal_form, fixed_form, part_group, part_for,
 use Rattle.rule_questions.specs.ProgramQuestions.{forms_of, forms_in, ranked_set, is_entered}
 use Rattle.rule_questions.specs.Programs.{IsProblemOf}
 use Rattle.rank_search.specs.RankAnswers.{IsRuleSet}
-use Rattle.proof_tree.proofs.Rules.{rule_here}
+use Rattle.cert_types.proofs.Rules.{rule_here}
 use Rattle.rank_search.proofs.Counts.{rule-inside, coefficients-held, value-at}
 use Rattle.rule_questions.proofs.EmptyProblems.{rows-writable}
 use Rattle.rank_search.proofs.RankSets.{set-of}
 
 -- each rule has its rows
-pub rows-long : (p : Program) (preps : List RuleRows) → AreRowsOf preps (program_of p) → length preps
+pub rows-long : (p : Program) (prepared_rules : List RuleRows) → AreRowsOf prepared_rules (program_of p) → length prepared_rules
     ≡ length p.rules.items
-rows-long p preps rows =
-    sym (length-map prepared_of preps)
+rows-long p prepared_rules rows =
+    sym (length-map prepared_of prepared_rules)
     ∙ (ap (λ (qs : List Prepared). length qs) rows
     ∙ (length-map prepared (map rule_of p.rules.items) ∙ length-map rule_of p.rules.items))
 
-rows-read : (p : Program) (preps : List RuleRows) (k : ℕ) (r : Rule) (m : RuleRows) → AreRowsOf preps (program_of p)
-    → k < length p.rules.items → r ≡ get_or p.rules.items k r → m ≡ get_or preps k m → prepared_of m ≡ prepared
+rows-read : (p : Program) (prepared_rules : List RuleRows) (k : ℕ) (r : Rule) (m : RuleRows) → AreRowsOf prepared_rules (program_of p)
+    → k < length p.rules.items → r ≡ get_or p.rules.items k r → m ≡ get_or prepared_rules k m → prepared_of m ≡ prepared
     (rule_of r)
-rows-read p preps k r m rows l e f =
+rows-read p prepared_rules k r m rows l e f =
     ap prepared_of f
-    ∙ (sym (get_or-map prepared_of preps k (prepared_of m) m (omega (arith, l, rows-long p preps rows)))
+    ∙ (sym (get_or-map prepared_of prepared_rules k (prepared_of m) m (omega (arith, l, rows-long p prepared_rules rows)))
     ∙ (ap (λ (qs : List Prepared). get_or qs k (prepared_of m)) rows
     ∙ (get_or-map prepared (map rule_of p.rules.items) k (prepared_of m) (rule_of r)
     (omega (arith, l, length-map rule_of p.rules.items))
     ∙ ap prepared (get_or-map rule_of p.rules.items k (rule_of r) r l ∙ ap rule_of (sym e)))))
 
-module _ (p : Program) (preps : List RuleRows) (valid : IsValid (program_of p))
-    (rows : AreRowsOf preps (program_of p)) where
+module _ (p : Program) (prepared_rules : List RuleRows) (valid : IsValid (program_of p))
+    (rows : AreRowsOf prepared_rules (program_of p)) where
   -- a rule is there, and so are its rows
   pub rule-room : (t : ℕ) → IsRule (program_of p) t → (0 < t) × (t ≤ length p.rules.items)
   rule-room t i = let h = rule-inside (program_of p) t i in
       (h.0, let l = h.1 in omega (arith, l, length-map rule_of p.rules.items))
 
   module _ (t : ℕ) (i : IsRule (program_of p) t) (r : Rule) (m : RuleRows) (is : r ≡ get_or p.rules.items (t - 1) r)
-      (has : m ≡ get_or preps (t - 1) m) where
+      (has : m ≡ get_or prepared_rules (t - 1) m) where
     numbered : rule_at (program_of p) t ≡ Some (rule_of r)
     numbered = rule_here p t r (rule-room t i).0 (rule-room t i).1 is
 
     same : prepared_of m ≡ prepared (rule_of r)
-    same = rows-read p preps (t - 1) r m rows (let h = rule-room t i in omega (arith, h.0, h.1)) is has
+    same = rows-read p prepared_rules (t - 1) r m rows (let h = rule-room t i in omega (arith, h.0, h.1)) is has
 
     -- what a question sees of it
     pub forms-are : forms_in (rule_at (program_of p) t) ≡ forms_of r.source r.target (prepared_of m)

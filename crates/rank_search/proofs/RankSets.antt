@@ -1,13 +1,13 @@
--- A set of rules that may be asked about is a set as questions see it.
+-- A set of rules that is a valid argument of the search is a set as questions are defined over.
 use Rattle.std.proofs.Common.{ℕ, List}
-use Rattle.proof_tree.specs.rule_forms.RankLaws.{IsSetOf}
+use Rattle.cert_types.specs.rule_forms.RankLaws.{IsSetOf}
 use Rattle.poly_terms.specs.model.Programs.{Program}
 use Rattle.its_model.specs.Valid.{IsValid}
-use Rattle.proof_tree.specs.proof_nodes.Gaps.{SymbolPlace}
+use Rattle.cert_types.specs.cert_rules.Gaps.{SymbolPlace}
 use Rattle.rule_questions.specs.ProgramQuestions.{ranked_set}
 use Rattle.rank_search.specs.RankAnswers.{IsRuleSet}
-use Rattle.proof_tree.proofs.proof_setting.RankedSets.{set-is}
-pub use Rattle.proof_tree.proofs.proof_setting.RankedSets.{standing, in-all, rule-of, rule-in, symbols-same}
+use Rattle.cert_types.proofs.cert_program.RankedSets.{set-is}
+pub use Rattle.cert_types.proofs.cert_program.RankedSets.{standing, in-all, rule-of, rule-in, symbols-same}
 
 -- it is one
 pub set-of : (p : Program) (set : List ℕ) (strict : ℕ) (shut : List SymbolPlace) → IsValid p → IsRuleSet p set strict

@@ -14,12 +14,12 @@ use Rattle.simplex_core.specs.linear_forms.Questions.{Group}
 use Rattle.simplex_core.specs.linear_forms.QuestionLaws.{after, multipliers_of, multipliers_by_group}
 use Rattle.simplex_core.specs.linear_forms.RuleQuestions.{RankedSet, constant_form}
 use Rattle.simplex_core.proofs.linear_forms.ListLaws.{after-is}
-use Rattle.proof_tree.specs.rule_forms.Ranking.{Function}
-use Rattle.proof_tree.specs.rule_forms.RankLaws.{AreImplied, lost_by}
-use Rattle.proof_tree.specs.proof_nodes.AcceptsRank.{moves_of}
+use Rattle.cert_types.specs.rule_forms.Ranking.{Function}
+use Rattle.cert_types.specs.rule_forms.RankLaws.{AreImplied, lost_by}
+use Rattle.cert_types.specs.cert_rules.AcceptsRank.{moves_of}
 use Rattle.simplex_core.specs.linear_forms.Combinations.{less}
-use Rattle.proof_tree.specs.proof_nodes.Composed.{rank_form}
-use Rattle.proof_tree.specs.proof_nodes.Limits.{IsInLimit, AreInLimit}
+use Rattle.cert_types.specs.cert_rules.Composed.{rank_form}
+use Rattle.cert_types.specs.cert_rules.Limits.{IsInLimit, AreInLimit}
 use Rattle.poly_terms.specs.model.Entries.{is_in}
 use Rattle.rank_search.specs.RankAnswers.{part_at}
 

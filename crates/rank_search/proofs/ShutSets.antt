@@ -1,4 +1,4 @@
--- The places that are shut as a set, one place more at a time.
+-- The shut places as a set, one place more at a time.
 use Rattle.std.proofs.Common.{◌≡◌, ℕ, ◌+◌, ◌<◌, ◌==◌, ◌&&◌, ◌||◌, Bool, true, false, cond, List, [], ◌∷◌, ◌++◌, take}
 use Rattle.std.proofs.Common.{get_or, length, refl, sym, ◌∙◌, ap}
 use Rattle.std.proofs.lemmas.List.{take_more}
@@ -8,7 +8,7 @@ use Rattle.std.specs.Cmp.{unsigned_tied}
 use Rattle.std.specs.declared.cmp.Ordering.{Ordering}
 use Rattle.std.specs.declared.cmp.Ordering.TheVariants.{Less, Equal, Greater}
 use Rattle.std.specs.Ordering.{nat_cmp, ordering_then, is_eq}
-use Rattle.proof_tree.specs.proof_nodes.Gaps.{SymbolPlace, is_shut}
+use Rattle.cert_types.specs.cert_rules.Gaps.{SymbolPlace, is_shut}
 use Rattle.rule_questions.specs.ProgramQuestions.{places_of}
 use Rattle.rank_search.specs.ShutPlaces.{place_cmp, is_listed, HasShut}
 
@@ -56,6 +56,6 @@ place-more old new ps i d l h u a j =
     ∙ (sym (shut-more (take i ps) (get_or ps i d) a j)
     ∙ sym (ap (λ (xs : List (ℕ × ℕ)). is_shut (places_of xs) a j) (take_more ps i d l)))))
 
--- to be in the set is to be shut
+-- a place is in the set exactly where it is shut
 pub same-test : (set : BTreeSet (ℕ × ℕ)) (shut : List SymbolPlace) → HasShut set shut → is_listed set ≡ is_shut shut
 same-test set shut h = λ j a i. h a i j

@@ -6,21 +6,21 @@ use Rattle.simplex_core.specs.linear_forms.Causes.{cause_of}
 use Rattle.simplex_core.specs.linear_forms.Forms.{at}
 use Rattle.simplex_core.specs.linear_forms.QuestionLaws.{parameters_of}
 use Rattle.simplex_core.specs.linear_forms.RuleQuestions.{RankedSet, symbols_of_set, rank_question}
-use Rattle.proof_tree.specs.rule_forms.RankLaws.{function_of, rank_multipliers}
+use Rattle.cert_types.specs.rule_forms.RankLaws.{function_of, rank_multipliers}
 use Rattle.simplex_core.proofs.OneWholeAnswer.{causes-same}
-use Rattle.proof_tree.specs.proof_nodes.Gaps.{SymbolPlace, ScaledPoint, Gap}
-use Rattle.proof_tree.specs.proof_nodes.Nodes.{SymbolForm, RankNode}
-use Rattle.proof_tree.specs.declared.answer.EmptyAnswer.{EmptyAnswer}
-use Rattle.proof_tree.specs.declared.answer.Trip.{Trip}
-use Rattle.proof_tree.specs.AnswerViews.{gap_of}
-use Rattle.proof_tree.specs.Views.{rank_of}
+use Rattle.cert_types.specs.cert_rules.Gaps.{SymbolPlace, ScaledPoint, Gap}
+use Rattle.cert_types.specs.cert_rules.Nodes.{SymbolForm, RankNode}
+use Rattle.cert_types.specs.declared.answer.GuardFeasibility.{GuardFeasibility}
+use Rattle.cert_types.specs.declared.answer.LimitHit.{LimitHit}
+use Rattle.cert_types.specs.AnswerViews.{gap_of}
+use Rattle.cert_types.specs.Views.{rank_of}
 use Rattle.rule_questions.proofs.OneEmptyAnswer.{solution-once, dual-once, apart}
 use Rattle.rank_search.specs.declared.answer.RankAnswer.{RankAnswer}
 use Rattle.rank_search.specs.declared.answer.RankAnswer.TheVariants as ranked
 use Rattle.rank_search.specs.OneAnswer.{SeeTheSame, IsSameRankAnswer}
 use Rattle.rank_search.specs.OneAnswer.{RankAnswersAreOne}
 use Rattle.rank_search.specs.RankAnswers.{rank_program, part_at, points_of, IsRankAnswer}
-use Rattle.poly_terms.proofs.model.Cases.{some_same as some-trip, none_some as no-trip}
+use Rattle.poly_terms.proofs.model.Cases.{some_same as some-limit_hit, none_some as no-limit_hit}
 
 -- lists with one more element behind
 never : {A : Type 0} (ys : List A) (y : A) → [] ≡ ys ++ y ∷ [] → ⊥
@@ -60,7 +60,7 @@ node-same a c e f g h i =
     ∙ (ap (λ (x : List (List ℕ)). node_with c.rule c.set c.den c.forms x a.floor) r.0
     ∙ ap (λ (x : List ℕ). node_with c.rule c.set c.den c.forms c.moves x) r.1))))
 
--- so are gaps
+-- the same for gaps
 gap_with : ℕ → List ℕ → List SymbolPlace → List ScaledPoint → ScaledPoint → List ScaledPoint → Gap
 gap_with rule set shut moves floor kept = record {
   rule = rule;
@@ -94,7 +94,7 @@ gap-same a c e f g h i =
     ∙ ap (λ (x : List ScaledPoint). gap_with c.rule c.set c.shut c.moves c.floor x) (some-same a.kept c.kept i)))))
 
 -- which function ranks
-module _ (b : RankedSet) (shut : List SymbolPlace) (pivots : ℕ) (xs ys : List EmptyAnswer)
+module _ (b : RankedSet) (shut : List SymbolPlace) (pivots : ℕ) (xs ys : List GuardFeasibility)
     (same : SeeTheSame xs ys b.set) where
   ranks-once : (a c : RankAnswer) → IsRankAnswer b shut pivots xs a → IsRankAnswer b shut pivots ys c
       → IsSameRankAnswer a c
@@ -109,8 +109,8 @@ module _ (b : RankedSet) (shut : List SymbolPlace) (pivots : ℕ) (xs ys : List 
       )
   ranks-once (ranked.Ranked n) (ranked.NoRank k) g h =
       apart (rank_program b) pivots g.0.numbers h.0.numbers (rank_of n).den h.0.den g.0.solution h.0.dual
-  ranks-once (ranked.Ranked n) (ranked.Tripped t) g (inl own) = g.0.untripped.each (cause_of t.cause) own.trips
-  ranks-once (ranked.Ranked n) (ranked.Tripped t) g (inr other) =
+  ranks-once (ranked.Ranked n) (ranked.OutOfLimits t) g (inl own) = g.0.untripped.each (cause_of t.cause) own.trips
+  ranks-once (ranked.Ranked n) (ranked.OutOfLimits t) g (inr other) =
       other.unsolved (record { x = at g.0.numbers; d = pos (rank_of n).den; solution = g.0.solution.solution })
   ranks-once (ranked.NoRank n) (ranked.Ranked k) g h =
       apart (rank_program b) pivots h.0.numbers g.0.numbers (rank_of k).den g.0.den h.0.solution g.0.dual
@@ -120,26 +120,26 @@ module _ (b : RankedSet) (shut : List SymbolPlace) (pivots : ℕ) (xs ys : List 
       (g.0.same_shut ∙ sym h.0.same_shut)
       (g.0.points ∙ (ap (λ (ns : List ℤ). points_of (at ns) (rank_question b).groups) r.0 ∙ sym h.0.points))
       (g.0.kept ∙ (same.points ∙ sym h.0.kept))
-  ranks-once (ranked.NoRank n) (ranked.Tripped t) g (inl own) = g.0.untripped.each (cause_of t.cause) own.trips
-  ranks-once (ranked.NoRank n) (ranked.Tripped t) g (inr other) = no-trip t (sym g.1 ∙ (same.trips ∙ other.first))
-  ranks-once (ranked.Tripped t) (ranked.Ranked k) (inl own) h = h.0.untripped.each (cause_of t.cause) own.trips
-  ranks-once (ranked.Tripped t) (ranked.Ranked k) (inr other) h =
+  ranks-once (ranked.NoRank n) (ranked.OutOfLimits t) g (inl own) = g.0.untripped.each (cause_of t.cause) own.trips
+  ranks-once (ranked.NoRank n) (ranked.OutOfLimits t) g (inr other) = no-limit_hit t (sym g.1 ∙ (same.trips ∙ other.first))
+  ranks-once (ranked.OutOfLimits t) (ranked.Ranked k) (inl own) h = h.0.untripped.each (cause_of t.cause) own.trips
+  ranks-once (ranked.OutOfLimits t) (ranked.Ranked k) (inr other) h =
       other.unsolved (record { x = at h.0.numbers; d = pos (rank_of k).den; solution = h.0.solution.solution })
-  ranks-once (ranked.Tripped t) (ranked.NoRank k) (inl own) h = h.0.untripped.each (cause_of t.cause) own.trips
-  ranks-once (ranked.Tripped t) (ranked.NoRank k) (inr other) h = no-trip t (sym h.1 ∙ (sym same.trips ∙ other.first))
-  ranks-once (ranked.Tripped t) (ranked.Tripped u) (inl own) (inl other) = (
+  ranks-once (ranked.OutOfLimits t) (ranked.NoRank k) (inl own) h = h.0.untripped.each (cause_of t.cause) own.trips
+  ranks-once (ranked.OutOfLimits t) (ranked.NoRank k) (inr other) h = no-limit_hit t (sym h.1 ∙ (sym same.trips ∙ other.first))
+  ranks-once (ranked.OutOfLimits t) (ranked.OutOfLimits u) (inl own) (inl other) = (
     own.question ∙ sym other.question,
     causes-same (rank_program b) pivots (cause_of t.cause)
         (cause_of u.cause) own.trips other.trips,
   )
-  ranks-once (ranked.Tripped t) (ranked.Tripped u) (inl own) (inr other) = absurd
+  ranks-once (ranked.OutOfLimits t) (ranked.OutOfLimits u) (inl own) (inr other) = absurd
       (other.untripped.each (cause_of t.cause) own.trips)
-  ranks-once (ranked.Tripped t) (ranked.Tripped u) (inr own) (inl other) = absurd
+  ranks-once (ranked.OutOfLimits t) (ranked.OutOfLimits u) (inr own) (inl other) = absurd
       (own.untripped.each (cause_of u.cause) other.trips)
-  ranks-once (ranked.Tripped t) (ranked.Tripped u) (inr own) (inr other) =
-      let e = some-trip t u (sym own.first ∙ (same.trips ∙ other.first)) in
-      (ap (λ (v : Trip). v.question) e, ap (λ (v : Trip). cause_of v.cause) e)
+  ranks-once (ranked.OutOfLimits t) (ranked.OutOfLimits u) (inr own) (inr other) =
+      let e = some-limit_hit t u (sym own.first ∙ (same.trips ∙ other.first)) in
+      (ap (λ (v : LimitHit). v.question) e, ap (λ (v : LimitHit). cause_of v.cause) e)
 
--- of a set, its shut places and a number of pivots there is one answer on ranking functions
+-- for a set, its shut places and a number of pivots there is one answer on ranking functions
 pub ranks-one : RankAnswersAreOne
 ranks-one = record { each = ranks-once }

@@ -9,7 +9,7 @@ use Rattle.guard_prep.proofs.SizeLaws.{rows-are-small}
 use Rattle.guard_prep.proofs.StepLaws.{preparable}
 use Rattle.lp_builder.specs.declared.builder.Builder.{Builder}
 use Rattle.lp_builder.specs.Builders.{parameter_count, row_count, column_count, AtRowStart, Holds, Adds}
-use Rattle.proof_tree.specs.proof_nodes.AcceptsPlain.{IsRule}
+use Rattle.cert_types.specs.cert_rules.AcceptsPlain.{IsRule}
 use Rattle.rule_questions.specs.ProgramQuestions.{forms_in}
 use Rattle.rank_search.proofs.RankProblems.{set_group}
 

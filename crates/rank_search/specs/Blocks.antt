@@ -1,4 +1,4 @@
--- Blocks of positions in which the coefficients of each symbol stand.
+-- Blocks of positions that contain the coefficients of each symbol.
 use Rattle.std.specs.Prelude.{◌≡◌, ◌||◌, ◌⊎◌, ℕ, ◌+◌, ◌<◌, ◌≤◌, nat_eq, if◌then◌else◌, true, List, length}
 use Rattle.std.specs.Prelude.{get_or, slice_index_or}
 use Rattle.rank_search.specs.declared.blocks.Block.{Block}
@@ -21,13 +21,13 @@ abbrev pub with_position : Block → ℕ → Block
 with_position b i =
     if nat_eq b.first b.upto then record { first = i; upto = i + 1 } else record { first = b.first; upto = i + 1 }
 
--- each symbol has a block of positions below n, in which those of the first n coefficients stand that are its own
+-- each symbol has a block of positions below n that contains those of its own among the first n coefficients
 pub record AreBlocks (n : ℕ) (blocks : List Block) (cs : List Coefficient) : Type 0 where
   pub ordered : (s : ℕ) → (block_at blocks s).first ≤ (block_at blocks s).upto
   pub below : (s : ℕ) → (block_at blocks s).upto ≤ n
   pub each : (i : ℕ) (d : Coefficient) → i < n → i < length cs → IsInside (block_at blocks (get_or cs i d).symbol) i
 
--- the first block doesn't begin behind the second, and the coefficients of the source and of the target stand in them
+-- the first block doesn't begin behind the second, and they contain the coefficients of the source and of the target
 pub record HoldGoals (source target : ℕ) (cs : List Coefficient) (first second : Block) : Type 0 where
   pub order : first.first ≤ second.first
   pub first_ordered : first.first ≤ first.upto

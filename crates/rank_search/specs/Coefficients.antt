@@ -1,9 +1,9 @@
--- The coefficients of a function that is sought, as plain data.
+-- The unknown coefficients of a function that is searched, as plain data.
 use Rattle.std.specs.Prelude.{◌≡◌, ℕ, not, Bool, List, [], ◌∷◌, ◌++◌, filter, map}
 use Rattle.std.specs.List.{range_with_len}
 use Rattle.simplex_core.specs.linear_forms.RuleQuestions.{RankedSet, Coefficient, symbols_of_set, coefficients}
 use Rattle.poly_terms.specs.model.Programs.{Program}
-use Rattle.proof_tree.specs.proof_nodes.Gaps.{SymbolPlace}
+use Rattle.cert_types.specs.cert_rules.Gaps.{SymbolPlace}
 use Rattle.rank_search.specs.declared.coefficients.Coefficient.{Coefficient as Sought}
 use Rattle.rule_questions.specs.ProgramQuestions.{ranked_set}
 
@@ -11,13 +11,13 @@ use Rattle.rule_questions.specs.ProgramQuestions.{ranked_set}
 abbrev pub coefficient_of : Sought → Coefficient
 coefficient_of c = record { symbol = c.symbol; place = c.place }
 
--- the coefficients at a symbol with so many places: those of the places that aren't shut, and then the constant's
+-- the coefficients at a symbol with this many places: those of the places that aren't shut, and then the constant's
 abbrev pub open_block : (ℕ → ℕ → Bool) → ℕ → ℕ → List Coefficient
 open_block shut s arity =
     map (λ i. record { symbol = s; place = i })
     (filter (λ i. not (shut s i)) (range_with_len 1 arity) ++ (0 ∷ []))
 
--- no rule of a program, with places that are shut: which coefficients symbols have depends on these alone
+-- no rule of a program, with shut places: which coefficients symbols have depends on these alone
 abbrev pub open_set : Program → List SymbolPlace → RankedSet
 open_set p shut = ranked_set p [] 0 shut
 

@@ -1,4 +1,4 @@
--- The groups of a rank question, and what follows in each.
+-- The groups of a rank question, and the goals of each.
 use Rattle.std.specs.Prelude.{◌≡◌, ℕ, ◌≤◌, Bool, true, false, List, length, map, take}
 use Rattle.std.specs.List.{All}
 use Rattle.simplex_core.specs.linear_forms.Forms.{Form}

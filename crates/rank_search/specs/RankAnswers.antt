@@ -1,4 +1,4 @@
--- Which function ranks a rule of a set: what each answer says.
+-- Answers on which function ranks a rule of a set: the meaning of each.
 use Rattle.std.specs.Prelude.{◌≡◌, ◌⊎◌, ℕ, suc, List, [], ◌∷◌, ◌++◌, map, ℤ, nat_abs, true}
 use Rattle.std.specs.Prelude.{Option, Some, None}
 use Rattle.std.specs.List.{All}
@@ -8,23 +8,23 @@ use Rattle.simplex_core.specs.linear_forms.LinearProgram.{LinearProgram, HasSolu
 use Rattle.simplex_core.specs.linear_forms.Questions.{Group, listed, program_of_question}
 use Rattle.simplex_core.specs.linear_forms.QuestionLaws.{after, parameters_of}
 use Rattle.simplex_core.specs.linear_forms.RuleQuestions.{RankedSet, symbols_of_set, rank_question}
-use Rattle.proof_tree.specs.rule_forms.Ranking.{Function}
-use Rattle.proof_tree.specs.rule_forms.RankLaws.{function_of, rank_multipliers}
+use Rattle.cert_types.specs.rule_forms.Ranking.{Function}
+use Rattle.cert_types.specs.rule_forms.RankLaws.{function_of, rank_multipliers}
 use Rattle.poly_terms.specs.model.Programs.{Program}
 use Rattle.simplex_core.specs.Trips.{Trips, IsScaledSolution, IsScaledDual}
-use Rattle.proof_tree.specs.proof_nodes.AcceptsPlain.{IsRule}
-use Rattle.proof_tree.specs.proof_nodes.Gaps.{ScaledPoint, SymbolPlace, Gap}
-use Rattle.proof_tree.specs.proof_nodes.Nodes.{RankNode, SymbolForm}
+use Rattle.cert_types.specs.cert_rules.AcceptsPlain.{IsRule}
+use Rattle.cert_types.specs.cert_rules.Gaps.{ScaledPoint, SymbolPlace, Gap}
+use Rattle.cert_types.specs.cert_rules.Nodes.{RankNode, SymbolForm}
 use Rattle.poly_terms.specs.model.Entries.{is_in}
-use Rattle.proof_tree.specs.proof_nodes.Numbers.{IsAscending}
-use Rattle.proof_tree.specs.declared.answer.Trip.{Trip}
-use Rattle.proof_tree.specs.declared.answer.Question.TheVariants as asked
-use Rattle.proof_tree.specs.declared.answer.EmptyAnswer.{EmptyAnswer}
-use Rattle.proof_tree.specs.AnswerViews.{gap_of}
-use Rattle.proof_tree.specs.Views.{rank_of}
-use Rattle.rule_questions.specs.RuleAnswers.{answer_for, point_in, trip_in}
+use Rattle.cert_types.specs.cert_rules.Numbers.{IsAscending}
+use Rattle.cert_types.specs.declared.answer.LimitHit.{LimitHit}
+use Rattle.cert_types.specs.declared.answer.Question.TheVariants as asked
+use Rattle.cert_types.specs.declared.answer.GuardFeasibility.{GuardFeasibility}
+use Rattle.cert_types.specs.AnswerViews.{gap_of}
+use Rattle.cert_types.specs.Views.{rank_of}
+use Rattle.rule_questions.specs.RuleAnswers.{answer_for, point_in, limit_hit_in}
 use Rattle.rank_search.specs.declared.answer.RankAnswer.{RankAnswer}
-use Rattle.rank_search.specs.declared.answer.RankAnswer.TheVariants.{Ranked, NoRank, Tripped}
+use Rattle.rank_search.specs.declared.answer.RankAnswer.TheVariants.{Ranked, NoRank, OutOfLimits}
 use Rattle.rule_questions.specs.EmptyAnswers.{SaysEmpty}
 use Rattle.rule_questions.specs.Programs.{NothingTrips}
 
@@ -35,8 +35,8 @@ pub record IsRuleSet (p : Program) (set : List ℕ) (strict : ℕ) : Type 0 wher
   pub inside : is_in strict set ≡ true
 
 -- no rule of the set is known to have no point
-pub record MayAllRun (set : List ℕ) (empties : List EmptyAnswer) : Type 0 where
-  pub each : All (λ t. (a : EmptyAnswer) → answer_for empties t ≡ Some a → ¬ SaysEmpty a) set
+pub record MayAllRun (set : List ℕ) (empties : List GuardFeasibility) : Type 0 where
+  pub each : All (λ t. (a : GuardFeasibility) → answer_for empties t ≡ Some a → ¬ SaysEmpty a) set
 
 -- the linear program that asks whether a function ranks the rule
 abbrev pub rank_program : RankedSet → LinearProgram
@@ -65,7 +65,7 @@ points_of y (g ∷ gs) =
 
 -- the gap is read off the dual at which the linear program's sequence of tableaux ends: a move for each rule of the
 -- set, and the floor; and it keeps the point of each rule of the set
-pub record IsReadOff (b : RankedSet) (shut : List SymbolPlace) (pivots : ℕ) (empties : List EmptyAnswer)
+pub record IsReadOff (b : RankedSet) (shut : List SymbolPlace) (pivots : ℕ) (empties : List GuardFeasibility)
     (g : Gap) : Type 0 where
   pub numbered : g.rule ≡ b.strict
   pub same_set : g.set ≡ b.set
@@ -78,51 +78,51 @@ pub record IsReadOff (b : RankedSet) (shut : List SymbolPlace) (pivots : ℕ) (e
   pub untripped : NothingTrips (rank_program b) pivots
 
 -- the answer for a rule is a point
-pub record HasPointFor (empties : List EmptyAnswer) (t : ℕ) : Type 0 where
+pub record HasPointFor (empties : List GuardFeasibility) (t : ℕ) : Type 0 where
   pub point : ScaledPoint
   pub found : point_in (answer_for empties t) ≡ Some point
 
 -- the first, where there is one, and else the second
-abbrev pub first_of : Option Trip → Option Trip → Option Trip
+abbrev pub first_of : Option LimitHit → Option LimitHit → Option LimitHit
 first_of None other = other
 first_of (Some t) other = Some t
 
 -- the trip of the first rule of the set whose emptiness question tripped
-abbrev pub first_trip : List EmptyAnswer → List ℕ → Option Trip
-first_trip empties [] = None
-first_trip empties (t ∷ ts) = first_of (trip_in (answer_for empties t)) (first_trip empties ts)
+abbrev pub first_limit_hit : List GuardFeasibility → List ℕ → Option LimitHit
+first_limit_hit empties [] = None
+first_limit_hit empties (t ∷ ts) = first_of (limit_hit_in (answer_for empties t)) (first_limit_hit empties ts)
 
--- the linear program trips, by the cause that is told
-pub record IsOwnTrip (b : RankedSet) (pivots : ℕ) (t : Trip) : Type 0 where
+-- the linear program trips, with the reported cause
+pub record IsOwnLimitHit (b : RankedSet) (pivots : ℕ) (t : LimitHit) : Type 0 where
   pub question : t.question ≡ asked.Rank b.strict
   pub trips : Trips (rank_program b) pivots (cause_of t.cause)
 
 -- nothing trips it, it has no solution, and the emptiness question of a rule of the set tripped: the first such trip
-pub record IsEmptyTrip (b : RankedSet) (pivots : ℕ) (empties : List EmptyAnswer) (t : Trip) : Type 0 where
+pub record IsFeasibilityLimitHit (b : RankedSet) (pivots : ℕ) (empties : List GuardFeasibility) (t : LimitHit) : Type 0 where
   pub untripped : NothingTrips (rank_program b) pivots
   pub unsolved : ¬ HasSolution (rank_program b)
-  pub first : first_trip empties b.set ≡ Some t
+  pub first : first_limit_hit empties b.set ≡ Some t
 
--- what the answer says, within a number of pivots: a function that ranks the rule, as a node that rests on nothing yet;
--- that there is none, with a gap; or which linear program trips
-abbrev pub IsRankAnswer : RankedSet → List SymbolPlace → ℕ → List EmptyAnswer → RankAnswer → Type 0
+-- the meaning of the answer, within a number of pivots: a function that ranks the rule, as a node without its premises
+-- yet; that there is none, with a gap; or which linear program trips
+abbrev pub IsRankAnswer : RankedSet → List SymbolPlace → ℕ → List GuardFeasibility → RankAnswer → Type 0
 IsRankAnswer b shut pivots empties (Ranked node) = IsRankNode b pivots (rank_of node) × (node.uses.items ≡ [])
 IsRankAnswer b shut pivots empties (NoRank gap) =
-    IsReadOff b shut pivots empties (gap_of gap) × (first_trip empties b.set ≡ None)
-IsRankAnswer b shut pivots empties (Tripped t) = IsOwnTrip b pivots t ⊎ IsEmptyTrip b pivots empties t
+    IsReadOff b shut pivots empties (gap_of gap) × (first_limit_hit empties b.set ≡ None)
+IsRankAnswer b shut pivots empties (OutOfLimits t) = IsOwnLimitHit b pivots t ⊎ IsFeasibilityLimitHit b pivots empties t
 
 -- which answer it is
 abbrev pub SaysRanked : RankAnswer → Type 0
 SaysRanked (Ranked node) = Unit {0}
 SaysRanked (NoRank gap) = ⊥
-SaysRanked (Tripped t) = ⊥
+SaysRanked (OutOfLimits t) = ⊥
 
 abbrev pub SaysNoRank : RankAnswer → Type 0
 SaysNoRank (Ranked node) = ⊥
 SaysNoRank (NoRank gap) = Unit {0}
-SaysNoRank (Tripped t) = ⊥
+SaysNoRank (OutOfLimits t) = ⊥
 
 abbrev pub SaysTripped : RankAnswer → Type 0
 SaysTripped (Ranked node) = ⊥
 SaysTripped (NoRank gap) = ⊥
-SaysTripped (Tripped t) = Unit {0}
+SaysTripped (OutOfLimits t) = Unit {0}

@@ -1,33 +1,33 @@
--- What the answers on ranking functions are worth.
+-- What the answers on ranking functions prove.
 use Rattle.std.specs.Prelude.{◌≡◌, ◌↔◌, ◌≢◌, ◌⊎◌, ℕ, suc, List, length, true, pos, ◌<◌, Some, None}
 use Rattle.simplex_core.specs.linear_forms.Forms.{at}
 use Rattle.simplex_core.specs.linear_forms.LinearProgram.{HasSolution}
 use Rattle.simplex_core.specs.linear_forms.QuestionLaws.{parameters_of}
 use Rattle.simplex_core.specs.linear_forms.RuleQuestions.{RankedSet, has_symbol}
-use Rattle.proof_tree.specs.rule_forms.Ranking.{Function, Ranks, Fits, NoRank, IsLeastRank}
-use Rattle.proof_tree.specs.rule_forms.RankLaws.{HavePointsOf, function_of}
+use Rattle.cert_types.specs.rule_forms.Ranking.{Function, Ranks, Fits, NoRank, IsLeastRank}
+use Rattle.cert_types.specs.rule_forms.RankLaws.{HavePointsOf, function_of}
 use Rattle.poly_terms.specs.model.Programs.{Program}
 use Rattle.its_model.specs.Valid.{IsValid}
 use Rattle.poly_terms.specs.model.Entries.{is_in, IsEntry}
-use Rattle.proof_tree.specs.proof_nodes.AcceptsRank.{at_target, rank_time, HasRankShape, Loses, HasFloor, AcceptsRank}
-use Rattle.proof_tree.specs.proof_nodes.Composed.{rank_form}
-use Rattle.proof_tree.specs.proof_nodes.Gaps.{SymbolPlace, is_shut}
-use Rattle.proof_tree.specs.proof_nodes.Known.{IsKnown, Table}
-use Rattle.proof_tree.specs.proof_nodes.Limits.{IsSmallComposed}
-use Rattle.proof_tree.specs.proof_nodes.Nodes.{RankNode}
-use Rattle.proof_tree.specs.proof_nodes.Setting.{Setting}
-use Rattle.proof_tree.specs.proof_setting.GapLaws.{IsFoundGap}
-use Rattle.proof_tree.specs.proof_setting.Setting.{setting_of}
-use Rattle.proof_tree.specs.AnswerViews.{gap_of}
-use Rattle.proof_tree.specs.declared.answer.EmptyAnswer.{EmptyAnswer}
-use Rattle.proof_tree.specs.declared.gap.Gap.{Gap}
+use Rattle.cert_types.specs.cert_rules.AcceptsRank.{at_target, rank_time, HasRankShape, Loses, HasFloor, AcceptsRank}
+use Rattle.cert_types.specs.cert_rules.Composed.{rank_form}
+use Rattle.cert_types.specs.cert_rules.Gaps.{SymbolPlace, is_shut}
+use Rattle.cert_types.specs.cert_rules.Known.{IsKnown, Table}
+use Rattle.cert_types.specs.cert_rules.Limits.{IsSmallComposed}
+use Rattle.cert_types.specs.cert_rules.Nodes.{RankNode}
+use Rattle.cert_types.specs.cert_rules.Setting.{Setting}
+use Rattle.cert_types.specs.cert_program.GapLaws.{IsFoundGap}
+use Rattle.cert_types.specs.cert_program.Setting.{setting_of}
+use Rattle.cert_types.specs.AnswerViews.{gap_of}
+use Rattle.cert_types.specs.declared.answer.GuardFeasibility.{GuardFeasibility}
+use Rattle.cert_types.specs.declared.gap.Gap.{Gap}
 use Rattle.rank_search.specs.declared.answer.RankAnswer.{RankAnswer}
 use Rattle.rank_search.specs.declared.answer.RankAnswer.TheVariants as answers
 use Rattle.rule_questions.specs.ProgramQuestions.{ranked_set}
 use Rattle.rule_questions.specs.Programs.{NothingTrips}
 use Rattle.rank_search.specs.RankAnswers.{IsRuleSet, rank_program, IsRankNode, IsRankAnswer}
 use Rattle.rule_questions.specs.RuleAnswers.{AreEmptyAnswers}
-use Rattle.rank_search.specs.RankAnswers.{first_trip, SaysRanked, SaysNoRank, SaysTripped}
+use Rattle.rank_search.specs.RankAnswers.{first_limit_hit, SaysRanked, SaysNoRank, SaysTripped}
 
 -- the function that a node is read off
 abbrev pub function_of_node : (b : RankedSet) (pivots : ℕ) (node : RankNode) → IsRankNode b pivots node → Function
@@ -41,9 +41,9 @@ pub record HoldsFacts (s : Setting) (table : Table) (node : RankNode) : Type 0 w
       → IsKnown (table.size e (suc j))
   pub small : IsSmallComposed s.rewrite (rank_time s node table)
 
--- a node that is found holds, at each symbol of the set, the part of the function that it is read off; this function
--- looks at no shut place and ranks the rule over the node's denominator, on all rational points; and where each rule
--- of the set has a point, none that does weighs less
+-- a node that is found has, at each symbol of the set, the form of a function; this function has coefficient 0 at every
+-- shut place and ranks the rule with the node's denominator, on all rational points; and where each rule of the set has
+-- a point, no such function weighs less
 pub record RankedNodesRank : Type 0 where
   pub parts : (b : RankedSet) (pivots : ℕ) (node : RankNode) (n : IsRankNode b pivots node) (s : ℕ)
       → has_symbol b s ≡ true → s < b.symbols → rank_form node.forms (Some s) ≡ function_of_node b pivots node n s
@@ -64,8 +64,8 @@ pub record HasCertificates (s : Setting) (node : RankNode) : Type 0 where
   pub moves : (t : ℕ) → is_in t node.set ≡ true → Loses s node t
   pub floor : HasFloor s node
 
--- a node that is found is shown, and accepted once the facts that it needs are there; and at a symbol of the set it has
--- no coefficient at a shut place
+-- a node that is found is certified, and accepted once its premises are available; and at a symbol of the set it has
+-- coefficient 0 at every shut place
 pub record RankedNodesAreAccepted : Type 0 where
   pub shown : (p : Program) (set : List ℕ) (strict : ℕ) (shut : List SymbolPlace) (pivots : ℕ) (node : RankNode)
       → IsValid p → IsRuleSet p set strict → IsRankNode (ranked_set p set strict shut) pivots node
@@ -78,31 +78,31 @@ pub record RankedNodesAreAccepted : Type 0 where
       → IsValid p → IsRuleSet p set strict → IsRankNode (ranked_set p set strict shut) pivots node
       → (table : Table) → HoldsFacts (setting_of p) table node → AcceptsRank (setting_of p) table node
 
--- each answer comes exactly where its cause stands: `Ranked` where the linear program has a solution and nothing trips
--- it; `NoRank` where no function ranks the rule, nothing trips the linear program, and the emptiness question of no
--- rule of the set tripped; and `Tripped` where the linear program trips, or has no solution and the emptiness question
--- of a rule of the set tripped
+-- each answer comes exactly in its case: `Ranked` where the linear program has a solution and nothing trips it;
+-- `NoRank` where no function ranks the rule, nothing trips the linear program, and the emptiness question of no rule of
+-- the set tripped; and `Tripped` where the linear program trips, or has no solution and the emptiness question of a
+-- rule of the set tripped
 pub record RankAnswersAreExact : Type 0 where
-  pub ranked : (b : RankedSet) (shut : List SymbolPlace) (pivots : ℕ) (empties : List EmptyAnswer) (a : RankAnswer)
+  pub ranked : (b : RankedSet) (shut : List SymbolPlace) (pivots : ℕ) (empties : List GuardFeasibility) (a : RankAnswer)
       → IsRankAnswer b shut pivots empties a
       → SaysRanked a ↔ (HasSolution (rank_program b) × NothingTrips (rank_program b) pivots)
   pub none : (p : Program) (set : List ℕ) (strict : ℕ) (shut : List SymbolPlace) (pivots : ℕ)
-      (empties : List EmptyAnswer) (a : RankAnswer)
+      (empties : List GuardFeasibility) (a : RankAnswer)
       → IsValid p → IsRuleSet p set strict → AreEmptyAnswers p pivots empties
       → IsRankAnswer (ranked_set p set strict shut) shut pivots empties a
       → SaysNoRank a
       ↔ (NoRank (ranked_set p set strict shut) × NothingTrips (rank_program (ranked_set p set strict shut)) pivots
-      × (first_trip empties set ≡ None))
-  pub tripped : (b : RankedSet) (shut : List SymbolPlace) (pivots : ℕ) (empties : List EmptyAnswer) (a : RankAnswer)
+      × (first_limit_hit empties set ≡ None))
+  pub tripped : (b : RankedSet) (shut : List SymbolPlace) (pivots : ℕ) (empties : List GuardFeasibility) (a : RankAnswer)
       → IsRankAnswer b shut pivots empties a
       → SaysTripped a
       ↔ ((¬ NothingTrips (rank_program b) pivots)
-      ⊎ (NothingTrips (rank_program b) pivots × (¬ HasSolution (rank_program b)) × ¬ (first_trip empties b.set ≡ None)))
+      ⊎ (NothingTrips (rank_program b) pivots × (¬ HasSolution (rank_program b)) × ¬ (first_limit_hit empties b.set ≡ None)))
 
--- a `NoRank` answer has a gap with the set, the strict rule and the shut places that were handed in, and it holds
+-- a `NoRank` answer has a gap with the given set, strict rule and shut places, and it holds
 pub record FoundGapsHold : Type 0 where
   pub each : (p : Program) (set : List ℕ) (strict : ℕ) (shut : List SymbolPlace) (pivots : ℕ)
-      (empties : List EmptyAnswer) (g : Gap)
+      (empties : List GuardFeasibility) (g : Gap)
       → IsValid p → IsRuleSet p set strict → AreEmptyAnswers p pivots empties
       → IsRankAnswer (ranked_set p set strict shut) shut pivots empties (answers.NoRank g)
       → IsFoundGap p set strict shut (gap_of g)

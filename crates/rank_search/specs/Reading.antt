@@ -9,13 +9,13 @@ use Rattle.simplex_core.specs.linear_forms.QuestionLaws.{after, parameters_of, m
 use Rattle.poly_terms.specs.model.Programs.{Program, arity_of}
 use Rattle.poly_terms.specs.Views.{form_of}
 use Rattle.guard_prep.specs.declared.rule_rows.RuleRows.{RuleRows}
-use Rattle.proof_tree.specs.proof_nodes.Gaps.{SymbolPlace, is_shut}
-use Rattle.proof_tree.specs.proof_nodes.Nodes.{SymbolForm}
-use Rattle.proof_tree.specs.declared.answer.EmptyAnswer.{EmptyAnswer}
-use Rattle.proof_tree.specs.declared.gap.Gap.{Gap}
-use Rattle.proof_tree.specs.declared.rank.RankNode.{RankNode}
-use Rattle.proof_tree.specs.AnswerViews.{gap_of}
-use Rattle.proof_tree.specs.Views.{rank_of}
+use Rattle.cert_types.specs.cert_rules.Gaps.{SymbolPlace, is_shut}
+use Rattle.cert_types.specs.cert_rules.Nodes.{SymbolForm}
+use Rattle.cert_types.specs.declared.answer.GuardFeasibility.{GuardFeasibility}
+use Rattle.cert_types.specs.declared.gap.Gap.{Gap}
+use Rattle.cert_types.specs.declared.rank.RankNode.{RankNode}
+use Rattle.cert_types.specs.AnswerViews.{gap_of}
+use Rattle.cert_types.specs.Views.{rank_of}
 use Rattle.rule_questions.specs.RuleAnswers.{answer_for, point_in}
 use Rattle.rank_search.specs.RankAnswers.{points_of}
 
@@ -23,13 +23,13 @@ use Rattle.rank_search.specs.RankAnswers.{points_of}
 abbrev pub open_count : (ℕ → Bool) → ℕ → ℕ → ℕ
 open_count shut a n = length (filter (λ i. not (shut i)) (range_with_len a n))
 
--- the coefficients of n places from a on: the next parameter, from number k on, of one that isn't shut, else 0
+-- the coefficients of n places from a on: the next parameter, from number k on, for one that isn't shut, else 0
 abbrev pub read_coefs : (ℕ → Bool) → (ℕ → ℤ) → ℕ → ℕ → ℕ → List ℤ
 read_coefs shut v k a zero = []
 read_coefs shut v k a (suc n) =
     if shut a then pos 0 ∷ read_coefs shut v k (a + 1) n else v k ∷ read_coefs shut v (k + 1) (a + 1) n
 
--- the part of the function at a symbol, from parameter k on, by which places are shut: its places, and then its
+-- the form of the function at a symbol, from parameter k on, given which places are shut: its places, and then its
 -- constant
 abbrev pub form_by : (ℕ → ℕ → Bool) → Program → (ℕ → ℤ) → ℕ → ℕ → SymbolForm
 form_by closed p v k s = record {
@@ -57,35 +57,35 @@ shape_of (Some m) = record { unknowns = m.unknowns; rows = map form_of m.rows.it
 
 -- of the rule with a number; rules count from 1
 abbrev pub shape_at : List RuleRows → ℕ → Group
-shape_at preps zero = shape_of None
-shape_at preps (suc t) = shape_of (slice_get preps t)
+shape_at prepared_rules zero = shape_of None
+shape_at prepared_rules (suc t) = shape_of (slice_get prepared_rules t)
 
 -- the groups of a rank question, without goals: the rules of the set, and the strict rule for the floor
 abbrev pub shapes : List RuleRows → List ℕ → ℕ → List Group
-shapes preps set strict = map (shape_at preps) set ++ (shape_at preps strict ∷ [])
+shapes prepared_rules set strict = map (shape_at prepared_rules) set ++ (shape_at prepared_rules strict ∷ [])
 
--- the rules of a set and the one that has to decrease, and the places that are shut
+-- the rules of a set, the one that has to decrease, and the shut places
 pub record RankQuestion : Type 0 where
   pub set : List ℕ
   pub strict : ℕ
   pub shut : List SymbolPlace
 
--- the node is read off the numbers of a solution with so many parameters, over a denominator
-pub record IsNodeRead (p : Program) (preps : List RuleRows) (q : RankQuestion) (symbols : List ℕ) (parameters : ℕ)
+-- the node is read off the numbers of a solution with this many parameters, over a denominator
+pub record IsNodeRead (p : Program) (prepared_rules : List RuleRows) (q : RankQuestion) (symbols : List ℕ) (parameters : ℕ)
     (numbers : List ℤ) (den : ℕ) (node : RankNode) : Type 0 where
   pub numbered : (rank_of node).rule ≡ q.strict
   pub same_set : (rank_of node).set ≡ q.set
   pub over : (rank_of node).den ≡ den
   pub forms : (rank_of node).forms ≡ read_forms p q.shut (parameters_of (at numbers)) 0 symbols
   pub multipliers : (rank_of node).moves ++ ((rank_of node).floor ∷ [])
-      ≡ multipliers_by_group (after (2 * parameters) (at numbers)) (shapes preps q.set q.strict)
+      ≡ multipliers_by_group (after (2 * parameters) (at numbers)) (shapes prepared_rules q.set q.strict)
   pub unused : node.uses.items ≡ []
 
 -- the gap is read off the numbers of a dual, and keeps the points of the rules of the set
-pub record IsGapRead (preps : List RuleRows) (q : RankQuestion) (empties : List EmptyAnswer) (numbers : List ℤ)
+pub record IsGapRead (prepared_rules : List RuleRows) (q : RankQuestion) (empties : List GuardFeasibility) (numbers : List ℤ)
     (gap : Gap) : Type 0 where
   pub numbered : (gap_of gap).rule ≡ q.strict
   pub same_set : (gap_of gap).set ≡ q.set
   pub same_shut : (gap_of gap).shut ≡ q.shut
-  pub points : (gap_of gap).moves ++ ((gap_of gap).floor ∷ []) ≡ points_of (at numbers) (shapes preps q.set q.strict)
+  pub points : (gap_of gap).moves ++ ((gap_of gap).floor ∷ []) ≡ points_of (at numbers) (shapes prepared_rules q.set q.strict)
   pub kept : map (λ z. Some z) (gap_of gap).kept ≡ map (λ t. point_in (answer_for empties t)) q.set

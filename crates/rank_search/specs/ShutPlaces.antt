@@ -1,11 +1,11 @@
--- The places that are shut, as a set.
+-- The shut places, as a set.
 use Rattle.std.specs.Prelude.{◌≡◌, ℕ, Bool, List}
 use Rattle.std.specs.BTreeSet.{BTreeSet, contains}
 use Rattle.std.specs.declared.cmp.Ordering.{Ordering}
 use Rattle.std.specs.Ordering.{nat_cmp, ordering_then}
-use Rattle.proof_tree.specs.proof_nodes.Gaps.{SymbolPlace, is_shut}
+use Rattle.cert_types.specs.cert_rules.Gaps.{SymbolPlace, is_shut}
 
--- places stand in the order of symbols, and then of their numbers
+-- places are ordered by symbols, and then by their numbers
 abbrev pub place_cmp : ℕ × ℕ → ℕ × ℕ → Ordering
 place_cmp x y = ordering_then (nat_cmp x.0 y.0) (nat_cmp x.1 y.1)
 

@@ -1,4 +1,4 @@
-//! Where the coefficients of each symbol stand among all.
+//! The positions of each symbol's coefficients among all.
 
 ghost use Rattle.std.specs.Prelude.{◌≡◌, ◌<◌, ◌^◌, length, IfOk};
 ghost use Rattle.std.specs.List.{All};
@@ -15,7 +15,7 @@ pub(crate) struct Block {
     pub upto: u32,
 }
 
-/// Of each of so many symbols, a block in which all its coefficients stand. The time is linear in symbols and
+/// For each of this many symbols, a block that contains all its coefficients. The time is linear in symbols and
 /// coefficients.
 pub(crate) fn blocks_of(
     alloc: Global,

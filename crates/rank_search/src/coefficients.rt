@@ -1,4 +1,4 @@
-//! The coefficients of a function that is sought.
+//! The unknown coefficients of a function that is searched.
 
 ghost use Rattle.std.specs.Prelude.{◌≡◌, ◌++◌, map, IfOk, OnOk};
 ghost use Rattle.simplex_core.specs.linear_forms.RuleQuestions.{coefficients};
@@ -22,7 +22,7 @@ pub struct Coefficient {
 }
 
 /// The coefficients at these symbols: for each its places that aren't shut, and then its constant. The time is
-/// near-linear in their places and in those that are shut.
+/// near-linear in the places and the shut ones.
 pub(crate) fn coefficients_of(
     alloc: Global,
     p: &Program,

@@ -1,4 +1,4 @@
-//! The node that a solution of a rank question's linear program gives.
+//! Builds the node from a solution of a rank question's linear program.
 
 ghost use Rattle.std.specs.Prelude.{◌≡◌, ◌+◌, ◌*◌, ◌<◌, ◌≤◌, ◌^◌, [], ◌∷◌, length, map, IfOk, OnOk};
 ghost use Rattle.std.specs.List.{All};
@@ -8,7 +8,7 @@ ghost use Rattle.simplex_core.specs.linear_forms.Questions.{group_columns};
 ghost use Rattle.simplex_core.specs.linear_forms.QuestionLaws.{after, parameters_of, multipliers_by_group};
 ghost use Rattle.its_model.specs.Views.{program_of};
 ghost use Rattle.poly_terms.specs.model.Programs.{arity_of};
-ghost use Rattle.proof_tree.specs.Views.{form_of as part_of};
+ghost use Rattle.cert_types.specs.Views.{form_of as part_of};
 ghost use Rattle.simplex_core.specs.Scaling.{AreWithin};
 ghost use Rattle.rank_search.specs.ShutPlaces.{is_listed};
 ghost use Rattle.rule_questions.specs.ProgramQuestions.{places_of};
@@ -16,10 +16,10 @@ ghost use Rattle.rank_search.specs.Reading.{open_count, form_by, read_forms, sha
 
 use crate::coefficients::arity_at;
 use crate::shut::{is_among, shut_set};
+use cert_types::{Form, RankNode};
 use guard_prep::RuleRows;
 use its_model::Program;
 use poly_terms::Memory;
-use proof_tree::{Form, RankNode};
 use rule_questions::{multipliers_from, parameter_at};
 use simplex_core::Numerators;
 use std::alloc::Global;
@@ -30,7 +30,7 @@ use std::collections::BTreeSet;
 pub(crate) fn rank_node(
     alloc: Global,
     p: &Program,
-    preps: &[RuleRows],
+    prepared_rules: &[RuleRows],
     set: &[u32],
     strict: u32,
     shut: &[(u32, u32)],
@@ -43,16 +43,16 @@ pub(crate) fn rank_node(
     requires few_parameters { parameters < 2 ^ 30 }
     requires within { AreWithin certificate_limit (length solution.now.numbers.items) solution.now.numbers.items }
     requires den { solution.now.den ≤ certificate_limit }
-    requires room { 2 * parameters + group_columns (shapes preps.now set.now strict)
+    requires room { 2 * parameters + group_columns (shapes prepared_rules.now set.now strict)
         ≤ length solution.now.numbers.items }
-    ensures { IfOk result (λ node. IsNodeRead (program_of p.now) preps.now
+    ensures { IfOk result (λ node. IsNodeRead (program_of p.now) prepared_rules.now
         (record { set = set.now; strict = strict; shut = places_of shut.now }) symbols.now parameters
         solution.now.numbers.items solution.now.den node) }
 {
     let forms = forms_from(alloc, p, shut, symbols, &solution.numbers)?;
     let mut next = 2 * parameters;
-    let moves = moves_from(alloc, preps, set, &solution.numbers, &mut next)?;
-    let floor = rule_multipliers(alloc, preps, strict, &solution.numbers, next)?;
+    let moves = moves_from(alloc, prepared_rules, set, &solution.numbers, &mut next)?;
+    let floor = rule_multipliers(alloc, prepared_rules, strict, &solution.numbers, next)?;
     Ok(RankNode {
         rule: strict,
         set: Vec::from_slice(alloc, set)?,
@@ -127,19 +127,19 @@ fn form_from(
 // The multipliers of the rows of each rule of the set, from the next column on, which is then the one behind.
 fn moves_from(
     alloc: Global,
-    preps: &[RuleRows],
+    prepared_rules: &[RuleRows],
     set: &[u32],
     numbers: &[i64],
     next: &mut usize,
 ) -> Result<Vec<Vec<u64>>, Memory>
-    requires { next.old + group_columns (map (shape_at preps.now) set.now) ≤ length numbers.now }
+    requires { next.old + group_columns (map (shape_at prepared_rules.now) set.now) ≤ length numbers.now }
     ensures moves { IfOk result (λ moves. map (λ m. m.items) moves.items
-        ≡ multipliers_by_group (after next.old (at numbers.now)) (map (shape_at preps.now) set.now)) }
-    ensures next { OnOk result (next.new ≡ next.old + group_columns (map (shape_at preps.now) set.now)) }
+        ≡ multipliers_by_group (after next.old (at numbers.now)) (map (shape_at prepared_rules.now) set.now)) }
+    ensures next { OnOk result (next.new ≡ next.old + group_columns (map (shape_at prepared_rules.now) set.now)) }
 {
     let mut moves = Vec::new(alloc);
     for rule in set {
-        let multipliers = rule_multipliers(alloc, preps, *rule, numbers, *next)?;
+        let multipliers = rule_multipliers(alloc, prepared_rules, *rule, numbers, *next)?;
         *next += multipliers.len() + 1;
         moves.push(multipliers)?;
     }
@@ -149,27 +149,27 @@ fn moves_from(
 // The multipliers of the rows of a rule, from a column on.
 fn rule_multipliers(
     alloc: Global,
-    preps: &[RuleRows],
+    prepared_rules: &[RuleRows],
     rule: u32,
     numbers: &[i64],
     start: usize,
 ) -> Result<Vec<u64>, Memory>
-    requires { start + group_columns (shape_at preps.now rule ∷ []) ≤ length numbers.now }
+    requires { start + group_columns (shape_at prepared_rules.now rule ∷ []) ≤ length numbers.now }
     ensures { IfOk result (λ m. m.items ∷ []
-        ≡ multipliers_by_group (after start (at numbers.now)) (shape_at preps.now rule ∷ [])) }
+        ≡ multipliers_by_group (after start (at numbers.now)) (shape_at prepared_rules.now rule ∷ [])) }
 {
-    multipliers_from(alloc, numbers, start, rows_at(preps, rule))
+    multipliers_from(alloc, numbers, start, rows_at(prepared_rules, rule))
 }
 
 // How many rows a rule has; rules count from 1.
-fn rows_at(preps: &[RuleRows], rule: u32) -> usize
-    ensures { result ≡ length (shape_at preps.now rule).rows }
+fn rows_at(prepared_rules: &[RuleRows], rule: u32) -> usize
+    ensures { result ≡ length (shape_at prepared_rules.now rule).rows }
 {
     if rule == 0 {
         return 0;
     }
-    match preps.get(rule as usize - 1) {
-        Some(prep) => prep.rows.len(),
+    match prepared_rules.get(rule as usize - 1) {
+        Some(prepared_rule) => prepared_rule.rows.len(),
         None => 0,
     }
 }

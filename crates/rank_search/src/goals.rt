@@ -1,4 +1,4 @@
-//! The goals of a rule in a rank question: what it loses by each coefficient.
+//! The goals of a rule in a rank question: its decrease by each coefficient.
 
 ghost use Rattle.std.specs.Prelude.{◌≡◌, ◌<◌, ◌≤◌, ◌^◌, ◌||◌};
 ghost use Rattle.std.specs.Prelude.{max, nat_eq, [], length, map, IfOk, OnOk};
@@ -23,14 +23,14 @@ use poly_terms::Memory;
 use rule_questions::{constant_row, difference, unit_row};
 use std::alloc::Global;
 
-/// What is to follow in a group of a rank question.
+/// The goal of a group of a rank question.
 #[derive(Clone, Copy, Debug, PartialEq, Eq)]
 pub enum Part {
-    /// The rule loses nothing less than 0.
+    /// The function doesn't rise by the rule.
     Move,
-    /// It loses at least 1.
+    /// It falls by at least 1.
     Fall,
-    /// There is at least 1 before it.
+    /// It is at least 1 before the rule.
     Floor,
 }
 
@@ -41,51 +41,69 @@ pub(crate) fn goals_of(
     part: Part,
     source: u32,
     target: u32,
-    prep: &RuleRows,
+    prepared_rule: &RuleRows,
     coefficients: &[Coefficient],
     blocks: &[Block],
 ) -> Result<Vec<Goal>, Memory>
     requires few { length coefficients.now < 2 ^ 30 }
-    requires news { All (λ f. IsSmall (form_of f)) prep.now.news.items }
-    requires fit { All (λ c. length (goal_form part (forms_of source target (prepared_of prep.now))
-        (coefficient_of c)).coefs ≤ prep.now.unknowns) coefficients.now }
+    requires new_values { All (λ f. IsSmall (form_of f)) prepared_rule.now.new_values.items }
+    requires fit { All (λ c. length (goal_form part (forms_of source target (prepared_of prepared_rule.now))
+        (coefficient_of c)).coefs ≤ prepared_rule.now.unknowns) coefficients.now }
     requires blocks { AreBlocks (length coefficients.now) blocks.now coefficients.now }
     ensures goals { IfOk result (λ goals. goal_forms 0 (length coefficients.now) goals.items
-        ≡ map (λ c. goal_form part (forms_of source target (prepared_of prep.now)) (coefficient_of c))
+        ≡ map (λ c. goal_form part (forms_of source target (prepared_of prepared_rule.now)) (coefficient_of c))
         coefficients.now) }
     ensures listed { IfOk result (λ goals. AreParameters (length coefficients.now) goals.items) }
-    ensures writable { IfOk result (λ goals. All (λ g. IsWritable prep.now.unknowns (form_of g.form)) goals.items) }
+    ensures writable { IfOk result (λ goals. All (λ g. IsWritable prepared_rule.now.unknowns (form_of g.form)) goals.items) }
 {
     let own = block_of(blocks, source);
     let other = block_of(blocks, target);
     if own.first <= other.first {
-        goals_in(alloc, part, source, target, prep, coefficients, own, other)
+        goals_in(
+            alloc,
+            part,
+            source,
+            target,
+            prepared_rule,
+            coefficients,
+            own,
+            other,
+        )
     } else {
-        goals_in(alloc, part, source, target, prep, coefficients, other, own)
+        goals_in(
+            alloc,
+            part,
+            source,
+            target,
+            prepared_rule,
+            coefficients,
+            other,
+            own,
+        )
     }
 }
 
-// The goals of a rule, whose coefficients stand in two blocks, the second of which doesn't begin before the first.
+// The goals of a rule, whose coefficients are in two blocks, the second of which doesn't begin before the first.
 fn goals_in(
     alloc: Global,
     part: Part,
     source: u32,
     target: u32,
-    prep: &RuleRows,
+    prepared_rule: &RuleRows,
     coefficients: &[Coefficient],
     first: Block,
     second: Block,
 ) -> Result<Vec<Goal>, Memory>
     requires few { length coefficients.now < 2 ^ 30 }
-    requires news { All (λ f. IsSmall (form_of f)) prep.now.news.items }
-    requires fit { All (λ c. length (goal_form part (forms_of source target (prepared_of prep.now))
-        (coefficient_of c)).coefs ≤ prep.now.unknowns) coefficients.now }
+    requires new_values { All (λ f. IsSmall (form_of f)) prepared_rule.now.new_values.items }
+    requires fit { All (λ c. length (goal_form part (forms_of source target (prepared_of prepared_rule.now))
+        (coefficient_of c)).coefs ≤ prepared_rule.now.unknowns) coefficients.now }
     requires blocks { HoldGoals source target coefficients.now first second }
     ensures goals { IfOk result (λ goals. goal_forms 0 (length coefficients.now) goals.items
-        ≡ map (λ c. goal_form part (forms_of source target (prepared_of prep.now)) (coefficient_of c))
+        ≡ map (λ c. goal_form part (forms_of source target (prepared_of prepared_rule.now)) (coefficient_of c))
         coefficients.now) }
     ensures listed { IfOk result (λ goals. AreParameters (length coefficients.now) goals.items) }
-    ensures writable { IfOk result (λ goals. All (λ g. IsWritable prep.now.unknowns (form_of g.form)) goals.items) }
+    ensures writable { IfOk result (λ goals. All (λ g. IsWritable prepared_rule.now.unknowns (form_of g.form)) goals.items) }
 {
     let behind = block_behind(first, second);
     let mut goals = Vec::new(alloc);
@@ -95,7 +113,7 @@ fn goals_in(
         part,
         source,
         target,
-        prep,
+        prepared_rule,
         coefficients,
         first,
     )?;
@@ -105,14 +123,14 @@ fn goals_in(
         part,
         source,
         target,
-        prep,
+        prepared_rule,
         coefficients,
         behind,
     )?;
     Ok(goals)
 }
 
-// What of the second block stands behind the first.
+// The part of the second block behind the first.
 fn block_behind(first: Block, second: Block) -> Block
     ensures first { result.first ≡ max first.upto second.first }
     ensures upto { result.upto ≡ max second.upto result.first }
@@ -131,26 +149,26 @@ fn push_goals(
     part: Part,
     source: u32,
     target: u32,
-    prep: &RuleRows,
+    prepared_rule: &RuleRows,
     coefficients: &[Coefficient],
     block: Block,
 ) -> Result<(), Memory>
     requires few { length coefficients.now < 2 ^ 30 }
-    requires news { All (λ f. IsSmall (form_of f)) prep.now.news.items }
-    requires fit { All (λ c. length (goal_form part (forms_of source target (prepared_of prep.now))
-        (coefficient_of c)).coefs ≤ prep.now.unknowns) coefficients.now }
+    requires new_values { All (λ f. IsSmall (form_of f)) prepared_rule.now.new_values.items }
+    requires fit { All (λ c. length (goal_form part (forms_of source target (prepared_of prepared_rule.now))
+        (coefficient_of c)).coefs ≤ prepared_rule.now.unknowns) coefficients.now }
     requires ordered { block.first ≤ block.upto }
     requires below { block.upto ≤ length coefficients.now }
-    requires before { AreGoalsUpTo part (forms_of source target (prepared_of prep.now)) coefficients.now block.first
+    requires before { AreGoalsUpTo part (forms_of source target (prepared_of prepared_rule.now)) coefficients.now block.first
         goals.old.items }
-    ensures { OnOk result (AreGoalsUpTo part (forms_of source target (prepared_of prep.now)) coefficients.now block.upto
+    ensures { OnOk result (AreGoalsUpTo part (forms_of source target (prepared_of prepared_rule.now)) coefficients.now block.upto
         goals.new.items) }
 {
     for parameter in block.first..block.upto {
         let c = coefficients[parameter as usize];
         let counts = concerns(c, source, target);
         if counts {
-            let form = goal_of(alloc, part, source, target, prep, c)?;
+            let form = goal_of(alloc, part, source, target, prepared_rule, c)?;
             goals.push(Goal { parameter, form })?;
         }
     }
@@ -170,25 +188,25 @@ fn goal_of(
     part: Part,
     source: u32,
     target: u32,
-    prep: &RuleRows,
+    prepared_rule: &RuleRows,
     c: Coefficient,
 ) -> Result<Row, Memory>
-    requires { All (λ f. IsSmall (form_of f)) prep.now.news.items }
+    requires { All (λ f. IsSmall (form_of f)) prepared_rule.now.new_values.items }
     ensures same { IfOk result (λ row. form_of row
-        ≡ goal_form part (forms_of source target (prepared_of prep.now)) (coefficient_of c)) }
+        ≡ goal_form part (forms_of source target (prepared_of prepared_rule.now)) (coefficient_of c)) }
     ensures small { IfOk result (λ row. IsDifferenceSmall (form_of row)) }
 {
     let before = row_before(alloc, source, c)?;
     match part {
         Part::Floor => Ok(before),
-        Part::Move | Part::Fall => less_after(alloc, before, target, prep, c),
+        Part::Move | Part::Fall => less_after(alloc, before, target, prepared_rule, c),
     }
 }
 
-// What a coefficient is multiplied by before a rule that comes from this symbol.
+// The form by which a coefficient is multiplied before a rule that leaves this symbol.
 fn row_before(alloc: Global, source: u32, c: Coefficient) -> Result<Row, Memory>
     ensures same { IfOk result (λ row. form_of row
-        ≡ at_source (record { source = source; target = 0; left = 0; unknowns = 0; rows = []; news = [] })
+        ≡ at_source (record { source = source; target = 0; left = 0; unknowns = 0; rows = []; new_values = [] })
         (coefficient_of c)) }
     ensures small { IfOk result (λ row. IsSmall (form_of row)) }
 {
@@ -201,19 +219,19 @@ fn row_before(alloc: Global, source: u32, c: Coefficient) -> Result<Row, Memory>
     unit_row(alloc, c.place - 1)
 }
 
-// A form less what a coefficient is multiplied by after the rule.
+// A form minus the one by which a coefficient is multiplied after the rule.
 fn less_after(
     alloc: Global,
     before: Row,
     target: u32,
-    prep: &RuleRows,
+    prepared_rule: &RuleRows,
     c: Coefficient,
 ) -> Result<Row, Memory>
-    requires news { All (λ f. IsSmall (form_of f)) prep.now.news.items }
+    requires new_values { All (λ f. IsSmall (form_of f)) prepared_rule.now.new_values.items }
     requires before { IsSmall (form_of before) }
     ensures same { IfOk result (λ row. form_of row
         ≡ form_sum (form_of before)
-        (opposite (at_target (forms_of 0 target (prepared_of prep.now)) (coefficient_of c)))) }
+        (opposite (at_target (forms_of 0 target (prepared_of prepared_rule.now)) (coefficient_of c)))) }
     ensures small { IfOk result (λ row. IsDifferenceSmall (form_of row)) }
 {
     if c.symbol != target {
@@ -223,10 +241,10 @@ fn less_after(
         return difference(alloc, &before, &constant_row(alloc, 1));
     }
     let position = c.place as usize - 1;
-    if position >= prep.news.len() {
+    if position >= prepared_rule.new_values.len() {
         return Ok(before);
     }
-    let after = &prep.news[position];
+    let after = &prepared_rule.new_values[position];
     difference(alloc, &before, after)
 }
 

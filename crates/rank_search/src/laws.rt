@@ -1,23 +1,23 @@
-//! What the answers on ranking functions are worth.
+//! What the answers on ranking functions prove.
 
 ghost use Rattle.rank_search.specs.OneAnswer.{RankAnswersAreOne};
 ghost use Rattle.rank_search.specs.RankLaws.{RankedNodesRank, RankedNodesAreAccepted, RankAnswersAreExact};
 ghost use Rattle.rank_search.specs.RankLaws.{FoundGapsHold};
 
-/// A node that is read off a solution of a rank question's linear program holds a function that looks at no shut place
-/// and ranks the rule, on all rational points; and where each rule of the set has a point, none that does weighs less.
-/// It has no code, as all functions here: its contract is the law.
+/// A node that is read off a solution of a rank question's linear program holds a function that ranks the rule, with
+/// coefficient 0 at every shut place, on all rational points; and where each rule of the set has a point, no such
+/// function weighs less. The function has no code, as all functions here: its contract is the law.
 pub fn ranked_nodes_rank()
     ensures { RankedNodesRank }
 {}
 
-/// Such a node is accepted once the facts that it needs are there: a time of each entry of its set, and the sizes there
-/// at which the function looks, which compose a small bound.
+/// Such a node is accepted once its premises are available: a time of each entry of its set, and the sizes there that
+/// the function reads, which compose a small bound.
 pub fn ranked_nodes_are_accepted()
     ensures { RankedNodesAreAccepted }
 {}
 
-/// Which function ranks a rule of a set is answered in one way within a number of pivots: which answer it is, its node,
+/// There is one answer on which function ranks a rule of a set, within a number of pivots: the answer's kind, its node,
 /// its gap and its trip are determined.
 pub fn rank_answers_are_one()
     ensures { RankAnswersAreOne }
@@ -30,8 +30,8 @@ pub fn rank_answers_are_exact()
     ensures { RankAnswersAreExact }
 {}
 
-/// The gap of an answer `NoRank` has the set, the strict rule and the shut places that were handed in, and it holds: by
-/// its own numbers it shows that no function ranks the rule.
+/// The gap of an answer `NoRank` has the given set, strict rule and shut places, and it holds: its own numbers show
+/// that no function ranks the rule.
 pub fn found_gaps_hold()
     ensures { FoundGapsHold }
 {}

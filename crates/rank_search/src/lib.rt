@@ -1,8 +1,10 @@
-//! The searches for ranking functions: whether the rows of a rule have a point, and which function ranks a rule of a
-//! set.
-//! Contract to the layer above: each answer is exact. What an answer on emptiness says is said by `rule_questions`,
-//! which linear programs are solved by `linear_forms`, what their answers are worth by `rule_forms`, and what trips
-//! them by `simplex_core`.
+//! Searches for ranking functions by linear programming: whether the rows of a rule have a rational point, and which
+//! affine function of least weight ranks a rule over a set of rules.
+//!
+//! Builds on `simplex_core` (which solves the linear programs) and `rule_questions` (which sets them up). Main
+//! guarantee: each answer comes exactly in its case. `rule_questions` says what an answer on emptiness means,
+//! `linear_forms` which linear programs are solved, `rule_forms` what their answers prove, and `simplex_core` which
+//! limits they can exceed.
 #![tactic(auto)]
 
 mod answer;
@@ -19,7 +21,7 @@ mod shut;
 mod symbols;
 
 pub use answer::RankAnswer;
-pub use emptiness::find_empty;
+pub use emptiness::guard_feasibility;
 pub use laws::{
     found_gaps_hold, rank_answers_are_exact, rank_answers_are_one, ranked_nodes_are_accepted,
     ranked_nodes_rank,

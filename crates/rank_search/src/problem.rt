@@ -1,4 +1,4 @@
-//! The problem of a rank question, group by group.
+//! Builds the problem of a rank question, group by group.
 
 ghost use Rattle.std.specs.Prelude.{◌≡◌, ◌<◌, ◌+◌, ◌^◌, nat_eq, if◌then◌else◌, length};
 ghost use Rattle.std.specs.Prelude.{map, slice_index_or, false, IfOk};
@@ -7,8 +7,8 @@ ghost use Rattle.its_model.specs.Valid.{IsValid};
 ghost use Rattle.its_model.specs.Views.{program_of};
 ghost use Rattle.poly_terms.specs.model.Programs.{rule_at};
 ghost use Rattle.lp_builder.specs.Builders.{parameter_count, row_count, column_count, AtRowStart, Adds};
-ghost use Rattle.proof_tree.specs.proof_nodes.AcceptsPlain.{IsRule};
-ghost use Rattle.proof_tree.specs.Composing.{AreRowsOf};
+ghost use Rattle.cert_types.specs.cert_rules.AcceptsPlain.{IsRule};
+ghost use Rattle.cert_types.specs.Composing.{AreRowsOf};
 ghost use Rattle.rank_search.specs.Blocks.{AreBlocks};
 ghost use Rattle.rank_search.specs.Coefficients.{coefficient_of, AreCoefficients};
 ghost use Rattle.rank_search.specs.Goals.{part_group, part_for, Fits};
@@ -31,14 +31,14 @@ use std::alloc::Global;
 pub(crate) fn rank_problem(
     alloc: Global,
     p: &Program,
-    preps: &[RuleRows],
+    prepared_rules: &[RuleRows],
     set: &[u32],
     strict: u32,
     shut: &[(u32, u32)],
     coefficients: &[Coefficient],
 ) -> Result<Problem, Memory>
     requires valid { IsValid (program_of p.now) }
-    requires rows { AreRowsOf preps.now (program_of p.now) }
+    requires rows { AreRowsOf prepared_rules.now (program_of p.now) }
     requires rules { IsRuleSet (program_of p.now) set.now strict }
     requires coefficients { AreCoefficients
         (ranked_set (program_of p.now) set.now strict (places_of shut.now)) coefficients.now }
@@ -56,7 +56,7 @@ pub(crate) fn rank_problem(
             &mut builder,
             part,
             p,
-            preps,
+            prepared_rules,
             *rule,
             coefficients,
             &blocks,
@@ -67,7 +67,7 @@ pub(crate) fn rank_problem(
         &mut builder,
         Part::Floor,
         p,
-        preps,
+        prepared_rules,
         strict,
         coefficients,
         &blocks,
@@ -75,7 +75,7 @@ pub(crate) fn rank_problem(
     builder.finish(alloc, &costs)
 }
 
-// What is to follow of a rule of the set.
+// The goal for a rule of the set.
 fn part_of(rule: u32, strict: u32) -> Part
     ensures { result ≡ part_for (nat_eq rule strict) }
 {
@@ -92,13 +92,13 @@ fn add_part(
     builder: &mut Builder,
     part: Part,
     p: &Program,
-    preps: &[RuleRows],
+    prepared_rules: &[RuleRows],
     rule: u32,
     coefficients: &[Coefficient],
     blocks: &[Block],
 ) -> Result<(), Memory>
     requires valid { IsValid (program_of p.now) }
-    requires rows { AreRowsOf preps.now (program_of p.now) }
+    requires rows { AreRowsOf prepared_rules.now (program_of p.now) }
     requires rule { IsRule (program_of p.now) rule }
     requires ready { AtRowStart builder.old }
     requires few { length coefficients.now < 2 ^ 30 }
@@ -111,13 +111,21 @@ fn add_part(
         (part_group part (forms_in (rule_at (program_of p.now) rule)) (map coefficient_of coefficients.now))) }
 {
     let r = &p.rules[rule as usize - 1];
-    let prep = &preps[rule as usize - 1];
-    let goals = goals_of(alloc, part, r.source, r.target, prep, coefficients, blocks)?;
+    let prepared_rule = &prepared_rules[rule as usize - 1];
+    let goals = goals_of(
+        alloc,
+        part,
+        r.source,
+        r.target,
+        prepared_rule,
+        coefficients,
+        blocks,
+    )?;
     let fixed = fixed_row(alloc, part);
-    builder.add_group(prep.unknowns, &prep.rows, &goals, &fixed)
+    builder.add_group(prepared_rule.unknowns, &prepared_rule.rows, &goals, &fixed)
 }
 
-// What each coefficient costs.
+// The cost of each coefficient.
 fn costs_of(
     alloc: Global,
     coefficients: &[Coefficient],
@@ -147,7 +155,7 @@ fn is_marked(entered: &[bool], symbol: u32) -> bool
     }
 }
 
-// What a coefficient costs: a place of an entered symbol by its size, and the constant of one by its height.
+// The cost of a coefficient: a place of an entered symbol has a size, and its constant a height.
 fn cost_of(c: Coefficient, is_entered: bool) -> Cost
     ensures size { result.size ≡ (if is_entered then (if nat_eq c.place 0 then 0 else 1) else 0) }
     ensures height { result.height ≡ (if is_entered then (if nat_eq c.place 0 then 1 else 0) else 0) }

@@ -1,4 +1,4 @@
-//! The places that are shut, to be looked up.
+//! The shut places, for look-up.
 
 ghost use Rattle.std.specs.Prelude.{◌≡◌, IfOk};
 ghost use Rattle.rank_search.specs.ShutPlaces.{is_listed, HasShut};

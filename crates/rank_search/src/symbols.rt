@@ -1,20 +1,20 @@
-//! The symbols of a set of rules, and those that are entered.
+//! Lists the symbols of a set of rules, and those that are entered.
 
 ghost use Rattle.std.specs.Prelude.{◌≡◌, ℕ, ◌<◌, ◌-◌, ◌^◌, ◌||◌, Bool, length, map, filter, replicate, IfOk, Some};
 ghost use Rattle.std.specs.Prelude.{None};
 ghost use Rattle.std.specs.List.{range_with_len};
 ghost use Rattle.its_model.specs.Views.{program_of};
 ghost use Rattle.poly_terms.specs.model.Paths.{same_symbol};
-ghost use Rattle.proof_tree.specs.proof_nodes.Graph.{symbols_of};
+ghost use Rattle.cert_types.specs.cert_rules.Graph.{symbols_of};
 ghost use Rattle.rank_search.specs.Marks.{AreMarks};
 ghost use Rattle.rule_questions.specs.ProgramQuestions.{is_entered};
 
+use cert_types::{entries, source_of, target_of};
 use its_model::Program;
 use poly_terms::Memory;
-use proof_tree::{entries, source_of, target_of};
 use std::alloc::Global;
 
-/// The symbols from which or to which a rule of the set leads, in order. The time is linear in symbols and rules.
+/// The sources and targets of the rules of the set, in order. The time is linear in symbols and rules.
 pub(crate) fn symbols_of_set(alloc: Global, p: &Program, set: &[u32]) -> Result<Vec<u32>, Memory>
     ensures { IfOk result (λ symbols. symbols.items ≡ symbols_of (program_of p.now) set.now) }
 {

@@ -1,4 +1,4 @@
-//! The answer to a line: a call, and behind a blank the text that is read, written shortly.
+//! The answer to a line: a call, and behind a blank the text that is read, in a short notation.
 
 use crate::beginnings::{beginnings, beginnings_read};
 use crate::changed::{bytes_changed, tokens_changed};
@@ -12,14 +12,12 @@ use crate::writing::{Frame, Writing, text_of};
 use model::Memory;
 use std::alloc::Global;
 
-/// What a line asks for.
-///
-/// `rules` and `whole` are followed by rules or by a whole text, and answered by what reading it comes to; so are
-/// `long` and `long-whole`, where a program is answered by `read`. `beginnings`, `read-beginnings`, `tokens` and
-/// `bytes` read a text again and again, and `guard` a long one. `run`, `placeless-run`, `steps` and `run-beginnings`
-/// read run files, `replay` replays one, and `proof` and `count-proof` read a proof file. `print` is followed by rules
-/// and `whole-print` by a whole text, and answered by the canonical text; `generate` by a number, and answered by the
-/// text of the generated program.
+/// Answers a line. `rules` and `whole` are followed by rules or by a whole text, and answered by the result of reading
+/// it; so are `long` and `long-whole`, where a program is answered by `read`. `beginnings`, `read-beginnings`, `tokens`
+/// and `bytes` read a text again and again, and `guard` a long one. `run`, `placeless-run`, `steps` and
+/// `run-beginnings` read run files, `replay` replays one, and `proof` and `count-proof` read a proof file. `print` is
+/// followed by rules and `whole-print` by a whole text, and answered by the canonical text; `generate` by a number, and
+/// answered by the text of the generated program.
 pub(crate) fn answer(alloc: Global, line: &str) -> Result<String, Memory> {
     let Some((call, rest)) = line.split_once(' ') else {
         return String::from_str(alloc, line);

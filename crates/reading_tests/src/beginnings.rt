@@ -4,7 +4,7 @@ use crate::outcomes::{Outcome, outcome_of};
 use model::Memory;
 use std::alloc::Global;
 
-// What a beginning comes to: a refusal, with its byte where it isn't the end.
+// The result of a beginning: a refusal, with its byte where it isn't the end.
 fn outcome_text(alloc: Global, text: &[u8]) -> Result<String, Memory> {
     match outcome_of(alloc, text)? {
         Outcome::Program(_) => String::from_str(alloc, "read"),
@@ -15,7 +15,7 @@ fn outcome_text(alloc: Global, text: &[u8]) -> Result<String, Memory> {
     }
 }
 
-// Adds what beginnings up to so many bytes come to.
+// Adds what beginnings up to this many bytes come to.
 fn add(alloc: Global, all: &mut String, length: usize, words: &str) -> Result<(), Memory> {
     let separator = if all.is_empty() { "" } else { ", " };
     all.push_str(format!(in alloc; "{separator}{length}: {words}")?.as_str())

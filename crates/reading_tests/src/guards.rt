@@ -4,7 +4,7 @@ use crate::writing::{Writing, number_of};
 use model::Memory;
 use std::alloc::Global;
 
-// So many minuses, and a number behind them.
+// This many minuses, and a number behind them.
 fn push_side(text: &mut Vec<u8>, minuses: usize) -> Result<(), Memory> {
     for _ in 0..minuses {
         text.push(b'-')?;
@@ -13,7 +13,7 @@ fn push_side(text: &mut Vec<u8>, minuses: usize) -> Result<(), Memory> {
     Ok(())
 }
 
-/// A rule whose guard has so many atoms with 1,024 tokens a side, and so many more in the last side.
+/// A rule whose guard has this many atoms with 1,024 tokens a side, and this many more in the last side.
 pub(crate) fn guard(alloc: Global, numbers: &str) -> Result<Writing, Memory> {
     let (atoms, more) = numbers.split_once(' ').unwrap_or(("0", "0"));
     let atoms = number_of(atoms.as_bytes());

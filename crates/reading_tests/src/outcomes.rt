@@ -1,4 +1,4 @@
-//! What reading a text comes to: the program, with expressions before their operands, or the refusal.
+//! The result of reading a text: the program, with expressions in prefix notation, or the refusal.
 
 use itoa::Buffer;
 use its_model::{Atom, Name, Program, Rel, Rule};
@@ -7,16 +7,16 @@ use model::Memory;
 use poly_terms::Expr;
 use std::alloc::{AllocError, Global};
 
-/// What reading comes to.
+/// The result of reading.
 #[derive(Drop)]
 pub(crate) enum Outcome {
     /// The symbols, the start and the rules.
     Program(String),
-    /// What stands against the text, and at which byte.
+    /// The first fault of the text, and its byte.
     Refused(&'static str, u64),
 }
 
-/// What reading a text comes to.
+/// The result of reading a text.
 pub(crate) fn outcome_of(alloc: Global, text: &[u8]) -> Result<Outcome, Memory> {
     match read(alloc, text) {
         Ok(program) => {

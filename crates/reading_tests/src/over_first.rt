@@ -4,11 +4,11 @@ ghost use Rattle.std.specs.Prelude.{◌≡◌, true, map};
 ghost use Rattle.std.specs.List.{All};
 ghost use Rattle.bound_expr.specs.Numbers.{ReadsBelow, AllReadBelow};
 ghost use Rattle.bound_expr.specs.Views.{bound_of, bounds_of, parts_of};
-ghost use Rattle.proof_tree.specs.Views.{proof_of, uses_of};
-ghost use Rattle.proof_text.specs.OverFirst.{AreOverFirst, IsOverFirst};
+ghost use Rattle.cert_types.specs.Views.{proof_of, uses_of};
+ghost use Rattle.cert_text.specs.OverFirst.{AreOverFirst, IsOverFirst};
 
 use bound_expr::Bound;
-use proof_tree::Proof;
+use cert_types::Proof;
 
 // Whether each variable of a bound is below n.
 #[cycle(read_bounds)]

@@ -6,14 +6,14 @@ ghost use Rattle.its_model.specs.Views.{program_of};
 use crate::over_first::are_over_first;
 use crate::runs::bytes_of;
 use crate::writing::{Frame, text_of};
+use cert_text::{ProofTextError, print, read as read_proof};
+use cert_types::ProofFile;
 use its_model::Program;
 use its_reader::read;
 use model::Memory;
-use proof_text::{ProofTextError, print, read as read_proof};
-use proof_tree::ProofFile;
 use std::alloc::{AllocError, Global};
 
-/// What is told of a file that was read.
+/// Which facts of a file are written.
 #[derive(Clone, Copy)]
 pub(crate) enum Told {
     /// How many lemmas and gaps it has.
@@ -22,8 +22,8 @@ pub(crate) enum Told {
     Print,
 }
 
-/// What reading a proof file of a program comes to: what is told of it, or the refusal. Where the program's text is
-/// refused it is no program.
+/// The result of reading a proof file of a program: facts of the file, or the refusal. Where the program's text is
+/// refused there is no program.
 pub(crate) fn proved(alloc: Global, line: &str, told: Told) -> Result<String, Memory> {
     match line.split_once(';') {
         Some((rules, proof)) => {
@@ -51,7 +51,7 @@ fn answer(alloc: Global, program: &Program, proof: &[u8], told: Told) -> Result<
     }
 }
 
-// What is told of a file that was read from these bytes.
+// The facts of a file that was read from these bytes.
 fn taken(
     alloc: Global,
     program: &Program,

@@ -8,9 +8,9 @@ use model::Memory;
 use run_replay::{ReplayError, Tally, read_run, replay};
 use std::alloc::{AllocError, Global};
 
-/// What replaying a run of a program comes to: how many steps it has, and for each rule how often it occurs and the
-/// greatest absolute values after it; or the first bad step. Where the program's text is refused it is no program, and
-/// where the run's is, no run.
+/// The result of replaying a run of a program: how many steps it has, and for each rule how often it occurs and the
+/// greatest absolute values after it; or the first bad step. Where the program's text is refused there is no program,
+/// and where the run's is, no run.
 pub(crate) fn replayed(alloc: Global, line: &str) -> Result<String, Memory> {
     match line.split_once(';') {
         Some((rules, run)) => {

@@ -14,7 +14,7 @@ const PROGRAM: &[u8] =
 // No start place.
 const PLACELESS: &[u8] = b"(STARTTERM (FUNCTIONSYMBOLS l0))(RULES l0() -> Com_1(l0()))";
 
-/// What reading a whole text comes to: the start values and the steps, or the refusal.
+/// The result of reading a whole text: the start values and the steps, or the refusal.
 pub(crate) fn run(alloc: Global, text: &str) -> Result<String, Memory> {
     answer(alloc, PROGRAM, &bytes_of(alloc, "", text)?)
 }
@@ -49,7 +49,7 @@ pub(crate) fn run_beginnings(alloc: Global, text: &str) -> Result<String, Memory
     format!(in alloc; "{early} of {}", bytes.len())
 }
 
-// The byte that stands in the text for one of the line.
+// The byte of the text that a byte of the line represents.
 fn meant(byte: u8) -> u8 {
     match byte {
         b'|' => b'\n',

@@ -1,14 +1,14 @@
-//! Texts that are written shortly.
+//! Texts in a short notation.
 //!
-//! In a text `%3:A#,%` stands for `A0,A1,A2,`, an `@` stands before the byte that a refusal is to name, and behind a
-//! backquote a byte stands as two hexadecimal digits.
+//! `%3:A#,%` represents `A0,A1,A2,`, an `@` precedes the byte that a refusal is to name, and behind a backquote a byte
+//! is written as two hexadecimal digits.
 
 use itoa::Buffer;
 use model::Memory;
 use std::alloc::Global;
 use text_core::digits_len;
 
-/// A text that is being made, and the byte that was marked in it.
+/// A text under construction, and the byte that was marked in it.
 #[derive(Drop)]
 pub(crate) struct Writing {
     pub text: Vec<u8>,
@@ -24,7 +24,7 @@ fn digit(byte: u8) -> u8 {
     }
 }
 
-// Bytes as they stand, but for the mark and for those that stand as digits.
+// Bytes as they are, but for the mark and for those that are written as digits.
 fn push_plain(made: &mut Writing, written: &[u8]) -> Result<(), Memory> {
     let mut rest = written;
     for _ in 0..written.len() {
@@ -72,7 +72,7 @@ pub(crate) fn number_of(digits: &[u8]) -> usize {
     count
 }
 
-// A part again and again; it stands behind a count and a colon.
+// A part, repeated; it follows a count and a colon.
 fn push_repeated(text: &mut Vec<u8>, written: &[u8]) -> Result<(), Memory> {
     let (digits, behind) = written.split_at(digits_len(written));
     if let Some((_, part)) = behind.split_first() {
@@ -83,7 +83,7 @@ fn push_repeated(text: &mut Vec<u8>, written: &[u8]) -> Result<(), Memory> {
     Ok(())
 }
 
-/// What stands about a text.
+/// The text around a text.
 #[derive(Clone, Copy)]
 pub(crate) enum Frame {
     /// Nothing.
@@ -92,7 +92,7 @@ pub(crate) enum Frame {
     Rules,
 }
 
-// What stands before a text, and behind it.
+// The text before a text, and the one behind it.
 fn frame_of(frame: Frame) -> (&'static [u8], &'static [u8]) {
     match frame {
         Frame::Whole => (b"", b""),

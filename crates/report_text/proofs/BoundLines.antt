@@ -1,4 +1,4 @@
--- The text of a bound stands in one line, and tells the bound.
+-- The text of a bound is within one line, and determines the bound.
 use Rattle.std.proofs.Common.{◌≡◌, ℕ, zero, suc, true, List, [], ◌∷◌, ◌++◌, length, drop, slice_index_or, codes, refl}
 use Rattle.std.proofs.Common.{sym, ◌∙◌, ap, append_assoc}
 use Rattle.std.specs.List.{list_all}
@@ -38,7 +38,7 @@ listed_plain (n ∷ names) are zero = name_plain n are.0
 listed_plain (n ∷ names) are (suc i) = listed_plain names are.2 i
 
 module _ (names : List Name) (are : AreNames names) where
-  -- so is a piece
+  -- the same for a piece
   piece_plain : (piece : Piece) → list_all is_plain (spelled names piece) ≡ true
   piece_plain (Variable i) = listed_plain names are i
   piece_plain (Number n) = all_plain n

@@ -1,11 +1,11 @@
--- Lists with commas between their elements tell them.
+-- Lists with commas between their elements are determined by their texts.
 use Rattle.std.proofs.Common.{◌≡◌, ℕ, ◌<◌, Bool, true, false, ◌||◌, ◌==◌, List, [], ◌∷◌, ◌++◌, length, map, drop, codes}
 use Rattle.std.proofs.Common.{refl, sym, ◌∙◌, ap, subst, append_assoc, arith}
 use Rattle.std.specs.List.{list_all, AllByRecursion}
 use Rattle.std.proofs.lemmas.Bool.{and_parts}
 use Rattle.its_model.proofs.text_core.PrefixLaws.{Stops}
 use Rattle.report_text.specs.Pieces.{with_commas_before, with_commas}
-use Rattle.report_text.proofs.TellingTexts.{Tells}
+use Rattle.report_text.proofs.TellingTexts.{Determines}
 use Rattle.report_text.proofs.Digits.{counts}
 
 -- the bytes of lists of numbers
@@ -34,9 +34,9 @@ no_byte u (c ∷ x) w s some all e =
     let g : true ≡ false = ap (λ (b : Bool). b || (c == 44)) (sym is) ∙ h in
     cc
 
-module _ {X : Type 0} {Fits : X → Type 0} {text : X → List ℕ} (told : Tells Fits text (Stops counts)) (counted : (x : X) → list_all counts (text x) ≡ true)
+module _ {X : Type 0} {Fits : X → Type 0} {text : X → List ℕ} (determined : Determines Fits text (Stops counts)) (counted : (x : X) → list_all counts (text x) ≡ true)
     (some : (x : X) → Fits x → 0 < length (text x)) where
-  -- an element ends where the next one or the end of the list stands
+  -- an element ends where the next one begins or the list ends
   ends : (xs : List X) (u : List ℕ) → Stops lists u → Stops counts (with_commas_before (map text xs) ++ u)
   ends [] u s = stops_number u s
   ends (x ∷ xs) u s = refl
@@ -48,7 +48,7 @@ module _ {X : Type 0} {Fits : X → Type 0} {text : X → List ℕ} (told : Tell
   more_told [] (y ∷ ys) u v p q s t e = absurd (no_comma u _ s e)
   more_told (x ∷ xs) [] u v p q s t e = absurd (no_comma v _ t (sym e))
   more_told (x ∷ xs) (y ∷ ys) u v p q s t e =
-      let r = told.each x y (with_commas_before (map text xs) ++ u) (with_commas_before (map text ys) ++ v) p.0 q.0 (ends xs u s) (ends ys v t)
+      let r = determined.each x y (with_commas_before (map text xs) ++ u) (with_commas_before (map text ys) ++ v) p.0 q.0 (ends xs u s) (ends ys v t)
       (sym (append_assoc (text x) (with_commas_before (map text xs)) u) ∙ (ap (drop 2) e ∙ append_assoc (text y) (with_commas_before (map text ys)) v)) in
       let l = more_told xs ys u v p.1 q.1 s t r.1 in
       (λ i. r.0 i ∷ l.0 i, l.1)
@@ -63,6 +63,6 @@ module _ {X : Type 0} {Fits : X → Type 0} {text : X → List ℕ} (told : Tell
       absurd (no_byte v (text x) (with_commas_before (map text xs) ++ u) t (some x p.0) (counted x) (sym e ∙ append_assoc (text x) (with_commas_before (map text xs)) u))
   all_told (x ∷ xs) (y ∷ ys) u v p q s t e = more_told (x ∷ xs) (y ∷ ys) u v p q s t (ap (λ (w : List ℕ). codes ", " ++ w) e)
 
-  -- a list is told by its text
-  pub list_told : Tells (AllByRecursion Fits) (λ xs. with_commas (map text xs)) (Stops lists)
-  list_told = record { each = all_told }
+  -- a list is determined by its text
+  pub list_determined : Determines (AllByRecursion Fits) (λ xs. with_commas (map text xs)) (Stops lists)
+  list_determined = record { each = all_told }

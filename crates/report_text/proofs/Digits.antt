@@ -1,4 +1,4 @@
--- Numbers in a text: their digits tell them.
+-- Numbers are determined by their digits.
 use Rattle.std.proofs.Common.{◌≡◌, ℕ, zero, suc, ◌/◌, ◌%◌, ◌<◌, Bool, true, false, cond, not, ◌||◌, ◌==◌, List, [], ◌∷◌}
 use Rattle.std.proofs.Common.{length, drop, ℤ, pos, negsuc, decimal, refl, sym, ap, subst, arith, eqb}
 use Rattle.std.specs.List.{list_all}
@@ -9,7 +9,7 @@ use Rattle.std.proofs.lemmas.Bool.{and_parts}
 use Rattle.std.proofs.lemmas.Bool.Decides.{nat_tests}
 use Rattle.its_model.proofs.text_core.PrefixLaws.{Stops}
 use Rattle.report_text.specs.Printable.{IsShort, IsShortSigned}
-use Rattle.report_text.proofs.TellingTexts.{Tells, same_front}
+use Rattle.report_text.proofs.TellingTexts.{Determines, same_front}
 
 -- the bytes of numbers with a sign
 abbrev pub counts : ℕ → Bool
@@ -64,9 +64,9 @@ all_count n = all_weaker is_ascii_digit counts digit_counts (decimal n) (all_dig
 pub all_plain : (n : ℕ) → list_all is_plain (decimal n) ≡ true
 all_plain n = all_weaker is_ascii_digit is_plain digit_plain (decimal n) (all_digits n)
 
--- a numeral tells its number
-pub number_told : Tells IsShort decimal (Stops counts)
-number_told = record {
+-- a number is determined by its numeral
+pub number_determined : Determines IsShort decimal (Stops counts)
+number_determined = record {
   each = λ x y u v p q s t e.
       let r = same_front counts (decimal x) (decimal y) u v (all_count x) (all_count y) s t e in
       (decimal_injective x y p q r.0, r.1);
@@ -93,9 +93,9 @@ signed_one (pos m) (negsuc n) p q e = absurd (no_sign m (decimal (suc n)) e)
 signed_one (negsuc m) (pos n) p q e = absurd (no_sign n (decimal (suc m)) (sym e))
 signed_one (negsuc m) (negsuc n) p q e = ap negsuc (let same = decimal_injective (suc m) (suc n) p q (ap (drop 1) e) in omega (arith, same))
 
--- a numeral with a sign tells its number
-pub signed_told : Tells IsShortSigned signed_decimal (Stops counts)
-signed_told = record {
+-- a number is determined by its numeral with a sign
+pub signed_determined : Determines IsShortSigned signed_decimal (Stops counts)
+signed_determined = record {
   each = λ x y u v p q s t e.
       let r = same_front counts (signed_decimal x) (signed_decimal y) u v (signed_count x) (signed_count y) s t e in
       (signed_one x y p q r.0, r.1);

@@ -1,15 +1,15 @@
 -- The lines of an outcome's entries are those of its report.
-use Rattle.proof_tree.specs.proof_nodes.Gaps.{Gap as PlainGap}
+use Rattle.cert_types.specs.cert_rules.Gaps.{Gap as PlainGap}
 use Rattle.std.proofs.Common.{◌≡◌, ℕ, zero, suc, ◌≤◌, ◌-◌, get_or, arith, Bool, cond, List, [], ◌∷◌, ◌++◌, length, map}
 use Rattle.std.proofs.Common.{codes, refl, sym, ◌∙◌, ap, subst, append_assoc}
 use Rattle.std.specs.Prelude.{decimal}
 use Rattle.std.specs.List.{list_all}
 use Rattle.model.specs.Programs.{Name, Symbol}
-use Rattle.proof_tree.specs.declared.gap.Gap.{Gap}
+use Rattle.cert_types.specs.declared.gap.Gap.{Gap}
 use Rattle.outcome.specs.declared.entry.TimeEntry.{TimeEntry}
 use Rattle.outcome.specs.declared.entry.TimeEntry.TheVariants as times
 use Rattle.outcome.specs.declared.entry.SizeEntry.{SizeEntry}
-use Rattle.proof_tree.specs.AnswerViews.{gap_of}
+use Rattle.cert_types.specs.AnswerViews.{gap_of}
 use Rattle.outcome.specs.Views.{time_of, size_of, numbered_gap}
 use Rattle.report_text.specs.Pieces.{numbered_lines}
 use Rattle.outcome.specs.Reports.{is_timed}
@@ -23,14 +23,14 @@ use Rattle.report_text.proofs.Lists.{numbered_same}
 line_of : (names : List Name) (gaps : List Gap) (n : ℕ) (e : TimeEntry) → entry_line names n e ≡ time_line names n (time_of gaps e)
 line_of names gaps n (times.Known s) = refl
 line_of names gaps n (times.Gap g) = refl
-line_of names gaps n (times.Tripped t) = refl
+line_of names gaps n (times.OutOfLimits t) = refl
 line_of names gaps n (times.Large nodes) = refl
 
 -- an entry is known exactly where its time is one
 pub known_is_timed : (gaps : List Gap) (e : TimeEntry) → is_known e ≡ is_timed (time_of gaps e)
 known_is_timed gaps (times.Known s) = refl
 known_is_timed gaps (times.Gap g) = refl
-known_is_timed gaps (times.Tripped t) = refl
+known_is_timed gaps (times.OutOfLimits t) = refl
 known_is_timed gaps (times.Large nodes) = refl
 
 -- so all entries are known exactly where all times are
@@ -38,7 +38,7 @@ pub all_known : (gaps : List Gap) (es : List TimeEntry) → list_all is_known es
 all_known gaps [] = refl
 all_known gaps (e ∷ es) = cc (known_is_timed gaps e, all_known gaps es)
 
--- so is the headline
+-- the same for the headline
 pub headline_same : (gaps : List Gap) (es : List TimeEntry) → headline_of es ≡ headline (map (time_of gaps) es)
 headline_same gaps es = ap (λ (b : Bool). cond b (codes "bounded\n") (codes "unknown\n")) (all_known gaps es)
 

@@ -4,7 +4,7 @@ use Rattle.std.proofs.Common.{sym, ◌∙◌, ap, append_assoc, arith}
 use Rattle.std.proofs.lemmas.List.{append-nil, at_drop_more}
 use Rattle.std.proofs.Math.ListN.{drop_of_length-le}
 use Rattle.model.specs.Programs.{Symbol}
-use Rattle.proof_tree.specs.proof_nodes.Gaps.{SymbolPlace}
+use Rattle.cert_types.specs.cert_rules.Gaps.{SymbolPlace}
 use Rattle.report_text.specs.Pieces.{with_commas_before, numbered_lines}
 use Rattle.report_text.specs.Reasons.{shut_line, shut_lines}
 
@@ -36,7 +36,7 @@ shut_more {X} symbols f xs i d old new all lt inv e =
     ap (λ (t : List ℕ). t ++ rest) e
     ∙ (append_assoc old (shut_line symbols (f (get_or xs i d))) rest ∙ (ap (λ (t : List ℕ). old ++ t) (sym step) ∙ inv))
 
--- behind the last shut place the lines are whole
+-- behind the last shut place the lines are complete
 pub shut_end : {X : Type 0} (symbols : List Symbol) (f : X → SymbolPlace) (xs : List X) (i : ℕ) (old all : List ℕ) → length xs ≤ i
     → old ++ shut_lines symbols (map f (drop i xs)) ≡ all → old ≡ all
 shut_end {X} symbols f xs i old all le inv =
@@ -79,20 +79,20 @@ rows_more {R} {X} rows items line i d row old new all lt inv e f g =
     numbered_more (λ n r. numbered_lines (line n) 1 (items r)) rows i d old new all lt inv
     (g ∙ ap (λ (xs : List X). old ++ numbered_lines (line (i + 1)) 1 xs) (e ∙ ap items f))
 
--- two pieces, and four, behind what stands
+-- two pieces, and four, appended to a text
 pub two_pushed : (old p q a b c d : List ℕ) → p ≡ old ++ a → a ≡ c → q ≡ p ++ b → b ≡ d → q ≡ old ++ (c ++ d)
 two_pushed old p q a b c d ep ea eq eb =
     let whole : q ≡ (old ++ c) ++ d = cc in
     whole ∙ append_assoc old c d
 
--- four pieces that are put behind what stands follow it in order, each told by equations
+-- four appended pieces follow the text in order, each given by an equation
 pub four_pushed : (old p q r s a b c d e f g h : List ℕ) → p ≡ old ++ a → a ≡ e → q ≡ p ++ b → b ≡ f → r ≡ q ++ c → c ≡ g
     → s ≡ r ++ d → d ≡ h → s ≡ old ++ (e ++ (f ++ (g ++ h)))
 four_pushed old p q r s a b c d e f g h ep ea eq eb er ec es ed =
     let whole : s ≡ ((old ++ e) ++ f) ++ g ++ h = cc in
     whole ∙ (append_assoc ((old ++ e) ++ f) g h ∙ (append_assoc (old ++ e) f (g ++ h) ∙ append_assoc old e (f ++ (g ++ h))))
 
--- two pieces that are put behind nothing are the whole, each told by equations
+-- two pieces appended to an empty text are the whole, each given by an equation
 pub whole_pushed : (old p q a b c d : List ℕ) → old ≡ [] → p ≡ old ++ a → a ≡ c → q ≡ p ++ b → b ≡ d → q ≡ c ++ d
 whole_pushed old p q a b c d none ep ea eq eb =
     two_pushed old p q a b c d ep ea eq eb ∙ ap (λ (t : List ℕ). t ++ (c ++ d)) none

@@ -1,12 +1,12 @@
--- Lines that are numbered, one element after another: each line tells something of its element, and no later line is
--- taken for it.
+-- Numbered lines, one for each element: each line determines something of its element, and no later line is mistaken
+-- for it.
 use Rattle.std.proofs.Common.{◌≡◌, ℕ, suc, ◌+◌, ◌^◌, ◌<◌, ◌≤◌, List, [], ◌∷◌, ◌++◌, length, refl, sym, ◌∙◌, subst}
 use Rattle.std.proofs.Common.{append_assoc, arith}
 use Rattle.std.specs.Prelude.{⊤}
 use Rattle.std.specs.List.{AllByRecursion}
 use Rattle.report_text.specs.Pieces.{numbered_lines}
 
--- two lists are of one length, and their elements stand to each other so
+-- two lists have the same length, and their elements are in this relation
 abbrev pub Pairs : {X : Type 0} → (X → X → Type 0) → List X → List X → Type 0
 Pairs R [] [] = ⊤
 Pairs R [] (y ∷ ys) = ⊥
@@ -38,14 +38,14 @@ module _ {X : Type 0} (Fits : X → Type 0) (Alike Same : X → X → Type 0) (L
       (later n m x (numbered_lines line (suc m) xs ++ u) over (omega (arith, few)) (later_lines n (suc m) xs u (omega (arith, over)) (omega (arith, few)) h))
 
   -- all of the lines
-  pub numbered_told : (n : ℕ) (xs ys : List X) (u v : List ℕ) → n + length xs ≤ 2 ^ 64 → n + length ys ≤ 2 ^ 64 → AllByRecursion Fits xs → AllByRecursion Fits ys → Pairs Alike xs ys
+  pub numbered_determined : (n : ℕ) (xs ys : List X) (u v : List ℕ) → n + length xs ≤ 2 ^ 64 → n + length ys ≤ 2 ^ 64 → AllByRecursion Fits xs → AllByRecursion Fits ys → Pairs Alike xs ys
       → ((m : ℕ) → Later m u) → ((m : ℕ) → Later m v) → numbered_lines line n xs ++ u ≡ numbered_lines line n ys ++ v → Pairs Same xs ys × (u ≡ v)
-  numbered_told n [] [] u v a b p q like s t e = (tt, e)
-  numbered_told n [] (y ∷ ys) u v a b p q like s t e = absurd like
-  numbered_told n (x ∷ xs) [] u v a b p q like s t e = absurd like
-  numbered_told n (x ∷ xs) (y ∷ ys) u v a b p q like s t e =
+  numbered_determined n [] [] u v a b p q like s t e = (tt, e)
+  numbered_determined n [] (y ∷ ys) u v a b p q like s t e = absurd like
+  numbered_determined n (x ∷ xs) [] u v a b p q like s t e = absurd like
+  numbered_determined n (x ∷ xs) (y ∷ ys) u v a b p q like s t e =
       let r = step n x y (numbered_lines line (suc n) xs ++ u) (numbered_lines line (suc n) ys ++ v) (omega (arith, a)) p.0 q.0 like.0
       (later_lines n (suc n) xs u (omega arith) (omega (arith, a)) (s n)) (later_lines n (suc n) ys v (omega arith) (omega (arith, b)) (t n))
       (sym (append_assoc (line n x) (numbered_lines line (suc n) xs) u) ∙ (e ∙ append_assoc (line n y) (numbered_lines line (suc n) ys) v)) in
-      let l = numbered_told (suc n) xs ys u v (omega (arith, a)) (omega (arith, b)) p.1 q.1 like.1 s t r.1 in
+      let l = numbered_determined (suc n) xs ys u v (omega (arith, a)) (omega (arith, b)) p.1 q.1 like.1 s t r.1 in
       ((r.0, l.0), l.1)

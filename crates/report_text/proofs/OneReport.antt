@@ -12,8 +12,8 @@ use Rattle.report_text.specs.States.{States}
 use Rattle.report_text.specs.Printable.{IsPrintableSize, IsPrintableReport}
 use Rattle.report_text.specs.OneReport.{TextsStateOneReport}
 use Rattle.report_text.proofs.SymbolNames.{names_of, are_names, valid_names}
-use Rattle.report_text.proofs.EntryLines.{SizesSaySame, headline_told, times_say, rows_say, total_told}
-use Rattle.report_text.proofs.WhyLines.{FitsRow, sizes_no_time, why_times_told, why_sizes_told}
+use Rattle.report_text.proofs.EntryLines.{SizesSaySame, headline_determined, times_say, rows_say, total_determined}
+use Rattle.report_text.proofs.WhyLines.{FitsRow, sizes_no_time, why_times_determined, why_sizes_determined}
 use Rattle.report_text.proofs.Numbered.{Pairs}
 
 -- symbols have few places
@@ -73,7 +73,8 @@ parts_of p r =
     laid_out (headline r.times) (numbered_lines (time_line p.start_names) 1 r.times) (total_line p.start_names r.total) (numbered_lines (size_lines p.start_names) 1 r.sizes)
     (numbered_lines (why_time p.symbols) 1 r.times) (numbered_lines why_sizes 1 r.sizes)
 
--- what the lines of sizes tell: each two entries say the same, they fit, and what follows is the same
+-- the lines of sizes determine them: the two entries of each pair are the same, they are printable, and the rest of the
+-- text is the same
 record SizesTold (p : Program) (rs ss : List (List Size)) (u v : List ℕ) : Type 0 where
   pub say : Pairs (Pairs (SizesSaySame p.start_names)) rs ss
   pub left : AllByRecursion (FitsRow p) rs
@@ -118,16 +119,16 @@ module _ (p : Program) (valid : IsValid p) where
       let sizes = λ (o : Report). numbered_lines (size_lines names) 1 o.sizes ++ reasons o in
       let total = λ (o : Report). total_line names o.total ++ sizes o in
       let times = λ (o : Report). numbered_lines (time_line names) 1 o.times ++ total o in
-      let head = headline_told (list_all is_timed r.times) (list_all is_timed q.times) (times r) (times q) (sym (parts_of p r) ∙ (sym s.text_of ∙ (t.text_of ∙ parts_of p q))) in
+      let head = headline_determined (list_all is_timed r.times) (list_all is_timed q.times) (times r) (times q) (sym (parts_of p r) ∙ (sym s.text_of ∙ (t.text_of ∙ parts_of p q))) in
       let few = few_lines (length r.times) s.report.times in
       let less = few_lines (length q.times) t.report.times in
       let said = times_say names starts r.times q.times (total r) (total q) (s.report.times ∙ sym t.report.times) few head.1 in
-      let whole = total_told p starts r.total q.total (sizes r) (sizes q) f.total g.total
+      let whole = total_determined p starts r.total q.total (sizes r) (sizes q) f.total g.total
       (λ there. t.report.total.0 (sym head.0 ∙ s.report.total.1 there)) (λ there. s.report.total.0 (head.0 ∙ t.report.total.1 there)) said.1 in
       let rows = rows_told r q f g s.report.sizes t.report.sizes whole.1 in
-      let why = why_times_told p starts named r.times q.times (numbered_lines why_sizes 1 r.sizes) (numbered_lines why_sizes 1 q.sizes) few less f.times g.times said.0
+      let why = why_times_determined p starts named r.times q.times (numbered_lines why_sizes 1 r.sizes) (numbered_lines why_sizes 1 q.sizes) few less f.times g.times said.0
       (λ n. sizes_no_time n 1 r.sizes) (λ n. sizes_no_time n 1 q.sizes) rows.rest in
-      let places = why_sizes_told p starts named r.sizes q.sizes rows.few rows.less rows.left rows.right rows.say why.1 in
+      let places = why_sizes_determined p starts named r.sizes q.sizes rows.few rows.less rows.left rows.right rows.say why.1 in
       λ i. record { times = why.0 i; total = whole.0 i; sizes = places i }
 
 -- a text states one report at most

@@ -1,32 +1,33 @@
--- The limits that linear programs passed tell what they are.
+-- The limits that linear programs exceeded are determined by their texts.
 use Rattle.std.proofs.Common.{◌≡◌, ℕ, List, ◌++◌, get_or, codes, decimal, refl, sym, ◌∙◌, ap, arith}
 use Rattle.its_model.proofs.text_core.PrefixLaws.{Stops}
-use Rattle.proof_tree.specs.declared.answer.Question.{Question}
-use Rattle.proof_tree.specs.declared.answer.Question.TheVariants as questions
-use Rattle.farkas_cert.specs.linear_forms.declared.trip_cause.TripCause.{TripCause}
-use Rattle.farkas_cert.specs.linear_forms.declared.trip_cause.TripCause.TheVariants as causes
-use Rattle.report_text.specs.Reasons.{question_text, cause_text, trip_text, large_text}
-use Rattle.report_text.specs.Printable.{IsShort, IsPrintableQuestion, IsPrintableCause, IsPrintableTrip}
-use Rattle.report_text.proofs.TellingTexts.{Tells, Any, told_behind, told_before, told_both, same_behind}
-use Rattle.report_text.proofs.Digits.{counts, number_told}
-use Rattle.report_text.proofs.Points.{pair_told}
+use Rattle.cert_types.specs.declared.answer.Question.{Question}
+use Rattle.cert_types.specs.declared.answer.Question.TheVariants as questions
+use Rattle.farkas_cert.specs.linear_forms.declared.limit_cause.LimitCause.{LimitCause}
+use Rattle.farkas_cert.specs.linear_forms.declared.limit_cause.LimitCause.TheVariants as causes
+use Rattle.report_text.specs.Reasons.{question_text, cause_text, limit_hit_text, large_text}
+use Rattle.report_text.specs.Printable.{IsShort, IsPrintableQuestion, IsPrintableCause, IsPrintableLimitHit}
+use Rattle.report_text.proofs.TellingTexts.{Determines, Any, determined_behind, determined_before, determined_both, same_behind}
+use Rattle.report_text.proofs.Digits.{counts, number_determined}
+use Rattle.report_text.proofs.Points.{pair_determined}
 
 -- a number behind a word
-worded : (w : List ℕ) → Tells IsShort (λ n. w ++ decimal n) (Stops counts)
-worded w = told_behind number_told w
+worded : (w : List ℕ) → Determines IsShort (λ n. w ++ decimal n) (Stops counts)
+worded w = determined_behind number_determined w
 
 -- a number between two words
-counted : (w c : List ℕ) → ((u : List ℕ) → Stops counts (c ++ u)) → Tells IsShort (λ n. w ++ (decimal n ++ c)) Any
-counted w c stops = told_behind (told_before number_told c Any (λ u s. stops u)) w
+counted : (w c : List ℕ) → ((u : List ℕ) → Stops counts (c ++ u)) → Determines IsShort (λ n. w ++ (decimal n ++ c)) Any
+counted w c stops = determined_behind (determined_before number_determined c Any (λ u s. stops u)) w
 
 -- the first byte of a question
 abbrev first_of : Question → ℕ
 first_of (questions.Empty rule) = 101
 first_of (questions.Rank rule) = 114
 first_of (questions.Local rule place) = 108
+first_of (questions.Cost rule) = 99
 
 -- the first byte of a limit
-abbrev first_of_cause : TripCause → ℕ
+abbrev first_of_cause : LimitCause → ℕ
 first_of_cause (causes.Range pivot) = 114
 first_of_cause (causes.Budget pivots) = 98
 first_of_cause (causes.Wide entries) = 119
@@ -37,9 +38,10 @@ first_is : (q : Question) (u : List ℕ) → get_or (question_text q ++ u) 0 0 �
 first_is (questions.Empty rule) u = refl
 first_is (questions.Rank rule) u = refl
 first_is (questions.Local rule place) u = refl
+first_is (questions.Cost rule) u = refl
 
--- so is that of a limit
-first_cause_is : (c : TripCause) (u : List ℕ) → get_or (cause_text c ++ u) 0 0 ≡ first_of_cause c
+-- the same for that of a limit
+first_cause_is : (c : LimitCause) (u : List ℕ) → get_or (cause_text c ++ u) 0 0 ≡ first_of_cause c
 first_cause_is (causes.Range pivot) u = refl
 first_cause_is (causes.Budget pivots) u = refl
 first_cause_is (causes.Wide entries) u = refl
@@ -51,18 +53,19 @@ question_one : (x y : Question) (u v : List ℕ) → IsPrintableQuestion x → I
 question_one (questions.Empty a) (questions.Empty b) u v p q s t e k = let r = (worded (codes "empty ")).each a b u v p q s t e in (ap questions.Empty r.0, r.1)
 question_one (questions.Rank a) (questions.Rank b) u v p q s t e k = let r = (worded (codes "rank ")).each a b u v p q s t e in (ap questions.Rank r.0, r.1)
 question_one (questions.Local a i) (questions.Local b j) u v p q s t e k =
-    let r = (told_behind pair_told (codes "local ")).each (a, i) (b, j) u v p q s t e in
+    let r = (determined_behind pair_determined (codes "local ")).each (a, i) (b, j) u v p q s t e in
     (ap (λ (z : ℕ × ℕ). questions.Local z.0 z.1) r.0, r.1)
+question_one (questions.Cost a) (questions.Cost b) u v p q s t e k = let r = (worded (codes "cost ")).each a b u v p q s t e in (ap questions.Cost r.0, r.1)
 question_one x y u v p q s t e k = absurd (omega (arith, k))
 
--- what a linear program was asked
-pub question_told : Tells IsPrintableQuestion question_text (Stops counts)
-question_told = record {
+-- the question of a linear program
+pub question_determined : Determines IsPrintableQuestion question_text (Stops counts)
+question_determined = record {
   each = λ x y u v p q s t e. question_one x y u v p q s t e (sym (first_is x u) ∙ (ap (λ (w : List ℕ). get_or w 0 0) e ∙ first_is y v));
 }
 
 -- one text, one limit
-cause_one : (x y : TripCause) (u v : List ℕ) → IsPrintableCause x → IsPrintableCause y → Stops counts u → Stops counts v
+cause_one : (x y : LimitCause) (u v : List ℕ) → IsPrintableCause x → IsPrintableCause y → Stops counts u → Stops counts v
     → cause_text x ++ u ≡ cause_text y ++ v → first_of_cause x ≡ first_of_cause y → (x ≡ y) × (u ≡ v)
 cause_one (causes.Range a) (causes.Range b) u v p q s t e k = let r = (worded (codes "range at pivot ")).each a b u v p q s t e in (ap causes.Range r.0, r.1)
 cause_one (causes.Budget a) (causes.Budget b) u v p q s t e k =
@@ -75,22 +78,22 @@ cause_one causes.Scale causes.Scale u v p q s t e k = (refl, same_behind (codes 
 cause_one x y u v p q s t e k = absurd (omega (arith, k))
 
 -- the limit that it passed
-pub cause_told : Tells IsPrintableCause cause_text (Stops counts)
-cause_told = record {
+pub cause_determined : Determines IsPrintableCause cause_text (Stops counts)
+cause_determined = record {
   each = λ x y u v p q s t e. cause_one x y u v p q s t e (sym (first_cause_is x u) ∙ (ap (λ (w : List ℕ). get_or w 0 0) e ∙ first_cause_is y v));
 }
 
 -- both
-pub trip_told : Tells IsPrintableTrip trip_text (Stops counts)
-trip_told =
-    let both : Tells (λ (z : Question × TripCause). IsPrintableQuestion z.0 × IsPrintableCause z.1) (λ (z : Question × TripCause). question_text z.0 ++ (codes " " ++ cause_text z.1)) (Stops counts) =
-    told_both question_told (told_behind cause_told (codes " ")) (λ c w fits after. refl) in
+pub limit_hit_determined : Determines IsPrintableLimitHit limit_hit_text (Stops counts)
+limit_hit_determined =
+    let both : Determines (λ (z : Question × LimitCause). IsPrintableQuestion z.0 × IsPrintableCause z.1) (λ (z : Question × LimitCause). question_text z.0 ++ (codes " " ++ cause_text z.1)) (Stops counts) =
+    determined_both question_determined (determined_behind cause_determined (codes " ")) (λ c w fits after. refl) in
     record {
       each = λ x y u v p q s t e.
           let r = both.each (x.question, x.cause) (y.question, y.cause) u v (p.question, p.cause) (q.question, q.cause) s t e in
-          (ap (λ (z : Question × TripCause). record { question = z.0; cause = z.1 }) r.0, r.1);
+          (ap (λ (z : Question × LimitCause). record { question = z.0; cause = z.1 }) r.0, r.1);
     }
 
 -- the number of nodes of a bound that is too large
-pub large_told : Tells IsShort large_text Any
-large_told = counted (codes "large ") (codes " nodes") (λ w. refl)
+pub large_determined : Determines IsShort large_text Any
+large_determined = counted (codes "large ") (codes " nodes") (λ w. refl)

@@ -1,4 +1,4 @@
--- The places of symbols tell what they are: symbols have names that differ, and a place's number stands behind the last
+-- The places of symbols are determined by their texts: the symbols' names differ, and a place's number follows the last
 -- dot.
 use Rattle.std.proofs.Common.{◌≡◌, ℕ, zero, suc, ◌<◌, true, List, [], ◌∷◌, ◌++◌, length, map, get_or, drop, slice_get}
 use Rattle.std.proofs.Common.{slice_index_or, codes, decimal, refl, sym, ◌∙◌, ap, subst, append_assoc, arith}
@@ -13,10 +13,10 @@ use Rattle.model.specs.Programs.{Name, Symbol}
 use Rattle.its_model.specs.text_core.Names.{begins_name, continues_name, IsName, AreNames, AreDistinct, position_of}
 use Rattle.its_model.proofs.text_core.PositionLaws.{listed_name, position_at}
 use Rattle.its_model.specs.Valid.{IsValidSymbol}
-use Rattle.proof_tree.specs.proof_nodes.Gaps.{SymbolPlace}
+use Rattle.cert_types.specs.cert_rules.Gaps.{SymbolPlace}
 use Rattle.report_text.specs.Reasons.{name_in, shut_line}
 use Rattle.report_text.specs.Printable.{IsPrintablePlace}
-use Rattle.report_text.proofs.TellingTexts.{Tells, Any, same_front, inside}
+use Rattle.report_text.proofs.TellingTexts.{Determines, Any, same_front, inside}
 use Rattle.report_text.proofs.Digits.{is_plain, all_weaker, all_digits, all_plain}
 
 -- the names of symbols
@@ -41,7 +41,7 @@ byte_plain c h = grind (arith, nat_tests)
 first_plain : (c : ℕ) → begins_name c ≡ true → is_plain c ≡ true
 first_plain c h = byte_plain c (rw h refl)
 
--- a name stands in one line
+-- a name contains no line end
 pub name_plain : (w : Name) → IsName w → list_all is_plain w ≡ true
 name_plain [] is = absurd is
 name_plain (c ∷ w) is = rw (first_plain c is.0, all_weaker continues_name is_plain byte_plain w is.1) refl
@@ -55,7 +55,7 @@ no_dot : (xs ys : List ℕ) → list_all is_ascii_digit (xs ++ 46 ∷ ys) ≡ tr
 no_dot [] ys h = cc
 no_dot (c ∷ xs) ys h = no_dot xs ys (and_parts (is_ascii_digit c) (list_all is_ascii_digit (xs ++ 46 ∷ ys)) h).1
 
--- the last dot stands in one place
+-- the last dot has one position
 last_dot : (xs ys ds es : List ℕ) → list_all is_ascii_digit ds ≡ true → list_all is_ascii_digit es ≡ true → xs ++ 46 ∷ ds ≡ ys ++ 46 ∷ es → (xs ≡ ys) × (ds ≡ es)
 last_dot [] [] ds es p q e = (refl, ap (drop 1) e)
 last_dot [] (c ∷ ys) ds es p q e = absurd (no_dot ys es (subst (λ (w : List ℕ). list_all is_ascii_digit w ≡ true) (ap (drop 1) e) p))
@@ -76,7 +76,7 @@ module _ (symbols : List Symbol) (are : AreNames (names_of symbols)) where
   abbrev name : SymbolPlace → List ℕ
   name s = name_in (slice_get symbols s.symbol)
 
-  -- what stands in the line of a shut place
+  -- the text in the line of a shut place
   abbrev body : SymbolPlace → List ℕ
   body s = name s ++ 46 ∷ decimal s.place
 
@@ -84,7 +84,7 @@ module _ (symbols : List Symbol) (are : AreNames (names_of symbols)) where
   listed : (s : SymbolPlace) → IsPrintablePlace (length symbols) s → s.symbol < length (names_of symbols)
   listed s p = let few = p.symbol in let same = length-map symbols (λ (x : Symbol). x.name) in omega (arith, few, same)
 
-  -- the name and the number stand in one line
+  -- the name and the number are within one line
   body_plain : (s : SymbolPlace) → IsPrintablePlace (length symbols) s → list_all is_plain (body s) ≡ true
   body_plain s p =
       both_plain (name s) (46 ∷ decimal s.place)
@@ -103,8 +103,8 @@ module _ (symbols : List Symbol) (are : AreNames (names_of symbols)) where
       ∙ position_at (names_of symbols) y.symbol are (listed y q))
 
   -- the line of a shut place
-  pub shut_told : Tells (IsPrintablePlace (length symbols)) (shut_line symbols) Any
-  shut_told = record {
+  pub shut_determined : Determines (IsPrintablePlace (length symbols)) (shut_line symbols) Any
+  shut_determined = record {
     each = λ x y u v p q s t e.
         let lines : (body x ++ codes "\n") ++ u ≡ (body y ++ codes "\n") ++ v =
         inside (codes "  shut ") (body x ++ codes "\n") (body y ++ codes "\n") u v

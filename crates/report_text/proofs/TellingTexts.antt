@@ -1,19 +1,20 @@
--- Texts that tell what they are of: where two of them go on to the same text, they are of the same.
+-- Texts that determine their subject: where two of them, each followed by further text, are the same as a whole, their
+-- subjects are the same.
 use Rattle.std.proofs.Common.{◌≡◌, ℕ, Bool, true, List, [], ◌∷◌, ◌++◌, drop, sym, ◌∙◌, ap, append_assoc}
 use Rattle.std.specs.Prelude.{⊤}
 use Rattle.std.specs.List.{list_all}
 use Rattle.its_model.specs.text_core.Prefixes.{prefix, rest}
 use Rattle.its_model.proofs.text_core.PrefixLaws.{Stops, prefix-append, rest-append, rest-stops}
 
--- the texts of what fits tell what they are of and where they end, if what follows them may follow
-pub record Tells {X : Type 0} (Fits : X → Type 0) (text : X → List ℕ) (Ends : List ℕ → Type 0) : Type 0 where
+-- the texts of what fits determine their subject and where they end, if what follows may follow
+pub record Determines {X : Type 0} (Fits : X → Type 0) (text : X → List ℕ) (Ends : List ℕ → Type 0) : Type 0 where
   pub each : (x y : X) (u v : List ℕ) → Fits x → Fits y → Ends u → Ends v → text x ++ u ≡ text y ++ v → (x ≡ y) × (u ≡ v)
 
 -- any text may follow
 abbrev pub Any : List ℕ → Type 0
 Any u = ⊤
 
--- what stands before the first byte that fails a test
+-- the bytes before the first one that fails a test
 pub same_front : (test : ℕ → Bool) (xs ys u v : List ℕ) → list_all test xs ≡ true → list_all test ys ≡ true → Stops test u → Stops test v
     → xs ++ u ≡ ys ++ v → (xs ≡ ys) × (u ≡ v)
 same_front test xs ys u v p q s t e = (
@@ -21,7 +22,7 @@ same_front test xs ys u v p q s t e = (
   sym (rest-stops test u s) ∙ (sym (rest-append test xs u p) ∙ (ap (rest test) e ∙ (rest-append test ys v q ∙ rest-stops test v t))),
 )
 
--- what stands behind the same words
+-- the text behind the same words
 pub same_behind : (w u v : List ℕ) → w ++ u ≡ w ++ v → u ≡ v
 same_behind [] u v e = e
 same_behind (c ∷ w) u v e = same_behind w u v (ap (drop 1) e)
@@ -30,29 +31,29 @@ same_behind (c ∷ w) u v e = same_behind w u v (ap (drop 1) e)
 pub inside : (w x y u v : List ℕ) → (w ++ x) ++ u ≡ (w ++ y) ++ v → x ++ u ≡ y ++ v
 inside w x y u v e = same_behind w (x ++ u) (y ++ v) (sym (append_assoc w x u) ∙ (e ∙ append_assoc w y v))
 
--- and where three texts stand before
+-- and where three texts come before
 pub inside_three : (a b c x y u v : List ℕ) → (a ++ (b ++ (c ++ x))) ++ u ≡ (a ++ (b ++ (c ++ y))) ++ v → x ++ u ≡ y ++ v
 inside_three a b c x y u v e = inside c x y u v (inside b (c ++ x) (c ++ y) u v (inside a (b ++ (c ++ x)) (b ++ (c ++ y)) u v e))
 
-module _ {X : Type 0} {Fits : X → Type 0} {text : X → List ℕ} {Ends : List ℕ → Type 0} (told : Tells Fits text Ends) where
+module _ {X : Type 0} {Fits : X → Type 0} {text : X → List ℕ} {Ends : List ℕ → Type 0} (determined : Determines Fits text Ends) where
   -- with the same words before
-  pub told_behind : (w : List ℕ) → Tells Fits (λ x. w ++ text x) Ends
-  told_behind w = record { each = λ x y u v p q s t e. told.each x y u v p q s t (inside w (text x) (text y) u v e) }
+  pub determined_behind : (w : List ℕ) → Determines Fits (λ x. w ++ text x) Ends
+  determined_behind w = record { each = λ x y u v p q s t e. determined.each x y u v p q s t (inside w (text x) (text y) u v e) }
 
   -- with the same words behind
-  pub told_before : (w : List ℕ) (After : List ℕ → Type 0) → ((u : List ℕ) → After u → Ends (w ++ u)) → Tells Fits (λ x. text x ++ w) After
-  told_before w After leads = record {
+  pub determined_before : (w : List ℕ) (After : List ℕ → Type 0) → ((u : List ℕ) → After u → Ends (w ++ u)) → Determines Fits (λ x. text x ++ w) After
+  determined_before w After leads = record {
     each = λ x y u v p q s t e.
-        let r = told.each x y (w ++ u) (w ++ v) p q (leads u s) (leads v t) (sym (append_assoc (text x) w u) ∙ (e ∙ append_assoc (text y) w v)) in
+        let r = determined.each x y (w ++ u) (w ++ v) p q (leads u s) (leads v t) (sym (append_assoc (text x) w u) ∙ (e ∙ append_assoc (text y) w v)) in
         (r.0, same_behind w u v r.1);
   }
 
-  -- of two texts, one behind the other
-  pub told_both : {Y : Type 0} {Fit : Y → Type 0} {other : Y → List ℕ} {After : List ℕ → Type 0} → Tells Fit other After
-      → ((y : Y) (u : List ℕ) → Fit y → After u → Ends (other y ++ u)) → Tells (λ (z : X × Y). Fits z.0 × Fit z.1) (λ (z : X × Y). text z.0 ++ other z.1) After
-  told_both {Y} {Fit} {other} {After} also leads = record {
+  -- of two texts, one after the other
+  pub determined_both : {Y : Type 0} {Fit : Y → Type 0} {other : Y → List ℕ} {After : List ℕ → Type 0} → Determines Fit other After
+      → ((y : Y) (u : List ℕ) → Fit y → After u → Ends (other y ++ u)) → Determines (λ (z : X × Y). Fits z.0 × Fit z.1) (λ (z : X × Y). text z.0 ++ other z.1) After
+  determined_both {Y} {Fit} {other} {After} also leads = record {
     each = λ x y u v p q s t e.
-        let r = told.each x.0 y.0 (other x.1 ++ u) (other y.1 ++ v) p.0 q.0 (leads x.1 u p.1 s) (leads y.1 v q.1 t)
+        let r = determined.each x.0 y.0 (other x.1 ++ u) (other y.1 ++ v) p.0 q.0 (leads x.1 u p.1 s) (leads y.1 v q.1 t)
         (sym (append_assoc (text x.0) (other x.1) u) ∙ (e ∙ append_assoc (text y.0) (other y.1) v)) in
         let l = also.each x.1 y.1 u v p.1 q.1 s t r.1 in
         (λ i. (r.0 i, l.0 i), l.1);

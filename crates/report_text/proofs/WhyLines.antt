@@ -1,4 +1,4 @@
--- The lines that say why times and sizes are missing tell which are, and why.
+-- The lines that say why times and sizes are missing determine which these are, and why.
 use Rattle.std.proofs.Common.{◌≡◌, ℕ, suc, ◌+◌, ◌^◌, ◌<◌, ◌≤◌, List, [], ◌∷◌, ◌++◌, length, get_or, codes, decimal}
 use Rattle.std.proofs.Common.{refl, sym, ◌∙◌, ap, append_assoc, append-nil, arith}
 use Rattle.std.specs.List.{AllByRecursion}
@@ -10,15 +10,15 @@ use Rattle.report_text.specs.Pieces.{place_text, numbered_lines}
 use Rattle.report_text.specs.Reasons.{no_time_text, no_size_text}
 use Rattle.report_text.specs.Reports.{why_time, why_size, why_sizes}
 use Rattle.report_text.specs.Printable.{IsShort, IsPrintableTime, IsPrintableSize}
-use Rattle.report_text.proofs.TellingTexts.{Tells, Any, told_before, same_behind, inside, inside_three}
-use Rattle.report_text.proofs.Digits.{counts, number_told}
-use Rattle.report_text.proofs.Points.{pair_told}
+use Rattle.report_text.proofs.TellingTexts.{Determines, Any, determined_before, same_behind, inside, inside_three}
+use Rattle.report_text.proofs.Digits.{counts, number_determined}
+use Rattle.report_text.proofs.Points.{pair_determined}
 use Rattle.report_text.proofs.SymbolNames.{names_of}
 use Rattle.report_text.proofs.GapLines.{Whys}
-use Rattle.report_text.proofs.ReasonLines.{no_time_told, no_size_told}
+use Rattle.report_text.proofs.ReasonLines.{no_time_determined, no_size_determined}
 use Rattle.report_text.proofs.BoundLines.{bound_same}
 use Rattle.report_text.proofs.EntryLines.{SaySame, SizesSaySame}
-use Rattle.report_text.proofs.Numbered.{Pairs, pairs_same, numbered_told}
+use Rattle.report_text.proofs.Numbered.{Pairs, pairs_same, numbered_determined}
 
 -- nothing follows, or a reason that doesn't begin like this
 pub record IsLater (lead u : List ℕ) : Type 0 where
@@ -37,7 +37,7 @@ place_lead rule n = codes "why size " ++ (place_text rule n ++ codes ": ")
 abbrev pub row_lead : ℕ → List ℕ
 row_lead n = codes "why size " ++ (decimal n ++ codes ".")
 
--- a text begins with the three that stand before the last one
+-- a text begins with the three that come before the last one
 begins : (a b c x u : List ℕ) → (a ++ (b ++ (c ++ x))) ++ u ≡ (a ++ (b ++ c)) ++ (x ++ u)
 begins a b c x u =
     append_assoc a (b ++ (c ++ x)) u
@@ -45,10 +45,10 @@ begins a b c x u =
     ∙ sym (append_assoc a (b ++ c) (x ++ u)))
 
 -- two reasons that begin alike are of the same rule, or of the same place
-lead_key : {K : Type 0} {Fits : K → Type 0} {key : K → List ℕ} (told : Tells Fits key (Stops counts)) (a : List ℕ) (k l : K) → Fits k → Fits l → (x y : List ℕ)
+lead_key : {K : Type 0} {Fits : K → Type 0} {key : K → List ℕ} (determined : Determines Fits key (Stops counts)) (a : List ℕ) (k l : K) → Fits k → Fits l → (x y : List ℕ)
     → (a ++ (key k ++ codes ": ")) ++ x ≡ (a ++ (key l ++ codes ": ")) ++ y → k ≡ l
-lead_key {K} {Fits} {key} told a k l p q x y e =
-    ((told_before told (codes ": ") Any (λ u s. refl)).each k l x y p q tt tt (inside a (key k ++ codes ": ") (key l ++ codes ": ") x y e)).0
+lead_key {K} {Fits} {key} determined a k l p q x y e =
+    ((determined_before determined (codes ": ") Any (λ u s. refl)).each k l x y p q tt tt (inside a (key k ++ codes ": ") (key l ++ codes ": ") x y e)).0
 
 module _ (p : Program) (are : AreNames p.start_names) (named : AreNames (names_of p.symbols)) where
   -- why the times of two rules are missing, if they are
@@ -58,7 +58,7 @@ module _ (p : Program) (are : AreNames p.start_names) (named : AreNames (names_o
   time_step n (Timed a) (Untimed w) u v short f g like k l e = absurd (k.no _ (e ∙ begins (codes "why time ") (decimal n) (codes ": ") (no_time_text p.symbols w) v))
   time_step n (Untimed w) (Timed b) u v short f g like k l e = absurd (l.no _ (sym e ∙ begins (codes "why time ") (decimal n) (codes ": ") (no_time_text p.symbols w) u))
   time_step n (Untimed w) (Untimed z) u v short f g like k l e =
-      let r = (no_time_told p.symbols named).each w z u v f g k.whys l.whys
+      let r = (no_time_determined p.symbols named).each w z u v f g k.whys l.whys
       (inside_three (codes "why time ") (decimal n) (codes ": ") (no_time_text p.symbols w) (no_time_text p.symbols z) u v e) in
       (ap Untimed r.0, r.1)
 
@@ -68,17 +68,17 @@ module _ (p : Program) (are : AreNames p.start_names) (named : AreNames (names_o
   time_later n m (Untimed w) u over short h = record {
     whys = refl;
     no = λ x e.
-        let same = lead_key number_told (codes "why time ") m n short (omega (arith, over, short)) (no_time_text p.symbols w ++ u) x
+        let same = lead_key number_determined (codes "why time ") m n short (omega (arith, over, short)) (no_time_text p.symbols w ++ u) x
         (sym (begins (codes "why time ") (decimal m) (codes ": ") (no_time_text p.symbols w) u) ∙ e) in
         omega (arith, over, same);
   }
 
   -- why all times are missing that are
-  pub why_times_told : (ts ss : List Time) (u v : List ℕ) → 1 + length ts ≤ 2 ^ 64 → 1 + length ss ≤ 2 ^ 64 → AllByRecursion (IsPrintableTime p) ts → AllByRecursion (IsPrintableTime p) ss
+  pub why_times_determined : (ts ss : List Time) (u v : List ℕ) → 1 + length ts ≤ 2 ^ 64 → 1 + length ss ≤ 2 ^ 64 → AllByRecursion (IsPrintableTime p) ts → AllByRecursion (IsPrintableTime p) ss
       → Pairs (SaySame p.start_names) ts ss → ((n : ℕ) → IsLater (time_lead n) u) → ((n : ℕ) → IsLater (time_lead n) v)
       → numbered_lines (why_time p.symbols) 1 ts ++ u ≡ numbered_lines (why_time p.symbols) 1 ss ++ v → (ts ≡ ss) × (u ≡ v)
-  why_times_told ts ss u v few less f g like k l e =
-      let r = numbered_told (IsPrintableTime p) (SaySame p.start_names) (λ t s. t ≡ s) (λ n w. IsLater (time_lead n) w) (why_time p.symbols) time_step time_later 1 ts ss u v few less f g like k l e in
+  why_times_determined ts ss u v few less f g like k l e =
+      let r = numbered_determined (IsPrintableTime p) (SaySame p.start_names) (λ t s. t ≡ s) (λ n w. IsLater (time_lead n) w) (why_time p.symbols) time_step time_later 1 ts ss u v few less f g like k l e in
       (pairs_same ts ss r.0, r.1)
 
   -- why the sizes of two places are missing, if they are
@@ -88,7 +88,7 @@ module _ (p : Program) (are : AreNames p.start_names) (named : AreNames (names_o
   size_step rule n (Sized a) (Unsized w) u v short f g like k l e = absurd (k.no _ (e ∙ begins (codes "why size ") (place_text rule n) (codes ": ") (no_size_text w) v))
   size_step rule n (Unsized w) (Sized b) u v short f g like k l e = absurd (l.no _ (sym e ∙ begins (codes "why size ") (place_text rule n) (codes ": ") (no_size_text w) u))
   size_step rule n (Unsized w) (Unsized z) u v short f g like k l e =
-      let r = no_size_told.each w z u v f g tt tt (inside_three (codes "why size ") (place_text rule n) (codes ": ") (no_size_text w) (no_size_text z) u v e) in
+      let r = no_size_determined.each w z u v f g tt tt (inside_three (codes "why size ") (place_text rule n) (codes ": ") (no_size_text w) (no_size_text z) u v e) in
       (ap Unsized r.0, r.1)
 
 -- the reason of a later place is later
@@ -97,7 +97,7 @@ size_later rule fits n m (Sized b) u over short h = h
 size_later rule fits n m (Unsized w) u over short h = record {
   whys = refl;
   no = λ x e.
-      let same = lead_key pair_told (codes "why size ") (rule, m) (rule, n) (fits, short) (fits, (let less : n < 2 ^ 64 = omega (arith, over, short) in less)) (no_size_text w ++ u) x
+      let same = lead_key pair_determined (codes "why size ") (rule, m) (rule, n) (fits, short) (fits, (let less : n < 2 ^ 64 = omega (arith, over, short) in less)) (no_size_text w ++ u) x
       (sym (begins (codes "why size ") (place_text rule m) (codes ": ") (no_size_text w) u) ∙ e) in
       let e : m ≡ n = ap (λ (z : ℕ × ℕ). z.1) same in
       omega (arith, over, e);
@@ -123,12 +123,12 @@ row_later n m k (Unsized w ∷ row) u over short h = record {
   whys = refl;
   no = λ x e.
       let more = numbered_lines (why_size m) (suc k) row in
-      let spot = decimal m ++ (codes "." ++ decimal k) in
+      let result_variable = decimal m ++ (codes "." ++ decimal k) in
       let words = codes ": " ++ no_size_text w in
-      let behind : ((spot ++ words) ++ more) ++ u ≡ (decimal n ++ codes ".") ++ x = same_behind (codes "why size ") (((spot ++ words) ++ more) ++ u) ((decimal n ++ codes ".") ++ x) e in
-      let shape : ((spot ++ words) ++ more) ++ u ≡ decimal m ++ ((codes "." ++ decimal k) ++ (words ++ (more ++ u))) =
-      append_assoc (spot ++ words) more u ∙ (append_assoc spot words (more ++ u) ∙ append_assoc (decimal m) (codes "." ++ decimal k) (words ++ (more ++ u))) in
-      let same = (number_told.each m n ((codes "." ++ decimal k) ++ (words ++ (more ++ u))) (codes "." ++ x) short (omega (arith, over, short)) refl refl
+      let behind : ((result_variable ++ words) ++ more) ++ u ≡ (decimal n ++ codes ".") ++ x = same_behind (codes "why size ") (((result_variable ++ words) ++ more) ++ u) ((decimal n ++ codes ".") ++ x) e in
+      let shape : ((result_variable ++ words) ++ more) ++ u ≡ decimal m ++ ((codes "." ++ decimal k) ++ (words ++ (more ++ u))) =
+      append_assoc (result_variable ++ words) more u ∙ (append_assoc result_variable words (more ++ u) ∙ append_assoc (decimal m) (codes "." ++ decimal k) (words ++ (more ++ u))) in
+      let same = (number_determined.each m n ((codes "." ++ decimal k) ++ (words ++ (more ++ u))) (codes "." ++ x) short (omega (arith, over, short)) refl refl
       (sym shape ∙ (behind ∙ append_assoc (decimal n) (codes ".") x))).0 in
       omega (arith, over, same);
 }
@@ -159,15 +159,15 @@ module _ (p : Program) (are : AreNames p.start_names) (named : AreNames (names_o
   row_step : (n : ℕ) (r s : List Size) (u v : List ℕ) → n < 2 ^ 64 → FitsRow p r → FitsRow p s → Pairs (SizesSaySame p.start_names) r s
       → IsLater (row_lead n) u → IsLater (row_lead n) v → why_sizes n r ++ u ≡ why_sizes n s ++ v → (r ≡ s) × (u ≡ v)
   row_step n r s u v short f g like k l e =
-      let w = numbered_told (IsPrintableSize p) (SizesSaySame p.start_names) (λ t s. t ≡ s) (λ m w. IsLater (place_lead n m) w) (why_size n) (size_step p are named n) (size_later n short)
+      let w = numbered_determined (IsPrintableSize p) (SizesSaySame p.start_names) (λ t s. t ≡ s) (λ m w. IsLater (place_lead n m) w) (why_size n) (size_step p are named n) (size_later n short)
       1 r s u v f.1 g.1 f.0 g.0 like (λ m. place_from_row n m u k) (λ m. place_from_row n m v l) e in
       (pairs_same r s w.0, w.1)
 
   -- why all sizes are missing that are
-  pub why_sizes_told : (rs ss : List (List Size)) → 1 + length rs ≤ 2 ^ 64 → 1 + length ss ≤ 2 ^ 64 → AllByRecursion (FitsRow p) rs → AllByRecursion (FitsRow p) ss
+  pub why_sizes_determined : (rs ss : List (List Size)) → 1 + length rs ≤ 2 ^ 64 → 1 + length ss ≤ 2 ^ 64 → AllByRecursion (FitsRow p) rs → AllByRecursion (FitsRow p) ss
       → Pairs (Pairs (SizesSaySame p.start_names)) rs ss → numbered_lines why_sizes 1 rs ≡ numbered_lines why_sizes 1 ss → rs ≡ ss
-  why_sizes_told rs ss few less f g like e =
+  why_sizes_determined rs ss few less f g like e =
       pairs_same rs ss
-      (numbered_told (FitsRow p) (Pairs (SizesSaySame p.start_names)) (λ r s. r ≡ s) (λ n w. IsLater (row_lead n) w) why_sizes row_step (λ n m row u over short h. row_later n m 1 row u over short h)
+      (numbered_determined (FitsRow p) (Pairs (SizesSaySame p.start_names)) (λ r s. r ≡ s) (λ n w. IsLater (row_lead n) w) why_sizes row_step (λ n m row u over short h. row_later n m 1 row u over short h)
       1 rs ss [] [] few less f g like (λ m. record { whys = tt; no = λ w e. cc }) (λ m. record { whys = tt; no = λ w e. cc })
       (append-nil (numbered_lines why_sizes 1 rs) ∙ (e ∙ sym (append-nil (numbered_lines why_sizes 1 ss))))).0

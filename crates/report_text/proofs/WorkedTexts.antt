@@ -4,10 +4,10 @@ use Rattle.std.specs.Fmt.{digits}
 use Rattle.report_text.specs.Reports.{text_of_report}
 use Rattle.report_text.specs.WorkedTexts.{TextsTellApart, TextsDontTell, TextsAreWorkedOut}
 
--- what texts tell
-told : TextsTellApart
+-- which texts differ
+determined : TextsTellApart
 unfolding text_of_report digits
-told = record {
+determined = record {
   program = record {
     symbols = (record { name = (refl, refl); arity = omega arith }, (record { name = (refl, refl); arity = omega arith }, tt));
     distinct = (refl, (refl, tt));
@@ -60,4 +60,4 @@ untold = record {
 
 -- both
 pub texts_are_worked_out : TextsAreWorkedOut
-texts_are_worked_out = record { told = told; untold = untold }
+texts_are_worked_out = record { determined = determined; untold = untold }

@@ -1,4 +1,4 @@
--- What the report's functions meet: entries of the code, and their lines.
+-- Preconditions of the report's functions: entries of the code, and their lines.
 use Rattle.std.specs.Prelude.{ℕ, Bool, true, false, cond, List, ◌++◌, Option, codes, decimal}
 use Rattle.std.specs.List.{list_all}
 use Rattle.std.specs.Option.{option_map}
@@ -14,7 +14,7 @@ use Rattle.report_text.specs.Reports.{bound_end, none_end}
 abbrev pub entry_end : List Name → TimeEntry → List ℕ
 entry_end names (times.Known s) = bound_end names (bound_of s.bound)
 entry_end names (times.Gap g) = none_end
-entry_end names (times.Tripped t) = none_end
+entry_end names (times.OutOfLimits t) = none_end
 entry_end names (times.Large nodes) = none_end
 
 abbrev pub entry_line : List Name → ℕ → TimeEntry → List ℕ
@@ -28,7 +28,7 @@ total_of o = option_map bound_of o
 abbrev pub is_known : TimeEntry → Bool
 is_known (times.Known s) = true
 is_known (times.Gap g) = false
-is_known (times.Tripped t) = false
+is_known (times.OutOfLimits t) = false
 is_known (times.Large nodes) = false
 
 abbrev pub headline_of : List TimeEntry → List ℕ

@@ -3,7 +3,7 @@ pub mod Pieces
 pub mod Reasons
 pub mod Reports
 pub mod States
--- reports that a text tells whole, that it tells one alone, and small texts worked out by hand
+-- reports that are determined by their texts, and small texts worked out by hand
 pub mod Printable
 pub mod OneReport
 pub mod WorkedTexts

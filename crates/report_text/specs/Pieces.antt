@@ -1,8 +1,8 @@
 -- What the lines of a report are made of.
 use Rattle.std.specs.Prelude.{ℕ, suc, List, [], ◌∷◌, ◌++◌, ℤ, map, codes, decimal}
 use Rattle.std.specs.Fmt.{signed_decimal}
-use Rattle.proof_tree.specs.proof_nodes.Nodes.{Spot}
-use Rattle.proof_tree.specs.proof_nodes.Gaps.{ScaledPoint}
+use Rattle.cert_types.specs.cert_rules.Nodes.{ResultVariable}
+use Rattle.cert_types.specs.cert_rules.Gaps.{ScaledPoint}
 
 -- a comma and a blank before each word
 abbrev pub with_commas_before : List (List ℕ) → List ℕ
@@ -30,8 +30,8 @@ point_text p = parts_text p.parts ++ (codes " / " ++ decimal p.den)
 abbrev pub place_text : ℕ → ℕ → List ℕ
 place_text rule place = decimal rule ++ (codes "." ++ decimal place)
 
-abbrev pub spot_text : Spot → List ℕ
-spot_text s = place_text s.rule s.place
+abbrev pub result_variable_text : ResultVariable → List ℕ
+result_variable_text s = place_text s.rule s.place
 
 -- for each element its lines, by its number, counted up from the first one's
 abbrev pub numbered_lines : {X : Type 0} → (ℕ → X → List ℕ) → ℕ → List X → List ℕ

@@ -1,8 +1,8 @@
--- Reports that a text tells whole: their numbers fit the types that hold them, their bounds are tidy and over the start
--- arguments, and their gaps have no points that no line shows. What an analysis reports is printable where its numbers
--- fit these types, which is a law of the crate above that knows both: its bounds are rewritten and over the start
--- arguments; a gap has one move and one kept point for each rule of its set, and its shut places are places of the
--- program's symbols.
+-- Reports that are determined by their texts: their numbers fit the types that hold them, their bounds are tidy and
+-- over the start arguments, and their gaps have only points that are shown in lines. What an analysis reports is
+-- printable where its numbers fit these types, which is a law of the crate above that knows both: its bounds are
+-- rewritten and over the start arguments; a gap has one move and one kept point for each rule of its set, and its shut
+-- places are places of the program's symbols.
 use Rattle.std.specs.Prelude.{ℕ, ◌^◌, ◌<◌, ◌≤◌, length, ℤ, nat_abs, Option, Some, None, ⊤}
 use Rattle.std.specs.List.{AllByRecursion}
 use Rattle.model.specs.Programs.{Program}
@@ -10,22 +10,22 @@ use Rattle.model.specs.Bounds.{Bound}
 use Rattle.bound_expr.specs.Tidy.{IsTidy}
 use Rattle.bound_expr.specs.Numbers.{ReadsBelow}
 use Rattle.bound_text.specs.Texts.{FitsTypes}
-use Rattle.proof_tree.specs.proof_nodes.Nodes.{Spot}
-use Rattle.proof_tree.specs.proof_nodes.Gaps.{ScaledPoint, SymbolPlace, Gap}
-use Rattle.proof_tree.specs.declared.answer.Question.{Question}
-use Rattle.proof_tree.specs.declared.answer.Question.TheVariants as questions
-use Rattle.farkas_cert.specs.linear_forms.declared.trip_cause.TripCause.{TripCause}
-use Rattle.farkas_cert.specs.linear_forms.declared.trip_cause.TripCause.TheVariants as causes
-use Rattle.proof_tree.specs.declared.answer.Trip.{Trip}
+use Rattle.cert_types.specs.cert_rules.Nodes.{ResultVariable}
+use Rattle.cert_types.specs.cert_rules.Gaps.{ScaledPoint, SymbolPlace, Gap}
+use Rattle.cert_types.specs.declared.answer.Question.{Question}
+use Rattle.cert_types.specs.declared.answer.Question.TheVariants as questions
+use Rattle.farkas_cert.specs.linear_forms.declared.limit_cause.LimitCause.{LimitCause}
+use Rattle.farkas_cert.specs.linear_forms.declared.limit_cause.LimitCause.TheVariants as causes
+use Rattle.cert_types.specs.declared.answer.LimitHit.{LimitHit}
 use Rattle.outcome.specs.Reports.{NoTime, NoFunction, TimeTripped, TimeLarge, Time, Timed, Untimed}
-use Rattle.outcome.specs.Reports.{NoSize, SizeLoose, SizeTripped, SizeMissing, SizeBent, SizeUntimed, SizeLarge}
+use Rattle.outcome.specs.Reports.{NoSize, SizeUnbounded, SizeTripped, SizeMissing, SizeNonlinear, SizeUntimed, SizeLarge}
 use Rattle.outcome.specs.Reports.{Size, Sized, Unsized, Report}
 
 -- a number has 64 bits
 abbrev pub IsShort : ℕ → Type 0
 IsShort n = n < 2 ^ 64
 
--- so has the absolute value of a number with a sign
+-- the absolute value of a number with a sign fits, too
 abbrev pub IsShortSigned : ℤ → Type 0
 IsShortSigned z = IsShort (nat_abs z)
 
@@ -62,36 +62,37 @@ abbrev pub IsPrintableQuestion : Question → Type 0
 IsPrintableQuestion (questions.Empty rule) = IsShort rule
 IsPrintableQuestion (questions.Rank rule) = IsShort rule
 IsPrintableQuestion (questions.Local rule place) = IsShort rule × IsShort place
+IsPrintableQuestion (questions.Cost rule) = IsShort rule
 
 -- the number of a limit is short
-abbrev pub IsPrintableCause : TripCause → Type 0
+abbrev pub IsPrintableCause : LimitCause → Type 0
 IsPrintableCause (causes.Range pivot) = IsShort pivot
 IsPrintableCause (causes.Budget pivots) = IsShort pivots
 IsPrintableCause (causes.Wide entries) = IsShort entries
 IsPrintableCause causes.Scale = ⊤
 
--- so are those of a trip
-pub record IsPrintableTrip (t : Trip) : Type 0 where
+-- the numbers of a trip fit
+pub record IsPrintableLimitHit (t : LimitHit) : Type 0 where
   pub question : IsPrintableQuestion t.question
   pub cause : IsPrintableCause t.cause
 
 -- and those of a rule and a place
-pub record IsPrintableSpot (s : Spot) : Type 0 where
+pub record IsPrintableResultVariable (s : ResultVariable) : Type 0 where
   pub rule : IsShort s.rule
   pub place : IsShort s.place
 
--- a reason why a time is missing is printable, with so many symbols
+-- a reason why a time is missing is printable, with this many symbols
 abbrev pub IsPrintableNoTime : ℕ → NoTime → Type 0
 IsPrintableNoTime n (NoFunction g) = IsPrintableGap n g
-IsPrintableNoTime n (TimeTripped t) = IsPrintableTrip t
+IsPrintableNoTime n (TimeTripped t) = IsPrintableLimitHit t
 IsPrintableNoTime n (TimeLarge nodes) = IsShort nodes
 
 -- a reason why a size is missing is printable
 abbrev pub IsPrintableNoSize : NoSize → Type 0
-IsPrintableNoSize (SizeLoose side ray kept) = AllByRecursion IsShortSigned ray × IsPrintablePoint kept
-IsPrintableNoSize (SizeTripped t) = IsPrintableTrip t
-IsPrintableNoSize (SizeMissing s) = IsPrintableSpot s
-IsPrintableNoSize (SizeBent s) = IsPrintableSpot s
+IsPrintableNoSize (SizeUnbounded side ray kept) = AllByRecursion IsShortSigned ray × IsPrintablePoint kept
+IsPrintableNoSize (SizeTripped t) = IsPrintableLimitHit t
+IsPrintableNoSize (SizeMissing s) = IsPrintableResultVariable s
+IsPrintableNoSize (SizeNonlinear s) = IsPrintableResultVariable s
 IsPrintableNoSize (SizeUntimed rule) = IsShort rule
 IsPrintableNoSize (SizeLarge nodes) = IsShort nodes
 

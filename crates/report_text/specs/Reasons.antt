@@ -1,32 +1,33 @@
--- Why a time or a size is missing, as it is printed: what stands behind the colon, and the lines that follow.
+-- Why a time or a size is missing, as it is printed: the text behind the colon, and the lines that follow.
 use Rattle.std.specs.Prelude.{ℕ, List, [], ◌∷◌, ◌++◌, Option, Some, None, slice_get, codes, decimal}
 use Rattle.model.specs.Programs.{Name, Symbol}
-use Rattle.proof_tree.specs.declared.answer.Question.{Question}
-use Rattle.proof_tree.specs.declared.answer.Question.TheVariants as questions
-use Rattle.farkas_cert.specs.linear_forms.declared.trip_cause.TripCause.{TripCause}
-use Rattle.farkas_cert.specs.linear_forms.declared.trip_cause.TripCause.TheVariants as causes
-use Rattle.proof_tree.specs.declared.answer.Trip.{Trip}
-use Rattle.proof_tree.specs.proof_nodes.Gaps.{ScaledPoint, SymbolPlace, Gap}
-use Rattle.proof_tree.specs.proof_nodes.AcceptsSizes.{Side, Up, Low}
+use Rattle.cert_types.specs.declared.answer.Question.{Question}
+use Rattle.cert_types.specs.declared.answer.Question.TheVariants as questions
+use Rattle.farkas_cert.specs.linear_forms.declared.limit_cause.LimitCause.{LimitCause}
+use Rattle.farkas_cert.specs.linear_forms.declared.limit_cause.LimitCause.TheVariants as causes
+use Rattle.cert_types.specs.declared.answer.LimitHit.{LimitHit}
+use Rattle.cert_types.specs.cert_rules.Gaps.{ScaledPoint, SymbolPlace, Gap}
+use Rattle.cert_types.specs.cert_rules.AcceptsSizes.{Side, Up, Low}
 use Rattle.outcome.specs.Reports.{NoTime, NoFunction, TimeTripped, TimeLarge}
-use Rattle.outcome.specs.Reports.{NoSize, SizeLoose, SizeTripped, SizeMissing, SizeBent, SizeUntimed, SizeLarge}
-use Rattle.report_text.specs.Pieces.{rules_text, parts_text, point_text, place_text, spot_text}
+use Rattle.outcome.specs.Reports.{NoSize, SizeUnbounded, SizeTripped, SizeMissing, SizeNonlinear, SizeUntimed, SizeLarge}
+use Rattle.report_text.specs.Pieces.{rules_text, parts_text, point_text, place_text, result_variable_text}
 
--- what a linear program was asked
+-- the question of a linear program
 abbrev pub question_text : Question → List ℕ
 question_text (questions.Empty rule) = codes "empty " ++ decimal rule
 question_text (questions.Rank rule) = codes "rank " ++ decimal rule
 question_text (questions.Local rule place) = codes "local " ++ place_text rule place
+question_text (questions.Cost rule) = codes "cost " ++ decimal rule
 
 -- the limit that it passed
-abbrev pub cause_text : TripCause → List ℕ
+abbrev pub cause_text : LimitCause → List ℕ
 cause_text (causes.Range pivot) = codes "range at pivot " ++ decimal pivot
 cause_text (causes.Budget pivots) = codes "budget after " ++ (decimal pivots ++ codes " pivots")
 cause_text (causes.Wide entries) = codes "wide " ++ (decimal entries ++ codes " entries")
 cause_text causes.Scale = codes "scale"
 
-abbrev pub trip_text : Trip → List ℕ
-trip_text t = question_text t.question ++ (codes " " ++ cause_text t.cause)
+abbrev pub limit_hit_text : LimitHit → List ℕ
+limit_hit_text t = question_text t.question ++ (codes " " ++ cause_text t.cause)
 
 -- the number of nodes of a bound that is too large
 abbrev pub large_text : ℕ → List ℕ
@@ -71,7 +72,7 @@ gap_text symbols g =
 -- why a time is missing
 abbrev pub no_time_text : List Symbol → NoTime → List ℕ
 no_time_text symbols (NoFunction g) = gap_text symbols g
-no_time_text symbols (TimeTripped t) = trip_text t ++ codes "\n"
+no_time_text symbols (TimeTripped t) = limit_hit_text t ++ codes "\n"
 no_time_text symbols (TimeLarge nodes) = large_text nodes ++ codes "\n"
 
 -- a loose side, with its ray and the point from which it starts
@@ -81,10 +82,10 @@ side_text Low = codes "loose low\n"
 
 -- why a size is missing
 abbrev pub no_size_text : NoSize → List ℕ
-no_size_text (SizeLoose side ray kept) =
+no_size_text (SizeUnbounded side ray kept) =
     side_text side ++ (codes "  ray: " ++ (parts_text ray ++ (codes "\n  kept: " ++ (point_text kept ++ codes "\n"))))
-no_size_text (SizeTripped t) = trip_text t ++ codes "\n"
-no_size_text (SizeMissing s) = codes "missing " ++ (spot_text s ++ codes "\n")
-no_size_text (SizeBent s) = codes "bent " ++ (spot_text s ++ codes "\n")
+no_size_text (SizeTripped t) = limit_hit_text t ++ codes "\n"
+no_size_text (SizeMissing s) = codes "missing " ++ (result_variable_text s ++ codes "\n")
+no_size_text (SizeNonlinear s) = codes "bent " ++ (result_variable_text s ++ codes "\n")
 no_size_text (SizeUntimed rule) = codes "untimed " ++ (decimal rule ++ codes "\n")
 no_size_text (SizeLarge nodes) = large_text nodes ++ codes "\n"

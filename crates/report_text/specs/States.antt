@@ -1,4 +1,4 @@
--- What a text states.
+-- When a text states a report.
 use Rattle.std.specs.Prelude.{◌≡◌, ℕ, List}
 use Rattle.model.specs.Programs.{Program}
 use Rattle.outcome.specs.Reports.{Report}

@@ -1,17 +1,17 @@
--- Small reports and their texts, worked out by hand: what a text tells apart, and what it doesn't tell.
+-- Worked values of small reports and their texts: what texts distinguish, and what they don't.
 use Rattle.std.specs.Prelude.{◌≡◌, ℕ, List, [], ◌∷◌, ◌++◌, replicate, Some, None, codes}
 use Rattle.model.specs.Terms.{Variable}
 use Rattle.model.specs.Programs.{Program}
 use Rattle.model.specs.Bounds.{Input}
 use Rattle.its_model.specs.Valid.{IsValid}
-use Rattle.proof_tree.specs.proof_nodes.Gaps.{ScaledPoint, SymbolPlace, Gap}
+use Rattle.cert_types.specs.cert_rules.Gaps.{ScaledPoint, SymbolPlace, Gap}
 use Rattle.outcome.specs.Holding.{IsReportOn}
 use Rattle.outcome.specs.Reports.{TimeLarge, Timed, Untimed, SizeUntimed, Size, Sized, Unsized, Report}
 use Rattle.report_text.specs.Reasons.{gap_text}
 use Rattle.report_text.specs.Reports.{text_of_report}
 use Rattle.report_text.specs.Printable.{IsPrintableGap, IsPrintableReport}
 
--- the program f(unknown) -> g(unknown, .., unknown), with so many places of g
+-- the program f(unknown) -> g(unknown, .., unknown), with this many places of g
 abbrev pub leading_to : ℕ → Program
 leading_to n = record {
   symbols = record { name = codes "f"; arity = 1 } ∷ record { name = codes "g"; arity = n } ∷ [];
@@ -52,7 +52,7 @@ bare_gap shut moves = record {
   kept = [];
 }
 
--- a variable that is named `unknown` is told from what is missing by the first line and the reasons
+-- a variable that is named `unknown` is distinguished from a missing bound by the first line and the reasons
 pub record TextsTellApart : Type 0 where
   pub program : IsValid (leading_to 1)
   pub variable : IsPrintableReport (leading_to 1) (timed_by_variable ((Sized (Input 0) ∷ []) ∷ []))
@@ -63,9 +63,9 @@ pub record TextsTellApart : Type 0 where
       ≡ codes "unknown\ntime 1: unknown\ntotal: unknown\nsize 1.1: unknown\n"
       ++ codes "why time 1: large 5000 nodes\nwhy size 1.1: untimed 1\n"
 
--- where no target has a place, no text tells whether sizes are left out, but then it is no report on the program; of a
--- gap no text tells a move that is one too many, or the number of a symbol that there isn't. Such reports aren't
--- printable
+-- where no target has a place, a text doesn't show whether sizes are left out, but then it is no report on the program;
+-- the text of a gap doesn't show a move that is one too many, or the number of a symbol that doesn't exist. Such
+-- reports aren't printable
 pub record TextsDontTell : Type 0 where
   pub no_places : text_of_report (leading_to 0) (timed_by_variable [])
       ≡ text_of_report (leading_to 0) (timed_by_variable ([] ∷ []))
@@ -79,5 +79,5 @@ pub record TextsDontTell : Type 0 where
 
 -- both
 pub record TextsAreWorkedOut : Type 0 where
-  pub told : TextsTellApart
+  pub determined : TextsTellApart
   pub untold : TextsDontTell

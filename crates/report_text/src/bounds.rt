@@ -31,7 +31,7 @@ pub(crate) fn push_time(
     push_time_end(text, names, entry)
 }
 
-// What stands behind the colon.
+// Writes the text behind the colon.
 fn push_time_end(text: &mut Vec<u8>, names: &[Name], entry: &TimeEntry) -> Result<(), Memory>
     requires { IsPrintableTime (length names.now) entry.now }
     ensures { OnOk result (text.new.items ≡ text.old.items ++ entry_end (map name_of names.now) entry.now) }
@@ -39,7 +39,7 @@ fn push_time_end(text: &mut Vec<u8>, names: &[Name], entry: &TimeEntry) -> Resul
     match entry {
         TimeEntry::Known(stored) => push_bound(text, names, &stored.bound),
         TimeEntry::Gap { .. } => text.extend_from_slice(b"unknown\n"),
-        TimeEntry::Tripped(_) => text.extend_from_slice(b"unknown\n"),
+        TimeEntry::OutOfLimits(_) => text.extend_from_slice(b"unknown\n"),
         TimeEntry::Large { .. } => text.extend_from_slice(b"unknown\n"),
     }
 }
@@ -79,17 +79,17 @@ pub(crate) fn push_size(
     push_size_end(text, names, entry)
 }
 
-// What stands behind the colon.
+// Writes the text behind the colon.
 fn push_size_end(text: &mut Vec<u8>, names: &[Name], entry: &SizeEntry) -> Result<(), Memory>
     requires { IsPrintableSize (length names.now) entry.now }
     ensures { OnOk result (text.new.items ≡ text.old.items ++ size_end (map name_of names.now) (size_of entry.now)) }
 {
     match entry {
         SizeEntry::Known(stored) => push_bound(text, names, &stored.bound),
-        SizeEntry::Loose(_) => text.extend_from_slice(b"unknown\n"),
-        SizeEntry::Tripped(_) => text.extend_from_slice(b"unknown\n"),
+        SizeEntry::UnboundedSide(_) => text.extend_from_slice(b"unknown\n"),
+        SizeEntry::OutOfLimits(_) => text.extend_from_slice(b"unknown\n"),
         SizeEntry::Missing(_) => text.extend_from_slice(b"unknown\n"),
-        SizeEntry::Bent(_) => text.extend_from_slice(b"unknown\n"),
+        SizeEntry::Nonlinear(_) => text.extend_from_slice(b"unknown\n"),
         SizeEntry::Untimed { .. } => text.extend_from_slice(b"unknown\n"),
         SizeEntry::Large { .. } => text.extend_from_slice(b"unknown\n"),
     }

@@ -2,17 +2,17 @@
 
 ghost use Rattle.std.specs.Prelude.{◌≡◌, ◌++◌, map, slice_get, OnOk};
 ghost use Rattle.its_model.specs.Views.{symbol_of};
-ghost use Rattle.proof_tree.specs.AnswerViews.{scaled_of, symbol_place, shut_of, gap_of};
+ghost use Rattle.cert_types.specs.AnswerViews.{scaled_of, symbol_place, shut_of, gap_of};
 ghost use Rattle.report_text.specs.Reasons.{shut_line, shut_lines, point_line, point_lines, gap_lines, gap_text};
 ghost use Rattle.report_text.specs.Reasons.{name_in};
 
 use crate::numbers::{push_number, push_point, push_rules};
+use cert_types::Gap;
 use farkas_cert::Scaled;
 use its_model::Symbol;
 use model::Memory;
-use proof_tree::Gap;
 
-/// Why no function ranks: the set of the gap, and the lines of the gap.
+/// Writes why no function ranks: the set of the gap, and the lines of the gap.
 pub(crate) fn push_gap(text: &mut Vec<u8>, symbols: &[Symbol], gap: &Gap) -> Result<(), Memory>
     ensures { OnOk result (text.new.items ≡ text.old.items ++ gap_text (map symbol_of symbols.now) (gap_of gap.now)) }
 {

@@ -1,5 +1,7 @@
-//! The report of an analysis as text. Contract to the layer above: `print` gives exactly the text of the outcome's
-//! report.
+//! Prints the report of an analysis.
+//!
+//! Builds on `outcome` (reports) and `bound_text` (bounds). Main guarantee: `print` gives exactly the text of the
+//! outcome's report, and the text of a printable report on a valid program determines the report.
 #![tactic(auto)]
 
 mod bounds;

@@ -2,7 +2,7 @@
 
 ghost use Rattle.std.specs.Prelude.{◌≡◌, ◌++◌, map, decimal, OnOk};
 ghost use Rattle.std.specs.Fmt.{signed_decimal};
-ghost use Rattle.proof_tree.specs.AnswerViews.{scaled_of};
+ghost use Rattle.cert_types.specs.AnswerViews.{scaled_of};
 ghost use Rattle.report_text.specs.Pieces.{with_commas, with_commas_before, rules_text, parts_text, point_text};
 ghost use Rattle.report_text.specs.Pieces.{place_text};
 

@@ -2,20 +2,20 @@
 
 ghost use Rattle.std.specs.Prelude.{◌≡◌, ◌++◌, codes, decimal, length, map, OnOk};
 ghost use Rattle.its_model.specs.Views.{symbol_of};
-ghost use Rattle.proof_tree.specs.Views.{spot_of};
-ghost use Rattle.outcome.specs.Views.{time_of, size_of, side_by, loose_of};
-ghost use Rattle.report_text.specs.Pieces.{place_text, spot_text};
-ghost use Rattle.report_text.specs.Reasons.{trip_text, large_text, side_text, no_size_text};
+ghost use Rattle.cert_types.specs.Views.{result_variable_of};
+ghost use Rattle.outcome.specs.Views.{time_of, size_of, side_by, unbounded_of};
+ghost use Rattle.report_text.specs.Pieces.{place_text, result_variable_text};
+ghost use Rattle.report_text.specs.Reasons.{limit_hit_text, large_text, side_text, no_size_text};
 ghost use Rattle.report_text.specs.Reports.{why_time, why_size};
 ghost use Rattle.outcome.specs.Printing.{HasItsGap};
 
 use crate::gaps::push_gap;
 use crate::numbers::{push_number, push_parts, push_place, push_point};
-use crate::trips::{push_large, push_trip};
+use crate::trips::{push_large, push_limit_hit};
+use cert_types::{Gap, LimitHit, ResultVariable};
 use its_model::Symbol;
 use model::Memory;
-use outcome::{Loose, SizeEntry, TimeEntry};
-use proof_tree::{Gap, Spot, Trip};
+use outcome::{SizeEntry, TimeEntry, UnboundedSide};
 
 /// Why the time of a rule is missing, if it is.
 pub(crate) fn push_why_time(
@@ -35,9 +35,9 @@ pub(crate) fn push_why_time(
             push_time_start(text, rule)?;
             push_gap(text, symbols, &gaps[(*gap - 1) as usize])
         }
-        TimeEntry::Tripped(trip) => {
+        TimeEntry::OutOfLimits(limit_hit) => {
             push_time_start(text, rule)?;
-            push_trip_line(text, trip)
+            push_limit_hit_line(text, limit_hit)
         }
         TimeEntry::Large { nodes } => {
             push_time_start(text, rule)?;
@@ -46,7 +46,7 @@ pub(crate) fn push_why_time(
     }
 }
 
-// What stands before the reason of a rule.
+// Writes the text before the reason of a rule.
 fn push_time_start(text: &mut Vec<u8>, rule: u64) -> Result<(), Memory>
     ensures { OnOk result (text.new.items ≡ text.old.items ++ (codes "why time " ++ (decimal rule ++ codes ": "))) }
 {
@@ -66,21 +66,21 @@ pub(crate) fn push_why_size(
 {
     match entry {
         SizeEntry::Known(_) => Ok(()),
-        SizeEntry::Loose(loose) => {
+        SizeEntry::UnboundedSide(unbounded) => {
             push_size_start(text, rule, place)?;
-            push_loose(text, loose)
+            push_unbounded(text, unbounded)
         }
-        SizeEntry::Tripped(trip) => {
+        SizeEntry::OutOfLimits(limit_hit) => {
             push_size_start(text, rule, place)?;
-            push_trip_line(text, trip)
+            push_limit_hit_line(text, limit_hit)
         }
-        SizeEntry::Missing(spot) => {
+        SizeEntry::Missing(result_variable) => {
             push_size_start(text, rule, place)?;
-            push_spot_line(text, b"missing ", *spot)
+            push_result_variable_line(text, b"missing ", *result_variable)
         }
-        SizeEntry::Bent(spot) => {
+        SizeEntry::Nonlinear(result_variable) => {
             push_size_start(text, rule, place)?;
-            push_spot_line(text, b"bent ", *spot)
+            push_result_variable_line(text, b"bent ", *result_variable)
         }
         SizeEntry::Untimed { rule: untimed } => {
             push_size_start(text, rule, place)?;
@@ -93,7 +93,7 @@ pub(crate) fn push_why_size(
     }
 }
 
-// What stands before the reason of a place.
+// Writes the text before the reason of a place.
 fn push_size_start(text: &mut Vec<u8>, rule: u64, place: u64) -> Result<(), Memory>
     ensures { OnOk result
         (text.new.items ≡ text.old.items ++ (codes "why size " ++ (place_text rule place ++ codes ": "))) }
@@ -104,14 +104,14 @@ fn push_size_start(text: &mut Vec<u8>, rule: u64, place: u64) -> Result<(), Memo
 }
 
 // A loose side, its ray, and the point from which it starts.
-fn push_loose(text: &mut Vec<u8>, loose: &Loose) -> Result<(), Memory>
-    ensures { OnOk result (text.new.items ≡ text.old.items ++ no_size_text (loose_of loose.now)) }
+fn push_unbounded(text: &mut Vec<u8>, unbounded: &UnboundedSide) -> Result<(), Memory>
+    ensures { OnOk result (text.new.items ≡ text.old.items ++ no_size_text (unbounded_of unbounded.now)) }
 {
-    push_side(text, loose.up)?;
+    push_side(text, unbounded.up)?;
     text.extend_from_slice(b"  ray: ")?;
-    push_parts(text, &loose.ray)?;
+    push_parts(text, &unbounded.ray)?;
     text.extend_from_slice(b"\n  kept: ")?;
-    push_point(text, &loose.kept)?;
+    push_point(text, &unbounded.kept)?;
     text.extend_from_slice(b"\n")
 }
 
@@ -126,11 +126,11 @@ fn push_side(text: &mut Vec<u8>, up: bool) -> Result<(), Memory>
     }
 }
 
-// A linear program that passed a limit.
-fn push_trip_line(text: &mut Vec<u8>, trip: &Trip) -> Result<(), Memory>
-    ensures { OnOk result (text.new.items ≡ text.old.items ++ (trip_text trip.now ++ codes "\n")) }
+// A linear program that exceeded a limit.
+fn push_limit_hit_line(text: &mut Vec<u8>, limit_hit: &LimitHit) -> Result<(), Memory>
+    ensures { OnOk result (text.new.items ≡ text.old.items ++ (limit_hit_text limit_hit.now ++ codes "\n")) }
 {
-    push_trip(text, trip)?;
+    push_limit_hit(text, limit_hit)?;
     text.extend_from_slice(b"\n")
 }
 
@@ -143,11 +143,19 @@ fn push_large_line(text: &mut Vec<u8>, nodes: u64) -> Result<(), Memory>
 }
 
 // A rule and a place behind a word.
-fn push_spot_line(text: &mut Vec<u8>, word: &[u8], spot: Spot) -> Result<(), Memory>
-    ensures { OnOk result (text.new.items ≡ text.old.items ++ (word.now ++ (spot_text (spot_of spot) ++ codes "\n"))) }
+fn push_result_variable_line(
+    text: &mut Vec<u8>,
+    word: &[u8],
+    result_variable: ResultVariable,
+) -> Result<(), Memory>
+    ensures { OnOk result (text.new.items ≡ text.old.items ++ (word.now ++ (result_variable_text (result_variable_of result_variable) ++ codes "\n"))) }
 {
     text.extend_from_slice(word)?;
-    push_place(text, u64::from(spot.rule), u64::from(spot.place))?;
+    push_place(
+        text,
+        u64::from(result_variable.rule),
+        u64::from(result_variable.place),
+    )?;
     text.extend_from_slice(b"\n")
 }
 

@@ -11,10 +11,10 @@ ghost use Rattle.report_text.specs.Conditions.{entry_line, is_known, headline_of
 
 use crate::bounds::{push_size, push_time, push_total};
 use crate::reasons::{push_why_size, push_why_time};
+use cert_types::Gap;
 use its_model::{Name, Program, Symbol};
 use model::Memory;
 use outcome::{Outcome, SizeEntry, TimeEntry};
-use proof_tree::Gap;
 use std::alloc::Global;
 
 /// The text of the report of an outcome on a program.

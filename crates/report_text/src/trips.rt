@@ -1,22 +1,22 @@
 //! Trips in a report.
 
 ghost use Rattle.std.specs.Prelude.{◌≡◌, ◌++◌, decimal, OnOk};
-ghost use Rattle.report_text.specs.Reasons.{question_text, cause_text, trip_text, large_text};
+ghost use Rattle.report_text.specs.Reasons.{question_text, cause_text, limit_hit_text, large_text};
 
 use crate::numbers::{push_number, push_place};
+use cert_types::{LimitCause, LimitHit, Question};
 use model::Memory;
-use proof_tree::{Question, Trip, TripCause};
 
-/// The limit that a linear program passed, and what it was asked.
-pub(crate) fn push_trip(text: &mut Vec<u8>, trip: &Trip) -> Result<(), Memory>
-    ensures { OnOk result (text.new.items ≡ text.old.items ++ trip_text trip.now) }
+/// Writes the limit that a linear program exceeded, and its question.
+pub(crate) fn push_limit_hit(text: &mut Vec<u8>, limit_hit: &LimitHit) -> Result<(), Memory>
+    ensures { OnOk result (text.new.items ≡ text.old.items ++ limit_hit_text limit_hit.now) }
 {
-    push_question(text, trip.question)?;
+    push_question(text, limit_hit.question)?;
     text.extend_from_slice(b" ")?;
-    push_cause(text, trip.cause)
+    push_cause(text, limit_hit.cause)
 }
 
-// What a linear program was asked.
+// Writes the question of a linear program.
 fn push_question(text: &mut Vec<u8>, question: Question) -> Result<(), Memory>
     ensures { OnOk result (text.new.items ≡ text.old.items ++ question_text question) }
 {
@@ -27,23 +27,24 @@ fn push_question(text: &mut Vec<u8>, question: Question) -> Result<(), Memory>
             text.extend_from_slice(b"local ")?;
             push_place(text, u64::from(rule), u64::from(place))
         }
+        Question::Cost { rule } => push_worded(text, b"cost ", u64::from(rule)),
     }
 }
 
 // The limit that it passed.
-fn push_cause(text: &mut Vec<u8>, cause: TripCause) -> Result<(), Memory>
+fn push_cause(text: &mut Vec<u8>, cause: LimitCause) -> Result<(), Memory>
     ensures { OnOk result (text.new.items ≡ text.old.items ++ cause_text cause) }
 {
     match cause {
-        TripCause::Range { pivot } => push_worded(text, b"range at pivot ", u64::from(pivot)),
-        TripCause::Budget { pivots } => push_counted(
+        LimitCause::Range { pivot } => push_worded(text, b"range at pivot ", u64::from(pivot)),
+        LimitCause::Budget { pivots } => push_counted(
             text,
             b"budget after ",
             u64::from(pivots),
             b" pivots",
         ),
-        TripCause::Wide { entries } => push_counted(text, b"wide ", entries, b" entries"),
-        TripCause::Scale => text.extend_from_slice(b"scale"),
+        LimitCause::Wide { entries } => push_counted(text, b"wide ", entries, b" entries"),
+        LimitCause::Scale => text.extend_from_slice(b"scale"),
     }
 }
 

@@ -1,10 +1,10 @@
 //! Reports of outcomes that were made by hand.
 
 use bound_expr::Memory;
+use cert_types::{Gap, LimitCause, LimitHit, Question, ResultVariable};
 use farkas_cert::Scaled;
 use its_model::{Program, Symbol};
-use outcome::{Loose, Outcome, SizeEntry, TimeEntry};
-use proof_tree::{Gap, Question, Spot, Trip, TripCause};
+use outcome::{Outcome, SizeEntry, TimeEntry, UnboundedSide};
 use report_text::print;
 use std::alloc::Global;
 use std::test::Fail;
@@ -43,7 +43,7 @@ fn point(alloc: Global, parts: &[i64], den: u64) -> Result<Scaled, Memory> {
 }
 
 #[test]
-fn a_gap_and_a_loose_place_are_printed(rt: HostRuntime) -> Result<(), Fail> {
+fn a_gap_and_an_unbounded_place_are_printed(rt: HostRuntime) -> Result<(), Fail> {
     let alloc = rt.alloc();
     let gap = Gap {
         rule: 1,
@@ -53,14 +53,14 @@ fn a_gap_and_a_loose_place_are_printed(rt: HostRuntime) -> Result<(), Fail> {
         floor: point(alloc, &[1, -2], 0)?,
         kept: vec![in alloc; point(alloc, &[1], 1)?, point(alloc, &[-30], 7)?]?,
     };
-    let loose = Loose {
+    let unbounded = UnboundedSide {
         up: true,
         ray: vec![in alloc; 0, 1]?,
         kept: point(alloc, &[1, 1], 1)?,
     };
     let outcome = Outcome {
         times: vec![in alloc; TimeEntry::Gap { gap: 1 }]?,
-        sizes: vec![in alloc; vec![in alloc; SizeEntry::Loose(loose)]?]?,
+        sizes: vec![in alloc; vec![in alloc; SizeEntry::UnboundedSide(unbounded)]?]?,
         total: None,
         lemmas: Vec::new(alloc),
         gaps: vec![in alloc; gap]?,
@@ -74,33 +74,33 @@ why size 1.1: loose up\n  ray: (0, 1)\n  kept: (1, 1) / 1\n";
     Ok(())
 }
 
-// A question that passed a limit.
-fn tripped(question: Question, cause: TripCause) -> Trip {
-    Trip { question, cause }
+// A question that exceeded a limit.
+fn tripped(question: Question, cause: LimitCause) -> LimitHit {
+    LimitHit { question, cause }
 }
 
 #[test]
 fn reasons_are_printed(rt: HostRuntime) -> Result<(), Fail> {
     let alloc = rt.alloc();
-    let rank = tripped(Question::Rank { rule: 1 }, TripCause::Budget { pivots: 0 });
-    let empty = tripped(Question::Empty { rule: 2 }, TripCause::Range { pivot: 3 });
+    let rank = tripped(Question::Rank { rule: 1 }, LimitCause::Budget { pivots: 0 });
+    let empty = tripped(Question::Empty { rule: 2 }, LimitCause::Range { pivot: 3 });
     let local = tripped(
         Question::Local { rule: 1, place: 1 },
-        TripCause::Wide {
+        LimitCause::Wide {
             entries: 16_000_001,
         },
     );
-    let scale = tripped(Question::Rank { rule: 4 }, TripCause::Scale);
+    let cost = tripped(Question::Cost { rule: 4 }, LimitCause::Scale);
     let outcome = Outcome {
         times: vec![in alloc;
-            TimeEntry::Tripped(rank),
-            TimeEntry::Tripped(empty),
+            TimeEntry::OutOfLimits(rank),
+            TimeEntry::OutOfLimits(empty),
             TimeEntry::Large { nodes: 4_097 },
         ]?,
         sizes: vec![in alloc;
-            vec![in alloc; SizeEntry::Tripped(local), SizeEntry::Tripped(scale)]?,
+            vec![in alloc; SizeEntry::OutOfLimits(local), SizeEntry::OutOfLimits(cost)]?,
             vec![in alloc;
-                SizeEntry::Bent(Spot { rule: 2, place: 2 }),
+                SizeEntry::Nonlinear(ResultVariable { rule: 2, place: 2 }),
                 SizeEntry::Untimed { rule: 3 }
             ]?,
             vec![in alloc; SizeEntry::Large { nodes: 5_000 }]?,
@@ -114,7 +114,7 @@ fn reasons_are_printed(rt: HostRuntime) -> Result<(), Fail> {
         b"unknown\ntime 1: unknown\ntime 2: unknown\ntime 3: unknown\ntotal: unknown\nsize 1.1: unknown\n\
 size 1.2: unknown\nsize 2.1: unknown\nsize 2.2: unknown\nsize 3.1: unknown\n\
 why time 1: rank 1 budget after 0 pivots\nwhy time 2: empty 2 range at pivot 3\nwhy time 3: large 4097 nodes\n\
-why size 1.1: local 1.1 wide 16000001 entries\nwhy size 1.2: rank 4 scale\nwhy size 2.1: bent 2.2\n\
+why size 1.1: local 1.1 wide 16000001 entries\nwhy size 1.2: cost 4 scale\nwhy size 2.1: bent 2.2\n\
 why size 2.2: untimed 3\nwhy size 3.1: large 5000 nodes\n";
     assert_eq!(rt; text.as_slice(), wanted);
     Ok(())

@@ -49,7 +49,7 @@ share-own c x s i e f =
 
 -- what a parameter gives at the target
 target-share : (h : Form → ℤ) → Reads h → (r : RuleForms) (c : Coefficient) (x : ℤ)
-    → list_dot (map h r.news) (λ j. share c x r.target (suc j)) +ℤ h (constant_form (pos 1)) *ℤ share c x r.target 0
+    → list_dot (map h r.new_values) (λ j. share c x r.target (suc j)) +ℤ h (constant_form (pos 1)) *ℤ share c x r.target 0
     ≡ h (at_target r c) *ℤ x
 target-share h reads r c x = go (nat_eq c.symbol r.target) refl
   where
@@ -63,47 +63,47 @@ target-share h reads r c x = go (nat_eq c.symbol r.target) refl
     before a b p e f = omega (arith, ints, e, f)
 
     place : (i : ℕ) → c.place ≡ i → nat_eq c.symbol r.target ≡ true
-        → list_dot (map h r.news) (λ j. share c x r.target (suc j)) +ℤ h (constant_form (pos 1)) *ℤ share c x r.target 0
+        → list_dot (map h r.new_values) (λ j. share c x r.target (suc j)) +ℤ h (constant_form (pos 1)) *ℤ share c x r.target 0
         ≡ h (after_rule r i) *ℤ x
     place zero f e =
-        alone _ _ _ (dot-none (map h r.news) _ (λ j. share-other c x r.target (suc j) (λ g. omega (arith, f, g))))
+        alone _ _ _ (dot-none (map h r.new_values) _ (λ j. share-other c x r.target (suc j) (λ g. omega (arith, f, g))))
         (ap (λ (y : ℤ). h (constant_form (pos 1)) *ℤ y) (share-own c x r.target 0 e f))
     place (suc k) f e =
         before _ _ _
-        (dot-one (map h r.news) k _ (λ j g. share-other c x r.target (suc j) (λ i. g (omega (arith, i, f))))
-        ∙ (ap (λ (y : ℤ). at (map h r.news) k *ℤ y) (share-own c x r.target (suc k) e f)
+        (dot-one (map h r.new_values) k _ (λ j g. share-other c x r.target (suc j) (λ i. g (omega (arith, i, f))))
+        ∙ (ap (λ (y : ℤ). at (map h r.new_values) k *ℤ y) (share-own c x r.target (suc k) e f)
         ∙ ap (λ (y : ℤ). y *ℤ x) (reading k)))
         (mul-zero_ℤ _ _ (share-other c x r.target 0 (λ g. omega (arith, f, g))))
       where
-        reading : (k : ℕ) → at (map h r.news) k ≡ h (slice_index_or r.news k zero_form)
-        reading k = ap (λ (y : ℤ). slice_index_or (map h r.news) k y) (sym reads.zero) ∙ read-at h r.news k zero_form
+        reading : (k : ℕ) → at (map h r.new_values) k ≡ h (slice_index_or r.new_values k zero_form)
+        reading k = ap (λ (y : ℤ). slice_index_or (map h r.new_values) k y) (sym reads.zero) ∙ read-at h r.new_values k zero_form
 
     go : (b : Bool) → nat_eq c.symbol r.target ≡ b
-        → list_dot (map h r.news) (λ j. share c x r.target (suc j)) +ℤ h (constant_form (pos 1)) *ℤ share c x r.target 0
+        → list_dot (map h r.new_values) (λ j. share c x r.target (suc j)) +ℤ h (constant_form (pos 1)) *ℤ share c x r.target 0
         ≡ h (if nat_eq c.symbol r.target then after_rule r c.place else zero_form) *ℤ x
     go true e = place c.place refl e ∙ ap (λ b. h (if b then after_rule r c.place else zero_form) *ℤ x) (sym e)
     go false e =
-        none _ _ _ (dot-none (map h r.news) _ (λ j. share-elsewhere c x r.target (suc j) e))
+        none _ _ _ (dot-none (map h r.new_values) _ (λ j. share-elsewhere c x r.target (suc j) e))
         (mul-zero_ℤ _ _ (share-elsewhere c x r.target 0 e))
         (ap (λ b. h (if b then after_rule r c.place else zero_form) *ℤ x) e ∙ zero-mul_ℤ _ x reads.zero)
 
 -- the function at the target, read, is the sum of the goal forms at the target, read and each taken by its parameter
 pub target-sum : (h : Form → ℤ) → Reads h → (r : RuleForms) (cs : List Coefficient) (v : ℕ → ℤ)
-    → list_dot (map h r.news) (λ j. coefficient cs v r.target (suc j))
+    → list_dot (map h r.new_values) (λ j. coefficient cs v r.target (suc j))
     +ℤ h (constant_form (pos 1)) *ℤ coefficient cs v r.target 0
     ≡ list_dot (map (λ c. h (at_target r c)) cs) v
 target-sum h reads r [] v =
-    none _ _ (dot-none (map h r.news) _ (λ j. refl)) (mul-zero_ℤ (h (constant_form (pos 1))) (pos 0) refl)
+    none _ _ (dot-none (map h r.new_values) _ (λ j. refl)) (mul-zero_ℤ (h (constant_form (pos 1))) (pos 0) refl)
   where
     none : (a b : ℤ) → a ≡ pos 0 → b ≡ pos 0 → a +ℤ b ≡ pos 0
     none a b e f = omega (arith, ints, e, f)
 target-sum h reads r (c ∷ cs) v =
-    split _ _ (list_dot (map h r.news) (λ j. share c (v 0) r.target (suc j)))
-    (list_dot (map h r.news) (λ j. coefficient cs (λ p. v (suc p)) r.target (suc j)))
+    split _ _ (list_dot (map h r.new_values) (λ j. share c (v 0) r.target (suc j)))
+    (list_dot (map h r.new_values) (λ j. coefficient cs (λ p. v (suc p)) r.target (suc j)))
     (h (constant_form (pos 1)) *ℤ share c (v 0) r.target 0)
     (h (constant_form (pos 1)) *ℤ coefficient cs (λ p. v (suc p)) r.target 0)
     (h (at_target r c) *ℤ v 0) (list_dot (map (λ k. h (at_target r k)) cs) (λ p. v (suc p)))
-    (dot-add (map h r.news) (λ j. share c (v 0) r.target (suc j))
+    (dot-add (map h r.new_values) (λ j. share c (v 0) r.target (suc j))
     (λ j. coefficient cs (λ p. v (suc p)) r.target (suc j)))
     (mul-add_ℤ (h (constant_form (pos 1))) (share c (v 0) r.target 0) (coefficient cs (λ p. v (suc p)) r.target 0))
     (target-share h reads r c (v 0)) (target-sum h reads r cs (λ p. v (suc p)))

@@ -23,7 +23,7 @@ use Rattle.linear_forms.proofs.SolutionLaws.{length-map}
 use Rattle.linear_forms.proofs.CombinationLaws.{form_value-sum, form_value-times, form_value-combination}
 use Rattle.linear_forms.proofs.ElementLaws.{dual-refutes}
 use Rattle.linear_forms.proofs.RefutationLaws.{refuted-has_none}
-use Rattle.rule_forms.specs.Ranking.{Function, at_news, Loses, Ranks, Fits, NoRank}
+use Rattle.rule_forms.specs.Ranking.{Function, over_new_values, Loses, Ranks, Fits, NoRank}
 use Rattle.rule_forms.specs.Laws.{HasPoint}
 use Rattle.rule_forms.specs.RankLaws.{IsRuleOf, IsSetOf, HavePointsOf}
 use Rattle.rule_forms.proofs.Forms.{at-listed, at-past, dot-same}
@@ -109,24 +109,24 @@ before-value b f r z d fits has l =
 after-value : (b : RankedSet) (f : Function) (r : RuleForms) (z : ℕ → ℤ) (d : ℤ) → Fits b f → IsRuleOf b r
     → has_symbol b r.target ≡ true
     → list_dot (map (λ c. form_value (at_target r c) z d) (coefficients_of b)) (numbers_of b f)
-    ≡ form_value (at_news r (f r.target)) z d
+    ≡ form_value (over_new_values r (f r.target)) z d
 after-value b f r z d fits is has =
     weighed (λ g. form_value g z d) (value-linear z d) b f r.target (after_rule r) fits has is.target
     ∙ (sums _ _ _ _
     (sum_to-same (b.arity r.target) _ _ (λ j k. ap (λ (y : ℤ). y *ℤ at (f r.target).coefs j) (sym (reading j)))
-    ∙ (list_dot-sum (map (λ g. form_value g z d) r.news) (b.arity r.target) (at (f r.target).coefs)
-    (omega (arith, is.values, length-map (λ g. form_value g z d) r.news))
-    ∙ sym (form_value-combination r.news (at (f r.target).coefs) z d)))
+    ∙ (list_dot-sum (map (λ g. form_value g z d) r.new_values) (b.arity r.target) (at (f r.target).coefs)
+    (omega (arith, is.values, length-map (λ g. form_value g z d) r.new_values))
+    ∙ sym (form_value-combination r.new_values (at (f r.target).coefs) z d)))
     (swap (f r.target).constant)
-    ∙ sym (form_value-sum (combination r.news (at (f r.target).coefs)) (constant_form (f r.target).constant) z d))
+    ∙ sym (form_value-sum (combination r.new_values (at (f r.target).coefs)) (constant_form (f r.target).constant) z d))
   where
     sums : (a b c d : ℤ) → a ≡ c → b ≡ d → a +ℤ b ≡ c +ℤ d
     sums a b c d e f = omega (arith, ints, e, f)
 
-    reading : (j : ℕ) → at (map (λ g. form_value g z d) r.news) j ≡ form_value (slice_index_or r.news j zero_form) z d
+    reading : (j : ℕ) → at (map (λ g. form_value g z d) r.new_values) j ≡ form_value (slice_index_or r.new_values j zero_form) z d
     reading j =
-        ap (λ (y : ℤ). slice_index_or (map (λ g. form_value g z d) r.news) j y) (sym (none d)) ∙ read-at
-        (λ g. form_value g z d) r.news j zero_form
+        ap (λ (y : ℤ). slice_index_or (map (λ g. form_value g z d) r.new_values) j y) (sym (none d)) ∙ read-at
+        (λ g. form_value g z d) r.new_values j zero_form
       where
         none : (d : ℤ) → pos 0 +ℤ pos 0 *ℤ d ≡ pos 0
         none d = omega (arith, ints)
@@ -227,7 +227,7 @@ ranks-hold b f q is ranks fits = record {
     whole : (i : ℕ) → i < length b.set → (z : ℕ → ℤ) (d : ℤ) → (r : IsRuleOf b (b.rule (get_or b.set i 0)))
         → form_value (goal_at (move_group b (coefficients_of b) (get_or b.set i 0)) (numbers_of b f) (pos q)) z d
         ≡ (form_value (f (b.rule (get_or b.set i 0)).source) z d
-        +ℤ neg_ℤ (form_value (at_news (b.rule (get_or b.set i 0)) (f (b.rule (get_or b.set i 0)).target)) z d))
+        +ℤ neg_ℤ (form_value (over_new_values (b.rule (get_or b.set i 0)) (f (b.rule (get_or b.set i 0)).target)) z d))
         +ℤ neg_ℤ (pos (if nat_eq (get_or b.set i 0) b.strict then q else 0) *ℤ d)
     whole i l z d r =
         form_value-sum _ _ z d
@@ -257,7 +257,7 @@ ranks-hold b f q is ranks fits = record {
         (falls (nat_eq (get_or b.set i 0) b.strict) refl)
       where
         falls : (s : Bool) → nat_eq (get_or b.set i 0) b.strict ≡ s
-            → (form_value (at_news (b.rule (get_or b.set i 0)) (f (b.rule (get_or b.set i 0)).target)) z d
+            → (form_value (over_new_values (b.rule (get_or b.set i 0)) (f (b.rule (get_or b.set i 0)).target)) z d
             +ℤ pos (if s then q else 0) *ℤ d)
             ≤ℤ form_value (f (b.rule (get_or b.set i 0)).source) z d
         falls true e =

@@ -1,4 +1,4 @@
--- The function that parameters stand for looks at no shut place.
+-- The function given by the parameters has coefficient 0 at every shut place.
 use Rattle.std.proofs.Common.{◌≡◌, ℕ, suc, ◌<◌, ◌≤◌, ap, arith, refl, sym, ◌∙◌, Bool, true, false, not, cond, List, []}
 use Rattle.std.proofs.Common.{◌∷◌, ◌++◌, map, filter, ◌⊎◌, inl, inr, ◌≢◌, nat_eq}
 use Rattle.std.specs.Prelude.{ℤ, pos, ◌+ℤ◌}
@@ -15,11 +15,11 @@ use Rattle.rule_forms.proofs.Forms.{at-listed, at-past}
 use Rattle.rule_forms.proofs.Losses.{share, share-elsewhere, share-other}
 use Rattle.rule_forms.proofs.RankGoals.{coefficients_of}
 
--- a coefficient is of a constant, or of a place that isn't shut
+-- a coefficient belongs to a constant, or to a place that isn't shut
 IsOpen : RankedSet → Coefficient → Type 0
 IsOpen b c = (c.place ≡ 0) ⊎ (b.shut c.symbol c.place ≡ false)
 
--- the places of a filter that leaves out shut ones aren't shut
+-- filtering out the shut places leaves only places that aren't shut
 unshut : (b : RankedSet) (s : ℕ) (places : List ℕ) → All (λ i. IsOpen b (record { symbol = s; place = i }))
     (filter (λ i. not (b.shut s i)) places)
 unfolding IsOpen
@@ -67,7 +67,7 @@ shut-none b (c ∷ cs) v s j h e =
     own (inl f) = share-other c (v 0) s (suc j) (other f.1 (All-head (IsOpen b) c cs h))
     own (inr f) = share-elsewhere c (v 0) s (suc j) f.0
 
--- the function looks at no shut place, and at places alone
+-- the function has coefficient 0 at every shut place and beyond the symbol's places
 pub function-fits : (b : RankedSet) (v : ℕ → ℤ) → Fits b (function_of b v)
 function-fits b v = record {
   closed = λ s j e. closed s j e (cases_lt j (b.arity s));

@@ -17,7 +17,7 @@ use Rattle.linear_forms.specs.RuleQuestions.{at_target, symbols_of_set, coeffici
 use Rattle.linear_forms.proofs.CombinationLaws.{at-sum, at-times}
 use Rattle.linear_forms.proofs.SolutionLaws.{length-map}
 use Rattle.rule_forms.specs.Kinds.{AreSame}
-use Rattle.rule_forms.specs.Ranking.{at_news}
+use Rattle.rule_forms.specs.Ranking.{over_new_values}
 use Rattle.rule_forms.specs.RankLaws.{coefficient, function_of, lost_by}
 use Rattle.rule_forms.proofs.Forms.{at-listed, at-past}
 use Rattle.rule_forms.proofs.Combined.{at-combination, constant-combination}
@@ -47,7 +47,7 @@ unknown-linear u = record {
     none : (k : ℤ) → pos 0 ≡ pos 0 *ℤ k
     none k = omega (arith, ints)
 
--- so is the constant
+-- the same for the constant
 pub constant-linear : IsLinear (λ f. f.constant)
 constant-linear = record {
   zero = refl;
@@ -85,13 +85,13 @@ coefficients_of b = coefficients b (symbols_of_set b)
 
 -- a reading of the function after a rule
 pub target-is : (h : Form → ℤ) → IsLinear h → (b : RankedSet) (r : RuleForms) (v : ℕ → ℤ)
-    → length r.news ≡ b.arity r.target
-    → h (at_news r (function_of b v r.target)) ≡ list_dot (map (λ c. h (at_target r c)) (coefficients_of b)) v
+    → length r.new_values ≡ b.arity r.target
+    → h (over_new_values r (function_of b v r.target)) ≡ list_dot (map (λ c. h (at_target r c)) (coefficients_of b)) v
 target-is h linear b r v long =
-    linear.sum (combination r.news (at f.coefs)) (constant_form f.constant)
+    linear.sum (combination r.new_values (at f.coefs)) (constant_form f.constant)
     ∙ (sums _ _ _ _
-    (linear.combined r.news (at f.coefs) ∙ dot-agree (map h r.news) _ _
-    (λ j l. at-listed (b.arity r.target) _ j (omega (arith, l, long, length-map h r.news))))
+    (linear.combined r.new_values (at f.coefs) ∙ dot-agree (map h r.new_values) _ _
+    (λ j l. at-listed (b.arity r.target) _ j (omega (arith, l, long, length-map h r.new_values))))
     (linear.number f.constant)
     ∙ target-sum h (record { zero = linear.zero }) r (coefficients_of b) v)
   where
@@ -141,7 +141,7 @@ source-is b r v u = go (cases_lt u (b.arity r.source))
 
 -- a reading of a goal is that of the loss
 move-reading : (h : Form → ℤ) → IsLinear h → (b : RankedSet) (t : ℕ) (v : ℕ → ℤ) (d : ℤ)
-    → length (b.rule t).news ≡ b.arity (b.rule t).target
+    → length (b.rule t).new_values ≡ b.arity (b.rule t).target
     → h (function_of b v (b.rule t).source) ≡ list_dot (map (λ c. h (at_source (b.rule t) c)) (coefficients_of b)) v
     → h (goal_at (move_group b (coefficients_of b) t) v d)
     ≡ h (lost_by (function_of b v) (b.rule t) (if nat_eq t b.strict then d else pos 0))
@@ -159,7 +159,7 @@ move-reading h linear b t v d long source =
     f = function_of b v (b.rule t).source
 
     g : Form
-    g = at_news (b.rule t) (function_of b v (b.rule t).target)
+    g = over_new_values (b.rule t) (function_of b v (b.rule t).target)
 
     sums : (a b c d : ℤ) → a ≡ c → b ≡ d → a +ℤ b ≡ c +ℤ d
     sums a b c d e f = omega (arith, ints, e, f)
@@ -185,7 +185,7 @@ move-reading h linear b t v d long source =
             ∙ ap (λ (y : ℤ). negsuc 0 *ℤ y) (sym f))
 
 -- so the goal of a rule is what the function loses by it
-pub move-same : (b : RankedSet) (t : ℕ) (v : ℕ → ℤ) (d : ℤ) → length (b.rule t).news ≡ b.arity (b.rule t).target
+pub move-same : (b : RankedSet) (t : ℕ) (v : ℕ → ℤ) (d : ℤ) → length (b.rule t).new_values ≡ b.arity (b.rule t).target
     → AreSame (goal_at (move_group b (coefficients_of b) t) v d)
     (lost_by (function_of b v) (b.rule t) (if nat_eq t b.strict then d else pos 0))
 move-same b t v d long = record {

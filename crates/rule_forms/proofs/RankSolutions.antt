@@ -21,7 +21,7 @@ use Rattle.linear_forms.specs.RuleQuestions.{move_group, floor_group}
 use Rattle.linear_forms.proofs.SolutionLaws.{length-map, solution-solves}
 use Rattle.linear_forms.proofs.CombinationLaws.{form_value-sum, form_value-times}
 use Rattle.linear_forms.proofs.CertificateLaws.{implied_on_points}
-use Rattle.rule_forms.specs.Ranking.{Function, at_news, Loses, Ranks}
+use Rattle.rule_forms.specs.Ranking.{Function, over_new_values, Loses, Ranks}
 use Rattle.rule_forms.specs.RankLaws.{IsRuleOf, IsSetOf, function_of, lost_by, AreImplied, rank_multipliers}
 use Rattle.rule_forms.proofs.Forms.{implies-same}
 use Rattle.rule_forms.proofs.Shapes.{argument_length, sum_length}
@@ -57,7 +57,7 @@ target-length b r c is = go (nat_eq c.symbol r.target)
 
     place : (i : ℕ) → length (after_rule r i).coefs ≤ r.unknowns
     place zero = omega arith
-    place (suc k) = value r.news k is.news_fit
+    place (suc k) = value r.new_values k is.new_values_fit
 
     go : (t : Bool) → length (if t then after_rule r c.place else zero_form).coefs ≤ r.unknowns
     go true = place c.place
@@ -85,7 +85,7 @@ move-shaped b t is = record {
     fixed true = omega arith
     fixed false = omega arith
 
--- so has that of the floor
+-- the same for that of the floor
 floor-shaped : (b : RankedSet) → IsRuleOf b (b.rule b.strict)
     → IsGroupShaped (length (coefficients_of b)) (floor_group b (coefficients_of b))
 floor-shaped b is = record {
@@ -178,8 +178,8 @@ loses-by : (b : RankedSet) (f : Function) (t k : ℕ) (m : List ℕ) → Implies
     → Loses b f t k
 loses-by b f t k m implies = record {
   each = λ z d point. below _ _ _ _ _
-      (less-value (less (f (b.rule t).source) (at_news (b.rule t) (f (b.rule t).target))) (constant_form (pos k)) z d)
-      (less-value (f (b.rule t).source) (at_news (b.rule t) (f (b.rule t).target)) z d) (number-value (pos k) z d)
+      (less-value (less (f (b.rule t).source) (over_new_values (b.rule t) (f (b.rule t).target))) (constant_form (pos k)) z d)
+      (less-value (f (b.rule t).source) (over_new_values (b.rule t) (f (b.rule t).target)) z d) (number-value (pos k) z d)
       (implied_on_points (b.rule t).rows m (lost_by f (b.rule t) (pos k)) implies z d point);
 }
   where

@@ -27,7 +27,7 @@ number_of f c = number_at (f c.symbol) c.place
 abbrev pub at_symbol : ℕ → (ℕ → ℤ → ℤ) → Function → Coefficient → ℤ
 at_symbol s w f c = if nat_eq c.symbol s then w c.place (number_of f c) else pos 0
 
--- the numbers at the places that aren't shut are those at all places, where a shut place has 0
+-- the sum over the places that aren't shut equals the sum over all places, where a shut place contributes 0
 open-total : (b : RankedSet) (f : Function) (s : ℕ) (w : ℕ → ℤ → ℤ) (k a n : ℕ) → Fits b f
     → ((i : ℕ) → w i (pos 0) ≡ pos 0) → k ≡ suc a
     → total (λ i. w i (number_at (f s) i)) (filter (λ i. not (b.shut s i)) (range_with_len k n))

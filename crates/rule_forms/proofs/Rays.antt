@@ -18,7 +18,7 @@ use Rattle.linear_forms.proofs.CombinationLaws.{form_value-sum, form_value-times
 use Rattle.linear_forms.proofs.ElementLaws.{dual-refutes}
 use Rattle.linear_forms.proofs.RefutationLaws.{element-value}
 use Rattle.rule_forms.specs.Kinds.{Affine}
-use Rattle.rule_forms.specs.Bounds.{HasNone, IsLooseRay}
+use Rattle.rule_forms.specs.Bounds.{HasNone, IsUnboundedRay}
 use Rattle.rule_forms.specs.Questions.{question_of, excess, Fits}
 use Rattle.rule_forms.specs.Laws.{HasPoint}
 use Rattle.rule_forms.proofs.Combined.{arguments_and_one}
@@ -36,7 +36,7 @@ unknown-value (suc i) z = behind (z 0) _ _ (unknown-value i (λ j. z (suc j)))
     behind : (x r w : ℤ) → r ≡ w → pos 0 *ℤ x +ℤ r ≡ w
     behind x r w e = omega (arith, ints, e)
 
--- so with the constant, which is 0
+-- the same for the constant, which is 0
 pub unknown_form-value : (i : ℕ) (z : ℕ → ℤ) (d : ℤ) → form_value (unknown_form i) z d ≡ z i
 unknown_form-value i z d = plus _ _ (unknown-value i z)
   where
@@ -94,7 +94,7 @@ fixed-value w z d =
 -- a dual is a ray along which w rises and no left argument moves
 pub dual-is-ray : (r : RuleForms) (w : Form) (y : ℕ → ℤ) → Fits r w
     → IsDual (program_of_question (question_of r w Affine)) y
-    → IsLooseRay r.rows r.left w y
+    → IsUnboundedRay r.rows r.left w y
 dual-is-ray r w y fits dual = record {
   ray = subst (λ (d : ℤ). Meets r.rows y d) (dual-ends r w y fits dual) refutes.elements.0.1;
   still = λ j l. alone _ _ (goal-argument 1 0 r.left j j y (y r.unknowns) refl l (omega arith))
@@ -122,12 +122,12 @@ unmoved (x ∷ xs) z h = none _ _ (h 0) (unmoved xs (λ j. z (suc j)) (λ u. h (
     none a b e f = omega (arith, ints, e, f)
 
 -- where there is such a ray, and a point, no affine form is above
-pub loose-has-none : (rows : List Form) (left : ℕ) (w : Form) (z : ℕ → ℤ) → HasPoint rows → IsLooseRay rows left w z
+pub unbounded-has-none : (rows : List Form) (left : ℕ) (w : Form) (z : ℕ → ℤ) → HasPoint rows → IsUnboundedRay rows left w z
     → HasNone rows left w Affine
-loose-has-none rows left w z point loose = record {
+unbounded-has-none rows left w z point unbounded = record {
   each = λ h e l is above. clash h e l is (element-value rows (excess h (pos e) w) z (pos 0)
       (λ y d p. at_least _ _ _ (excess-value h (pos e) w y d) (above.each y d p))
-      (point.z, point.d, point.point) (omega (arith, ints)) loose.ray);
+      (point.z, point.d, point.point) (omega (arith, ints)) unbounded.ray);
 }
   where
     at_least : (s a b : ℤ) → s ≡ b +ℤ neg_ℤ a → a ≤ℤ b → pos 0 ≤ℤ s
@@ -135,7 +135,7 @@ loose-has-none rows left w z point loose = record {
 
     still : (h : Form) → ((u : ℕ) → left ≤ u → at h.coefs u ≡ pos 0) → (u : ℕ) → (u < left) ⊎ (left ≤ u)
         → at h.coefs u *ℤ z u ≡ pos 0
-    still h is u (inl l) = mul-zero_ℤ _ _ (loose.still u l)
+    still h is u (inl l) = mul-zero_ℤ _ _ (unbounded.still u l)
     still h is u (inr l) = zero-mul_ℤ _ _ (is u l)
 
     flat : (h : Form) → ((u : ℕ) → left ≤ u → at h.coefs u ≡ pos 0) → form_value h z (pos 0) ≡ pos 0
@@ -148,7 +148,7 @@ loose-has-none rows left w z point loose = record {
         → pos 0 ≤ℤ form_value (excess h (pos e) w) z (pos 0) → ⊥
     clash h e l is m =
         below _ _ _ (excess-value h (pos e) w z (pos 0)) (flat h is) m
-        (mul-positive_ℤ (pos e) _ (omega (arith, ints, l)) loose.rises)
+        (mul-positive_ℤ (pos e) _ (omega (arith, ints, l)) unbounded.rises)
       where
         below : (s a b : ℤ) → s ≡ a +ℤ neg_ℤ b → a ≡ pos 0 → pos 0 ≤ℤ s → pos 0 <ℤ b → ⊥
         below s a b f g m n = omega (arith, ints, f, g, m, n)

@@ -14,7 +14,7 @@ abbrev pub total : {A : Type 0} → (A → ℤ) → List A → ℤ
 total g [] = pos 0
 total g (x ∷ xs) = g x +ℤ total g xs
 
--- over two lists, one behind the other
+-- over two lists, one after the other
 pub total-append : {A : Type 0} (g : A → ℤ) (xs ys : List A) → total g (xs ++ ys) ≡ total g xs +ℤ total g ys
 total-append g [] ys = nothing _
   where

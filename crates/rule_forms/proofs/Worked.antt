@@ -11,13 +11,13 @@ use Rattle.rule_forms.specs.Bounds.{IsAbove, HasNone, WeighsAtMost, height}
 use Rattle.rule_forms.proofs.Rays.{unmoved}
 use Rattle.rule_forms.proofs.Weights.{argument-weighs}
 use Rattle.linear_forms.proofs.int_laws.RingLaws.{zero-mul_ℤ}
-use Rattle.rule_forms.specs.Worked.{line_form, falling_rows, falling, rising, KindsAreInOrder, KindsAreTold}
-use Rattle.rule_forms.specs.Worked.{BoundsAreTold, WeightsAreTold, FirstBoundsAreTold, RaysAreTold}
+use Rattle.rule_forms.specs.Worked.{line_form, falling_rows, falling, rising, KindsAreInOrder, KindsAreWorked}
+use Rattle.rule_forms.specs.Worked.{BoundsAreWorked, WeightsAreWorkedOut, FirstBoundsAreWorkedOut, RaysAreWorkedOut}
 use Rattle.rule_forms.specs.Worked.{LocalFormsAreWorkedOut}
 
 -- the order of kinds
 order : KindsAreInOrder
-order = record { second_place = refl; no_such_place = refl; no_argument = refl; bent = refl; straight = refl }
+order = record { second_place = refl; no_such_place = refl; no_argument = refl; nonlinear = refl; straight = refl }
 
 -- past the end of lists
 line-past : (a : ℤ) (left u : ℕ) → 1 ≤ u → at (a ∷ []) u ≡ pos 0
@@ -25,7 +25,7 @@ line-past a left zero l = absurd (omega (arith, l))
 line-past a left (suc u) l = refl
 
 -- the kinds of forms
-kinds : KindsAreTold
+kinds : KindsAreWorked
 kinds = record {
   number = λ u. zeros u;
   argument = record { coefs = λ u. same (pos 2) u; constant = refl };
@@ -62,7 +62,7 @@ row-of z d point =
     least : (a d : ℤ) → pos 0 ≤ℤ ((pos 1 *ℤ a +ℤ pos 0) +ℤ negsuc 0 *ℤ d) → d ≤ℤ a
     least a d l = omega (arith, ints, l)
 
--- a whole number of at least 1 is such a point
+-- an integer of at least 1 is such a point
 pub whole-point : (n : ℕ) → IsPoint falling_rows (at (pos (suc n) ∷ [])) (pos 1)
 whole-point n = record {
   denominator = omega (arith, ints);
@@ -78,7 +78,7 @@ whole-point n = record {
     least n = omega (arith, ints)
 
 -- forms that are bounds, and that are none
-bounds : BoundsAreTold
+bounds : BoundsAreWorked
 bounds = record {
   argument = record { each = λ z d point. above (z 0) d point.denominator };
   itself = record { each = λ z d point. level (z 0) d };
@@ -104,7 +104,7 @@ bounds = record {
     five l = omega (arith, ints, l)
 
 -- weights
-weights : WeightsAreTold
+weights : WeightsAreWorkedOut
 weights = record {
   less = record { sizes = omega arith; heights = λ _. omega arith };
   scaled = record { sizes = omega arith; heights = λ _. omega arith };
@@ -164,7 +164,7 @@ zero-number zero = refl
 zero-number (suc u) = refl
 
 -- the first bounds
-first : FirstBoundsAreTold
+first : FirstBoundsAreWorkedOut
 first = record {
   up = record {
     kind = Argument 1 Plus;
@@ -203,9 +203,9 @@ first = record {
     }
 
 -- rays
-rays : RaysAreTold
+rays : RaysAreWorkedOut
 rays = record {
-  loose = record {
+  unbounded = record {
     ray = record { each = All-nil (λ r. pos 0 ≤ℤ form_value r (at (pos 0 ∷ pos 1 ∷ [])) (pos 0)) };
     still = still;
     rises = omega (arith, ints);

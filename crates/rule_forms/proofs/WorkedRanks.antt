@@ -12,7 +12,7 @@ use Rattle.linear_forms.proofs.WorkedQuestions.{question-values}
 use Rattle.rule_forms.specs.Laws.{HasPoint}
 use Rattle.rule_forms.specs.Ranking.{Loses, NoRank}
 use Rattle.rule_forms.specs.RankLaws.{IsRuleOf}
-use Rattle.rule_forms.specs.WorkedRanks.{everywhere, RanksAreTold, FitsAreTold, RankWeightsAreTold, RankingIsWorkedOut}
+use Rattle.rule_forms.specs.WorkedRanks.{everywhere, RanksAreWorkedOut, FitsAreWorkedOut, RankWeightsAreWorkedOut, RankingIsWorkedOut}
 use Rattle.rule_forms.proofs.RankExclusion.{dual-excludes_ranks}
 use Rattle.rule_forms.proofs.Worked.{row-of, whole-point}
 
@@ -43,7 +43,7 @@ unfolding falling_set falling_rule
 falling-less = record { each = λ z d point. omega (arith, ints, point.denominator) }
 
 -- functions that rank the second rule, and functions that don't
-ranks : RanksAreTold
+ranks : RanksAreWorkedOut
 unfolding falling_set falling_rule
 ranks = record {
   argument = record {
@@ -81,7 +81,7 @@ ranks = record {
     floor l = omega (arith, ints, l)
 
 -- where functions look
-fits : FitsAreTold
+fits : FitsAreWorkedOut
 unfolding falling_set shut_set
 fits = record {
   unshut = record { closed = λ s j e. absurd (false≢true e); places = λ s j l. past (pos 1) j l };
@@ -102,7 +102,7 @@ fits = record {
     one e = omega (arith, ints, e)
 
 -- what functions weigh
-weights : RankWeightsAreTold
+weights : RankWeightsAreWorkedOut
 unfolding falling_set entering_rule falling_rule
 weights = record {
   size = refl;
@@ -125,7 +125,7 @@ lengths a b =
     All-cons (λ (f : Form). length f.coefs ≤ 1) (line_form a b) [] (omega arith)
     (All-nil (λ (f : Form). length f.coefs ≤ 1))
 
--- no function ranks the second rule where A is shut
+-- no function ranks the second rule where A is shut (has no known size bound)
 shut-none : NoRank shut_set
 unfolding shut_set falling_rule
 shut-none = dual-excludes_ranks shut_set (at (pos 1 ∷ pos 1 ∷ pos 1 ∷ pos 0 ∷ []))
@@ -137,7 +137,7 @@ shut-none = dual-excludes_ranks shut_set (at (pos 1 ∷ pos 1 ∷ pos 1 ∷ pos 
         unknowns = omega arith;
         values = refl;
         rows_fit = lengths (pos 1) (negsuc 0);
-        news_fit = lengths (pos 1) (negsuc 0);
+        new_values_fit = lengths (pos 1) (negsuc 0);
       }) (All-nil (λ t. IsRuleOf shut_set (shut_set.rule t)));
       inside = 0;
       at_inside = omega arith;
@@ -171,7 +171,7 @@ sliding-none = dual-excludes_ranks sliding_set (at (pos 1 ∷ pos 1 ∷ pos 1 �
         rows_fit =
             All-cons (λ (k : Form). length k.coefs ≤ 2) (plane_form (pos 1) (pos 0) (negsuc 0)) [] (omega arith)
             (All-nil (λ (k : Form). length k.coefs ≤ 2));
-        news_fit = lengths-two (plane_form (pos 1) (pos 1) (pos 0)) (plane_form (pos 0) (pos 1) (negsuc 0)) refl refl;
+        new_values_fit = lengths-two (plane_form (pos 1) (pos 1) (pos 0)) (plane_form (pos 0) (pos 1) (negsuc 0)) refl refl;
       }) (All-nil (λ t. IsRuleOf sliding_set (sliding_set.rule t)));
       inside = 0;
       at_inside = omega arith;

@@ -1,4 +1,4 @@
--- Forms that are at least a new value, the least of a kind, and rays along which no form is.
+-- Forms that bound a new value from above, the least form of a kind, and rays along which no form does.
 use Rattle.std.specs.Prelude.{◌≡◌, ℕ, ◌*◌, ◌<◌, ◌≤◌, List, ◌∷◌, ◌++◌, ℤ, pos, negsuc, ◌*ℤ◌, ◌≤ℤ◌, ◌<ℤ◌}
 use Rattle.std.specs.List.{All}
 use Rattle.linear_forms.specs.Forms.{Form, form_value}
@@ -29,7 +29,8 @@ pub record WeighsAtMost (g : Form) (q : ℕ) (h : Form) (e : ℕ) : Type 0 where
 pub record IsLeastOf (rows : List Form) (left : ℕ) (w : Form) (kind : Kind) (g : Form) (q : ℕ) : Type 0 where
   pub each : (h : Form) (e : ℕ) → 1 ≤ e → IsOfKind left kind h e → IsAbove rows w h e → WeighsAtMost g q h e
 
--- g over q is the first form that is at least w: it is of a kind of which no kind before has any, and the least of it
+-- g over q is the first form that is at least w: no kind before its own has such a form, and it is the least of its
+-- kind
 pub record IsFirstOf (rows : List Form) (left : ℕ) (w : Form) (kinds : List Kind) (g : Form) (q : ℕ) : Type 0 where
   pub kind : Kind
   pub before : List Kind
@@ -42,7 +43,7 @@ pub record IsFirstOf (rows : List Form) (left : ℕ) (w : Form) (kinds : List Ki
   pub least : IsLeastOf rows left w kind g q
 
 -- a ray of the rows along which w rises and no left argument moves
-pub record IsLooseRay (rows : List Form) (left : ℕ) (w : Form) (z : ℕ → ℤ) : Type 0 where
+pub record IsUnboundedRay (rows : List Form) (left : ℕ) (w : Form) (z : ℕ → ℤ) : Type 0 where
   pub ray : IsRay rows z
   pub still : (j : ℕ) → j < left → z j ≡ pos 0
   pub rises : pos 0 <ℤ form_value w z (pos 0)

@@ -1,4 +1,4 @@
--- The kinds of forms that are looked for as a bound on a new value, and the order in which they are.
+-- The kinds of forms that are tried as a bound on a new value, and their order.
 use Rattle.std.specs.Prelude.{◌≡◌, ℕ, ◌≤◌, ◌==◌, not, Bool, if◌then◌else◌, List, [], ◌∷◌, ◌++◌, filter, ℤ, pos, negsuc}
 use Rattle.std.specs.Prelude.{◌*ℤ◌}
 use Rattle.std.specs.List.{range_with_len}
@@ -52,4 +52,4 @@ kinds_at left place = Number ∷ (arguments (places_from left place) ++ (Affine 
 
 -- the kinds that are looked for: where the update is a polynomial of degree 2 and more, any form alone
 abbrev pub kinds_for : Bool → ℕ → ℕ → List Kind
-kinds_for bent left place = if bent then Affine ∷ [] else kinds_at left place
+kinds_for nonlinear left place = if nonlinear then Affine ∷ [] else kinds_at left place

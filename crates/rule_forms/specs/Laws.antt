@@ -1,4 +1,4 @@
--- What the linear program of a kind of form says of the forms of this kind.
+-- What the linear program of a kind of form proves of the forms of this kind.
 use Rattle.std.specs.Prelude.{◌≡◌, ℕ, List, ℤ, pos, nat_abs, ◌<ℤ◌}
 use Rattle.linear_forms.specs.Forms.{Form}
 use Rattle.linear_forms.specs.Points.{IsPoint}
@@ -8,7 +8,7 @@ use Rattle.linear_forms.specs.Questions.{double, program_of_question}
 use Rattle.linear_forms.specs.QuestionLaws.{after, parameters_of, multipliers_of}
 use Rattle.linear_forms.specs.RuleQuestions.{RuleForms}
 use Rattle.rule_forms.specs.Kinds.{Kind, Affine, IsOfKind}
-use Rattle.rule_forms.specs.Bounds.{IsAbove, HasNone, IsLeastOf, IsLooseRay}
+use Rattle.rule_forms.specs.Bounds.{IsAbove, HasNone, IsLeastOf, IsUnboundedRay}
 use Rattle.rule_forms.specs.Questions.{question_of, form_of, excess, IsKindOf, Fits}
 
 -- rows have a rational point
@@ -52,8 +52,8 @@ pub record DualsExclude : Type 0 where
 -- where there is such a ray, and a point, no affine form is at least w
 pub record DualsAreRays : Type 0 where
   pub ray : (r : RuleForms) (w : Form) (y : ℕ → ℤ) → Fits r w → IsDual (program_of_question (question_of r w Affine)) y
-      → IsLooseRay r.rows r.left w y
+      → IsUnboundedRay r.rows r.left w y
   pub end : (r : RuleForms) (w : Form) (y : ℕ → ℤ) → Fits r w → IsDual (program_of_question (question_of r w Affine)) y
       → y r.unknowns ≡ pos 0
-  pub none : (rows : List Form) (left : ℕ) (w : Form) (z : ℕ → ℤ) → HasPoint rows → IsLooseRay rows left w z
+  pub none : (rows : List Form) (left : ℕ) (w : Form) (z : ℕ → ℤ) → HasPoint rows → IsUnboundedRay rows left w z
       → HasNone rows left w Affine

@@ -1,5 +1,4 @@
--- The question whether a form of a kind is at least a new value, and the form that a solution of its linear program
--- gives.
+-- The question whether a form of a kind bounds a new value, and the form that a solution of its linear program gives.
 use Rattle.std.specs.Prelude.{ℕ, suc, ◌≤◌, nat_eq, if◌then◌else◌, length, replicate, ℤ, pos, ◌*ℤ◌, neg_ℤ, ⊤}
 use Rattle.std.specs.List.{All}
 use Rattle.linear_forms.specs.Forms.{Form}
@@ -25,7 +24,7 @@ form_of left Affine v d = record { coefs = listed left v; constant = v left }
 abbrev pub excess : Form → ℤ → Form → Form
 excess g q w = form_sum g (form_times (neg_ℤ q) w)
 
--- a kind of form that a rule has: an argument stands at one of its left places
+-- how a form of this kind is numbered: an argument has the number of one of the left places
 abbrev pub IsKindOf : ℕ → Kind → Type 0
 IsKindOf left Number = ⊤
 IsKindOf left (Argument place sign) = (1 ≤ place) × (place ≤ left)

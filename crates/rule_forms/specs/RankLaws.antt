@@ -1,4 +1,4 @@
--- What the linear program of a rank question says of functions.
+-- What the linear program of a rank question proves of ranking functions.
 use Rattle.std.specs.Prelude.{◌≡◌, ℕ, suc, ◌≤◌, ◌<◌, ◌&&◌, nat_eq, if◌then◌else◌, List, [], ◌∷◌, length, slice_index_or}
 use Rattle.std.specs.Prelude.{ℤ, pos, ◌+ℤ◌, nat_abs}
 use Rattle.std.specs.List.{All}
@@ -21,9 +21,9 @@ pub record IsRuleOf (b : RankedSet) (r : RuleForms) : Type 0 where
   pub target : r.target < b.symbols
   pub left : r.left ≡ b.arity r.source
   pub unknowns : r.left ≤ r.unknowns
-  pub values : length r.news ≡ b.arity r.target
+  pub values : length r.new_values ≡ b.arity r.target
   pub rows_fit : All (λ f. length f.coefs ≤ r.unknowns) r.rows
-  pub news_fit : All (λ f. length f.coefs ≤ r.unknowns) r.news
+  pub new_values_fit : All (λ f. length f.coefs ≤ r.unknowns) r.new_values
 
 -- all rules of the set are such rules, and the rule that has to decrease is one of them
 pub record IsSetOf (b : RankedSet) : Type 0 where
@@ -52,7 +52,7 @@ function_of b v s =
 
 -- what a function loses by a rule, less k
 abbrev pub lost_by : Function → RuleForms → ℤ → Form
-lost_by f r k = loss (f r.source) (f r.target) r.news k
+lost_by f r k = loss (f r.source) (f r.target) r.new_values k
 
 -- for each rule of the list multipliers show what the function loses by it, d by the rule that has to decrease and
 -- nothing by the others; and the last ones show that it is at least d before that rule
@@ -69,8 +69,8 @@ abbrev pub rank_multipliers : RankedSet → (ℕ → ℤ) → List (List ℕ)
 rank_multipliers b x =
     multipliers_by_group (after (double (rank_question b).parameters) x) (rank_question b).groups
 
--- a solution of the rank question's program gives a function that looks at no shut place, with multipliers of the
--- rules' rows that show that it ranks the rule; and what they show is so
+-- a solution of the rank question's linear program gives a function with coefficient 0 at every shut place, with
+-- multipliers of the rules' rows that certify that it ranks the rule; and what they certify holds
 pub record SolutionsRank : Type 0 where
   pub shown : (b : RankedSet) (x : ℕ → ℤ) (d : ℤ) → IsSetOf b → IsSolution (program_of_question (rank_question b)) x d
       → AreImplied b (function_of b (parameters_of x)) d b.set (rank_multipliers b x)

@@ -1,4 +1,4 @@
--- Functions on configurations, when they rank a rule of a set, which weigh least, and when none does.
+-- Affine functions on configurations: when they rank a rule of a set, which weigh least, and when none ranks.
 use Rattle.std.specs.Prelude.{◌≡◌, ℕ, suc, ◌+◌, ◌*◌, ◌≤◌, true, Bool, cond, List, [], ◌∷◌, ℤ, pos, ◌+ℤ◌, ◌*ℤ◌, ◌≤ℤ◌}
 use Rattle.std.specs.List.{All}
 use Rattle.linear_forms.specs.Forms.{Form, at, form_value}
@@ -13,13 +13,13 @@ abbrev pub Function : Type 0
 Function = ℕ → Form
 
 -- a form in the places of a rule's target, in the rule's unknowns: each place has its new value
-abbrev pub at_news : RuleForms → Form → Form
-at_news r f = at_new_values f r.news
+abbrev pub over_new_values : RuleForms → Form → Form
+over_new_values r f = at_new_values f r.new_values
 
 -- on the rational points of rule t the function after the rule and k more are at most the function before it
 pub record Loses (b : RankedSet) (f : Function) (t k : ℕ) : Type 0 where
   pub each : (z : ℕ → ℤ) (d : ℤ) → IsPoint (b.rule t).rows z d
-      → (form_value (at_news (b.rule t) (f (b.rule t).target)) z d +ℤ pos k *ℤ d)
+      → (form_value (over_new_values (b.rule t) (f (b.rule t).target)) z d +ℤ pos k *ℤ d)
       ≤ℤ form_value (f (b.rule t).source) z d
 
 -- the function over q ranks the rule of the set that has to decrease: no rule of the set raises it, that rule lowers it
@@ -31,12 +31,13 @@ pub record Ranks (b : RankedSet) (f : Function) (q : ℕ) : Type 0 where
   pub floor : (z : ℕ → ℤ) (d : ℤ) → IsPoint (b.rule b.strict).rows z d
       → (pos q *ℤ d) ≤ℤ form_value (f (b.rule b.strict).source) z d
 
--- the function looks at no place that is shut, and at places alone
+-- the function has coefficient 0 at every place that is shut (without a known size bound), and beyond the symbol's
+-- places
 pub record Fits (b : RankedSet) (f : Function) : Type 0 where
   pub closed : (s j : ℕ) → b.shut s (suc j) ≡ true → at (f s).coefs j ≡ pos 0
   pub places : (s j : ℕ) → b.arity s ≤ j → at (f s).coefs j ≡ pos 0
 
--- no function ranks the rule without looking at a shut place
+-- no function with coefficient 0 at every shut place ranks the rule
 pub record NoRank (b : RankedSet) : Type 0 where
   pub each : (f : Function) (q : ℕ) → Ranks b f q → ¬ (Fits b f)
 
@@ -58,6 +59,6 @@ pub record WeighsNoMore (b : RankedSet) (f : Function) (q : ℕ) (g : Function) 
   pub sizes : size_of b f * e ≤ size_of b g * q
   pub heights : size_of b f * e ≡ size_of b g * q → height_of b f * e ≤ height_of b g * q
 
--- no function that ranks the rule without looking at a shut place weighs less
+-- no function that ranks the rule with coefficient 0 at every shut place weighs less
 pub record IsLeastRank (b : RankedSet) (f : Function) (q : ℕ) : Type 0 where
   pub each : (g : Function) (e : ℕ) → Ranks b g e → Fits b g → WeighsNoMore b f q g e

@@ -1,4 +1,4 @@
--- What is sought of a form of each kind, and what of it is fixed.
+-- The unknown coefficients of a form of each kind, and the fixed ones.
 use Rattle.std.specs.Prelude.{ℕ, List, [], ◌∷◌, ◌++◌}
 use Rattle.std.specs.List.{range_with_len}
 use Rattle.linear_forms.specs.Forms.{Form}

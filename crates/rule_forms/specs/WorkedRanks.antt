@@ -15,7 +15,7 @@ uneven s = if nat_eq s 0 then line_form (pos 2) (pos 5) else line_form (pos 7) (
 
 -- of the rules f(A) -> g(A) and g(A) -> g(A - 1) :|: A >= 1 the second is ranked by A, as by 2*A over 2; not by A over
 -- 2, since it falls by 1, nor by a constant, nor by -A, nor by A - 1, which isn't at least 1 before it
-pub record RanksAreTold : Type 0 where
+pub record RanksAreWorkedOut : Type 0 where
   pub argument : Ranks falling_set (everywhere (line_form (pos 1) (pos 0))) 1
   pub doubled : Ranks falling_set (everywhere (line_form (pos 2) (pos 0))) 2
   pub too_much : ¬ (Ranks falling_set (everywhere (line_form (pos 1) (pos 0))) 2)
@@ -23,8 +23,8 @@ pub record RanksAreTold : Type 0 where
   pub negated : ¬ (Ranks falling_set (everywhere (line_form (negsuc 0) (pos 0))) 1)
   pub floor_missed : ¬ (Ranks falling_set (everywhere (line_form (pos 1) (negsuc 0))) 1)
 
--- a function may look at A where it isn't shut, and not where it is, nor at a second place
-pub record FitsAreTold : Type 0 where
+-- a function may use A where it isn't shut, and not where it is, and never a second place, which g doesn't have
+pub record FitsAreWorkedOut : Type 0 where
   pub unshut : Fits falling_set (everywhere (line_form (pos 1) (pos 0)))
   pub shut : ¬ (Fits shut_set (everywhere (line_form (pos 1) (pos 0))))
   pub number : Fits shut_set (everywhere (line_form (pos 0) (pos 3)))
@@ -32,7 +32,7 @@ pub record FitsAreTold : Type 0 where
 
 -- a function weighs at the entered symbol alone; A weighs no more than 2*A, which over 2 weighs no more than A, and
 -- 2*A weighs more than A; A + 1 weighs more than A
-pub record RankWeightsAreTold : Type 0 where
+pub record RankWeightsAreWorkedOut : Type 0 where
   pub size : size_of falling_set uneven ≡ 2
   pub height : height_of falling_set uneven ≡ 5
   pub less : WeighsNoMore falling_set (everywhere (line_form (pos 1) (pos 0))) 1
@@ -44,16 +44,16 @@ pub record RankWeightsAreTold : Type 0 where
   pub higher : ¬ (WeighsNoMore falling_set (everywhere (line_form (pos 1) (pos 1))) 1
       (everywhere (line_form (pos 1) (pos 0))) 1)
 
--- where A is shut no function ranks the second rule, and none ranks g(A, B) -> g(A + B, B - 1) :|: A >= 1; some
+-- where A is shut, no function ranks the second rule, and none ranks g(A, B) -> g(A + B, B - 1) :|: A >= 1; some
 -- function ranks the first set
-pub record NoRanksAreTold : Type 0 where
+pub record NoRanksAreWorkedOut : Type 0 where
   pub shut : NoRank shut_set
   pub sliding : NoRank sliding_set
   pub falling : ¬ (NoRank falling_set)
 
 -- all of these
 pub record RankingIsWorkedOut : Type 0 where
-  pub ranks : RanksAreTold
-  pub fits : FitsAreTold
-  pub weights : RankWeightsAreTold
-  pub none : NoRanksAreTold
+  pub ranks : RanksAreWorkedOut
+  pub fits : FitsAreWorkedOut
+  pub weights : RankWeightsAreWorkedOut
+  pub none : NoRanksAreWorkedOut

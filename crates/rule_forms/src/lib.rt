@@ -1,7 +1,10 @@
-//! What the questions that are asked of rules say: bounds on the new value at one place (which forms in the left
-//! arguments are at least it, in which order they are looked for, which is the least, the rays along which there is
-//! none), and functions that rank a rule of a set (which do, which weighs least, when none does). Definitions in
-//! `specs/`, and what linear programs say of them. The functions here have no code: the contract of each is a law.
+//! Local bounds and ranking functions as definitions: which affine forms in the left arguments bound a new value of a
+//! rule, in which order they are tried, which has least weight, and which rays exclude them all; which functions rank a
+//! rule of a set, which has least weight, and when none exists.
+//!
+//! Builds on `linear_forms`. Main guarantee: a solution of the question's linear program is such a form or function, of
+//! least weight where the cost is least, and a dual shows that none exists (`solutions_rank`,
+//! `least_ranks_weigh_least`, `duals_exclude_ranks`). The functions here have no code: the contract of each is a law.
 #![tactic(auto)]
 
 mod bounding;

@@ -19,12 +19,12 @@ use Rattle.poly_terms.proofs.linear_forms.RuleShapes.{questions-shaped}
 use Rattle.poly_terms.proofs.linear_forms.SolutionLaws.{solution-solves, All-listed}
 use Rattle.poly_terms.proofs.linear_forms.ElementLaws.{dual-refutes, program-columns}
 use Rattle.poly_terms.specs.model.Programs.{Rule}
-use Rattle.proof_tree.specs.guard_prep.Prepared.{Prepared, prepared, rows_of, unknowns_of, news_of}
-use Rattle.proof_tree.specs.guard_prep.Laws.{IsPreparable, IsSmallForm}
-use Rattle.proof_tree.proofs.guard_prep.SizeLaws.{rows-are-small}
+use Rattle.cert_types.specs.guard_prep.Prepared.{Prepared, prepared, rows_of, unknowns_of, new_values_of}
+use Rattle.cert_types.specs.guard_prep.Laws.{IsPreparable, IsSmallForm}
+use Rattle.cert_types.proofs.guard_prep.SizeLaws.{rows-are-small}
 use Rattle.lp_builder.specs.simplex_core.Trips.{IsScaledSolution, IsScaledDual}
 use Rattle.rule_questions.specs.ProgramQuestions.{forms_of}
-pub use Rattle.proof_tree.proofs.proof_setting.RankedSets.{prepared-shaped}
+pub use Rattle.cert_types.proofs.cert_program.RankedSets.{prepared-shaped}
 use Rattle.rule_questions.specs.EmptyAnswers.{empty_program, IsNearPoint}
 use Rattle.rule_questions.proofs.Lists.{multipliers-listed, value-seen}
 
@@ -99,7 +99,7 @@ module _ (m : Prepared) (shaped : IsRuleShaped (forms_of 0 0 m)) where
     refuted : Refutes question (elements_of (at numbers) question.groups)
     refuted = dual-refutes question (at numbers) shape s.certified
 
-    -- there is a number for each unknown, and one more, which is over 0
+    -- there is a number for each unknown, and one more, which is above 0
     pub dual-long : length numbers ≡ suc m.unknowns
     dual-long = s.rows ∙ rows-are
 

@@ -15,11 +15,11 @@ use Rattle.poly_terms.proofs.linear_forms.SolutionLaws.{length-map}
 use Rattle.poly_terms.specs.model.Limits.{coefficient_limit}
 use Rattle.poly_terms.specs.declared.poly.Row.{Row}
 use Rattle.poly_terms.specs.Views.{form_of}
-use Rattle.proof_tree.specs.guard_prep.declared.rule_rows.RuleRows.{RuleRows}
-use Rattle.proof_tree.specs.guard_prep.Prepared.{Prepared, rows_of, unknowns_of}
-use Rattle.proof_tree.specs.guard_prep.Laws.{IsSmallForm}
-use Rattle.proof_tree.specs.guard_prep.Views.{prepared_of}
-use Rattle.proof_tree.proofs.guard_prep.SizeLaws.{rows-are-small}
+use Rattle.cert_types.specs.guard_prep.declared.rule_rows.RuleRows.{RuleRows}
+use Rattle.cert_types.specs.guard_prep.Prepared.{Prepared, rows_of, unknowns_of}
+use Rattle.cert_types.specs.guard_prep.Laws.{IsSmallForm}
+use Rattle.cert_types.specs.guard_prep.Views.{prepared_of}
+use Rattle.cert_types.proofs.guard_prep.SizeLaws.{rows-are-small}
 use Rattle.lp_builder.specs.simplex_core.declared.problem.Problem.{Problem}
 use Rattle.lp_builder.specs.simplex_core.Problem.{program_of}
 use Rattle.lp_builder.specs.declared.builder.Builder.{Builder}

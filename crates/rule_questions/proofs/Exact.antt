@@ -1,18 +1,18 @@
--- Each answer whether rows have a point comes exactly where its cause stands, and its node is accepted.
+-- Each answer on whether rows have a point comes exactly in its case, and its node is accepted.
 use Rattle.std.proofs.Common.{◌≡◌, ℕ, sym, subst, Option, length}
 use Rattle.std.specs.Prelude.{◌↔◌, pos}
 use Rattle.poly_terms.specs.linear_forms.Causes.{cause_of}
 use Rattle.poly_terms.specs.linear_forms.Forms.{at}
 use Rattle.poly_terms.specs.linear_forms.Certificates.{Implies, minus_one}
 use Rattle.poly_terms.proofs.linear_forms.CertificateLaws.{no_point}
-use Rattle.proof_tree.specs.rule_forms.Laws.{HasPoint}
+use Rattle.cert_types.specs.rule_forms.Laws.{HasPoint}
 use Rattle.poly_terms.specs.model.Programs.{Rule}
-use Rattle.proof_tree.specs.guard_prep.Prepared.{Prepared}
-use Rattle.proof_tree.specs.proof_setting.Setting.{rows_in}
-use Rattle.proof_tree.specs.declared.answer.EmptyAnswer.{EmptyAnswer}
-use Rattle.proof_tree.specs.declared.answer.EmptyAnswer.TheVariants.{Empty, Point, Tripped}
-use Rattle.proof_tree.specs.declared.proof.EmptyNode.{EmptyNode}
-use Rattle.proof_tree.specs.AnswerViews.{scaled_of}
+use Rattle.cert_types.specs.guard_prep.Prepared.{Prepared}
+use Rattle.cert_types.specs.cert_program.Setting.{rows_in}
+use Rattle.cert_types.specs.declared.answer.GuardFeasibility.{GuardFeasibility}
+use Rattle.cert_types.specs.declared.answer.GuardFeasibility.TheVariants.{Empty, Point, OutOfLimits}
+use Rattle.cert_types.specs.declared.proof.EmptyNode.{EmptyNode}
+use Rattle.cert_types.specs.AnswerViews.{scaled_of}
 use Rattle.rule_questions.specs.EmptyAnswers.{IsEmptyAnswer, IsEmptyNode, SaysEmpty, SaysPoint, SaysTripped}
 use Rattle.rule_questions.specs.EmptyAnswers.{empty_program}
 use Rattle.rule_questions.specs.EmptyAnswers.{EmptyAnswersAreExact, EmptyNodesAreAccepted}
@@ -30,25 +30,25 @@ answers-exact = record {
   tripped = λ m rule pivots a h. tripped-if m rule pivots a h;
 }
   where
-    empty-if : (m : Prepared) (rule pivots : ℕ) (a : EmptyAnswer) → IsEmptyAnswer m rule pivots a
+    empty-if : (m : Prepared) (rule pivots : ℕ) (a : GuardFeasibility) → IsEmptyAnswer m rule pivots a
         → SaysEmpty a ↔ ((¬ HasPoint m.rows) × NothingTrips (empty_program m) pivots)
     empty-if m rule pivots (Empty n) h = (λ _. (node-empty m rule n h.0, h.1), λ _. tt)
     empty-if m rule pivots (Point z) h =
         (λ s. absurd s, λ g. g.0 (record { z = at (scaled_of z).parts; d = pos (scaled_of z).den; point = h.0.point }))
-    empty-if m rule pivots (Tripped t) h = (λ s. absurd s, λ g. g.1.each (cause_of t.cause) h.1)
+    empty-if m rule pivots (OutOfLimits t) h = (λ s. absurd s, λ g. g.1.each (cause_of t.cause) h.1)
 
-    point-if : (m : Prepared) (rule pivots : ℕ) (a : EmptyAnswer) → IsEmptyAnswer m rule pivots a
+    point-if : (m : Prepared) (rule pivots : ℕ) (a : GuardFeasibility) → IsEmptyAnswer m rule pivots a
         → SaysPoint a ↔ (HasPoint m.rows × NothingTrips (empty_program m) pivots)
     point-if m rule pivots (Empty n) h = (λ s. absurd s, λ g. node-empty m rule n h.0 g.0)
     point-if m rule pivots (Point z) h =
         (λ _. (record { z = at (scaled_of z).parts; d = pos (scaled_of z).den; point = h.0.point }, h.1), λ _. tt)
-    point-if m rule pivots (Tripped t) h = (λ s. absurd s, λ g. g.1.each (cause_of t.cause) h.1)
+    point-if m rule pivots (OutOfLimits t) h = (λ s. absurd s, λ g. g.1.each (cause_of t.cause) h.1)
 
-    tripped-if : (m : Prepared) (rule pivots : ℕ) (a : EmptyAnswer) → IsEmptyAnswer m rule pivots a
+    tripped-if : (m : Prepared) (rule pivots : ℕ) (a : GuardFeasibility) → IsEmptyAnswer m rule pivots a
         → SaysTripped a ↔ (¬ NothingTrips (empty_program m) pivots)
     tripped-if m rule pivots (Empty n) h = (λ s. absurd s, λ g. g h.1)
     tripped-if m rule pivots (Point z) h = (λ s. absurd s, λ g. g h.1)
-    tripped-if m rule pivots (Tripped t) h = (λ _ g. g.each (cause_of t.cause) h.1, λ _. tt)
+    tripped-if m rule pivots (OutOfLimits t) h = (λ _ g. g.each (cause_of t.cause) h.1, λ _. tt)
 
 -- the node of a rule whose rows have no point is accepted
 pub nodes-accepted : EmptyNodesAreAccepted

@@ -4,7 +4,7 @@ use Rattle.std.proofs.Common.{List, [], ◌∷◌, ◌++◌, filter}
 use Rattle.std.proofs.Common.{refl, sym, ap, ◌∙◌}
 use Rattle.std.specs.List.{range_with_len}
 use Rattle.std.proofs.lemmas.List.Elements.{filter-append}
-use Rattle.proof_tree.proofs.Numbers.{numbers-more}
+use Rattle.cert_types.proofs.Numbers.{numbers-more}
 
 append-nothing : {A : Type 0} (xs : List A) → xs ++ [] ≡ xs
 append-nothing [] = refl
@@ -16,7 +16,7 @@ module _ (test : ℕ → Bool) (a : ℕ) where
       ≡ filter test (range_with_len a n) ++ cond (test (a + n)) ((a + n) ∷ []) []
   filter-more n = ap (filter test) (numbers-more a n) ∙ filter-append test (range_with_len a n) ((a + n) ∷ [])
 
-  -- a next number that passes the test stands behind those so far
+  -- the next number that passes the test is appended to those so far
   pub filter-pushed : (n m : ℕ) → m ≡ a + n → test m ≡ true
       → filter test (range_with_len a (n + 1)) ≡ filter test (range_with_len a n) ++ m ∷ []
   filter-pushed n m e h =

@@ -11,7 +11,7 @@ use Rattle.poly_terms.specs.linear_forms.RuleQuestions.{Coefficient, after_rule}
 use Rattle.poly_terms.specs.linear_forms.RuleQuestions.{at_target}
 use Rattle.poly_terms.proofs.linear_forms.ColumnLaws.{get_or-map}
 use Rattle.poly_terms.proofs.linear_forms.SolutionLaws.{length-map}
-use Rattle.proof_tree.specs.guard_prep.Prepared.{Prepared}
+use Rattle.cert_types.specs.guard_prep.Prepared.{Prepared}
 use Rattle.poly_terms.specs.declared.poly.Row.{Row}
 use Rattle.poly_terms.specs.Views.{form_of}
 use Rattle.lp_builder.specs.declared.description.Goal.{Goal}
@@ -92,7 +92,7 @@ apart k n (y ∷ gs) h zero (suc j) g x l e f =
     (let r = (inside (y.parameter + 1) n gs h.1 j x f).0 in omega (arith, r))
 apart k n (y ∷ gs) h (suc i) (suc j) g x l e f = apart (y.parameter + 1) n gs h.1 i j g x (omega (arith, l)) e f
 
--- goals that ascend below a number are goals of so many parameters
+-- goals that ascend below a number are goals of this many parameters
 pub are-parameters : (n : ℕ) (gs : List Goal) → Ascend 0 n gs → AreParameters n gs
 are-parameters n gs h = record {
   below = λ i g e. (inside 0 n gs h i g e).1;
@@ -123,29 +123,29 @@ module _ {A : Type 0} (goal : A → Form) (xs : List A) (i : ℕ) (d : A) (l : i
       ∙ (ap (λ (z : Form). map goal (take i xs) ++ z ∷ []) g ∙ sym more))
 
 -- what a coefficient of the target is multiplied by after the rule, where its place has a new value, and where it has none
-module _ (target : ℕ) (q : Prepared) (news : List Row) (same : q.news ≡ map form_of news) where
+module _ (target : ℕ) (q : Prepared) (new_values : List Row) (same : q.new_values ≡ map form_of new_values) where
   target-after : (c : Coefficient) → c.symbol ≡ target → at_target (forms_of 0 target q) c ≡ after_rule
       (forms_of 0 target q) c.place
   target-after c e =
       ap (λ (b : Bool). if b then after_rule (forms_of 0 target q) c.place else zero_form) (eq-eqb c.symbol target e)
 
   -- at the target, the coefficient of a place with a new value is multiplied by that value
-  pub after-listed : (s i : ℕ) (row : Row) → s ≡ target → ¬ (i ≡ 0) → i - 1 < length news → row ≡ get_or news
+  pub after-listed : (s i : ℕ) (row : Row) → s ≡ target → ¬ (i ≡ 0) → i - 1 < length new_values → row ≡ get_or new_values
       (i - 1) row
       → form_of row ≡ at_target (forms_of 0 target q) (record { symbol = s; place = i })
   after-listed s zero row e n l is = absurd (n refl)
   after-listed s (suc i) row e n l is =
       let k : suc i - 1 ≡ i = omega arith in
-      ap form_of (is ∙ ap (λ (j : ℕ). get_or news j row) k)
-      ∙ (sym (get_or-map form_of news i zero_form row (omega (arith, l)))
+      ap form_of (is ∙ ap (λ (j : ℕ). get_or new_values j row) k)
+      ∙ (sym (get_or-map form_of new_values i zero_form row (omega (arith, l)))
       ∙ (sym (ap (λ (fs : List Form). slice_index_or fs i zero_form) same) ∙ sym
       (target-after (record { symbol = s; place = suc i }) e)))
 
   -- at the target, the coefficient of a place past the new values is multiplied by 0
-  pub after-past : (s i : ℕ) → s ≡ target → ¬ (i ≡ 0) → length news ≤ i - 1
+  pub after-past : (s i : ℕ) → s ≡ target → ¬ (i ≡ 0) → length new_values ≤ i - 1
       → zero_form ≡ at_target (forms_of 0 target q) (record { symbol = s; place = i })
   after-past s zero e n l = absurd (n refl)
   after-past s (suc i) e n l =
       sym (target-after (record { symbol = s; place = suc i }) e
       ∙ (ap (λ (fs : List Form). slice_index_or fs i zero_form) same
-      ∙ get_or_past (map form_of news) i zero_form (let m = length-map form_of news in omega (arith, l, m))))
+      ∙ get_or_past (map form_of new_values) i zero_form (let m = length-map form_of new_values in omega (arith, l, m))))

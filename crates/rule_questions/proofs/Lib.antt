@@ -1,3 +1,4 @@
+-- laws of the questions about rules, and of answers on whether rows have a point
 pub mod Lists
 pub mod Pairs
 pub mod Sums
@@ -13,4 +14,4 @@ pub mod OneEmptyAnswer
 -- the lemmas of the crates below, which callers name through this one
 pub use Rattle.poly_terms.proofs.model
 pub use Rattle.poly_terms.proofs.int_laws
-pub use Rattle.proof_tree.proofs.proof_nodes
+pub use Rattle.cert_types.proofs.cert_rules

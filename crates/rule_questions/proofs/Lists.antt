@@ -36,7 +36,7 @@ dot-seen (a ∷ xs) z w h =
     ∙ ap (λ (y : ℤ). a *ℤ w 0 +ℤ y)
     (dot-seen xs (λ i. z (suc i)) (λ i. w (suc i)) (λ j l. h (suc j) (omega (arith, l))))
 
--- so does the value of a form
+-- the same for the value of a form
 pub value-seen : (f : Form) (n : ℕ) (z w : ℕ → ℤ) (d : ℤ) → length f.coefs ≤ n → ((j : ℕ) → j < n → z j ≡ w j)
     → form_value f z d ≡ form_value f w d
 value-seen f n z w d l h =

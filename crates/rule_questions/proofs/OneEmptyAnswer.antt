@@ -5,14 +5,14 @@ use Rattle.poly_terms.specs.linear_forms.Causes.{cause_of}
 use Rattle.poly_terms.specs.linear_forms.Forms.{at}
 use Rattle.poly_terms.specs.linear_forms.LinearProgram.{LinearProgram}
 use Rattle.poly_terms.specs.linear_forms.Questions.{listed}
-use Rattle.proof_tree.specs.guard_prep.Prepared.{Prepared}
+use Rattle.cert_types.specs.guard_prep.Prepared.{Prepared}
 use Rattle.lp_builder.specs.simplex_core.Trips.{IsScaledSolution, IsScaledDual}
 use Rattle.lp_builder.proofs.simplex_core.OneAnswer.{optimal-same, infeasible-same, ends-apart}
 use Rattle.lp_builder.proofs.simplex_core.OneWholeAnswer.{scaled-once, causes-same}
-use Rattle.proof_tree.specs.proof_nodes.Gaps.{ScaledPoint}
-use Rattle.proof_tree.specs.declared.answer.EmptyAnswer.{EmptyAnswer}
-use Rattle.proof_tree.specs.declared.answer.EmptyAnswer.TheVariants as empties
-use Rattle.proof_tree.specs.AnswerViews.{scaled_of}
+use Rattle.cert_types.specs.cert_rules.Gaps.{ScaledPoint}
+use Rattle.cert_types.specs.declared.answer.GuardFeasibility.{GuardFeasibility}
+use Rattle.cert_types.specs.declared.answer.GuardFeasibility.TheVariants as empties
+use Rattle.cert_types.specs.AnswerViews.{scaled_of}
 use Rattle.rule_questions.specs.EmptyAnswers.{IsEmptyAnswer, empty_program}
 use Rattle.rule_questions.specs.OneEmptyAnswer.{IsSameEmptyAnswer, EmptyAnswersAreOne}
 
@@ -42,7 +42,7 @@ unfolding point_with
 point-same z w e f = ap (λ (ps : List ℤ). point_with ps z.den) e ∙ ap (λ (d : ℕ). point_with w.parts d) f
 
 -- whether rows have a point
-empties-once : (m : Prepared) (rule pivots : ℕ) (a b : EmptyAnswer) → IsEmptyAnswer m rule pivots a
+empties-once : (m : Prepared) (rule pivots : ℕ) (a b : GuardFeasibility) → IsEmptyAnswer m rule pivots a
     → IsEmptyAnswer m rule pivots b
     → IsSameEmptyAnswer a b
 empties-once m rule pivots (empties.Empty n) (empties.Empty k) g h = (
@@ -54,7 +54,7 @@ empties-once m rule pivots (empties.Empty n) (empties.Empty k) g h = (
 )
 empties-once m rule pivots (empties.Empty n) (empties.Point z) g h =
     apart (empty_program m) pivots g.2.numbers h.2.numbers g.2.den h.2.den g.2.solution h.2.dual
-empties-once m rule pivots (empties.Empty n) (empties.Tripped t) g h = g.1.each (cause_of t.cause) h.1
+empties-once m rule pivots (empties.Empty n) (empties.OutOfLimits t) g h = g.1.each (cause_of t.cause) h.1
 empties-once m rule pivots (empties.Point z) (empties.Empty n) g h =
     apart (empty_program m) pivots h.2.numbers g.2.numbers h.2.den g.2.den h.2.solution g.2.dual
 empties-once m rule pivots (empties.Point z) (empties.Point w) g h =
@@ -62,10 +62,10 @@ empties-once m rule pivots (empties.Point z) (empties.Point w) g h =
     point-same (scaled_of z) (scaled_of w)
     (g.2.parts ∙ (ap (λ (xs : List ℤ). listed m.unknowns (at xs)) e ∙ sym h.2.parts))
     (g.2.over ∙ (ap (λ (xs : List ℤ). nat_abs (at xs m.unknowns)) e ∙ sym h.2.over))
-empties-once m rule pivots (empties.Point z) (empties.Tripped t) g h = g.1.each (cause_of t.cause) h.1
-empties-once m rule pivots (empties.Tripped t) (empties.Empty n) g h = h.1.each (cause_of t.cause) g.1
-empties-once m rule pivots (empties.Tripped t) (empties.Point z) g h = h.1.each (cause_of t.cause) g.1
-empties-once m rule pivots (empties.Tripped t) (empties.Tripped u) g h =
+empties-once m rule pivots (empties.Point z) (empties.OutOfLimits t) g h = g.1.each (cause_of t.cause) h.1
+empties-once m rule pivots (empties.OutOfLimits t) (empties.Empty n) g h = h.1.each (cause_of t.cause) g.1
+empties-once m rule pivots (empties.OutOfLimits t) (empties.Point z) g h = h.1.each (cause_of t.cause) g.1
+empties-once m rule pivots (empties.OutOfLimits t) (empties.OutOfLimits u) g h =
     (g.0 ∙ sym h.0, causes-same (empty_program m) pivots (cause_of t.cause) (cause_of u.cause) g.1 h.1)
 
 -- of a rule's rows, within a number of pivots, there is one answer whether they have a point

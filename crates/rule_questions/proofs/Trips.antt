@@ -1,8 +1,8 @@
--- Where a linear program has an answer in whole numbers, nothing trips it.
+-- Where a linear program has an answer in integers, nothing trips it.
 use Rattle.std.proofs.Common.{ℕ, sym, subst}
 use Rattle.poly_terms.proofs.linear_forms.CauseLaws.{named, named-is}
 use Rattle.poly_terms.specs.linear_forms.LinearProgram.{LinearProgram}
-use Rattle.lp_builder.specs.simplex_core.declared.answers.Answer.TheVariants.{Solution, Dual, Tripped}
+use Rattle.lp_builder.specs.simplex_core.declared.answers.Answer.TheVariants.{Solution, Dual, OutOfLimits}
 use Rattle.lp_builder.specs.simplex_core.declared.scaling.Numerators.{Numerators}
 use Rattle.lp_builder.specs.simplex_core.Trips.{Trips, IsWholeAnswer}
 use Rattle.lp_builder.proofs.simplex_core.OneWholeAnswer.{whole-same}
@@ -12,12 +12,12 @@ use Rattle.rule_questions.specs.Programs.{NothingTrips}
 pub solution-untripped : (p : LinearProgram) (pivots : ℕ) (s : Numerators) → IsWholeAnswer p pivots (Solution s)
     → NothingTrips p pivots
 solution-untripped p pivots s h = record {
-  each = λ c t. whole-same p pivots (Solution s) (Tripped (named c)) h (subst (Trips p pivots) (sym (named-is c)) t);
+  each = λ c t. whole-same p pivots (Solution s) (OutOfLimits (named c)) h (subst (Trips p pivots) (sym (named-is c)) t);
 }
 
 -- a linear program that is answered by a dual isn't tripped
 pub dual-untripped : (p : LinearProgram) (pivots : ℕ) (s : Numerators) → IsWholeAnswer p pivots (Dual s)
     → NothingTrips p pivots
 dual-untripped p pivots s h = record {
-  each = λ c t. whole-same p pivots (Dual s) (Tripped (named c)) h (subst (Trips p pivots) (sym (named-is c)) t);
+  each = λ c t. whole-same p pivots (Dual s) (OutOfLimits (named c)) h (subst (Trips p pivots) (sym (named-is c)) t);
 }

@@ -1,4 +1,4 @@
--- Whether the rows of a rule have a point: what each answer says.
+-- Answers on whether the rows of a rule have a point: the meaning of each.
 use Rattle.std.specs.Prelude.{◌≡◌, ◌↔◌, ℕ, ◌≤◌, List, length, ℤ, pos, nat_abs, Some}
 use Rattle.std.specs.List.{All}
 use Rattle.poly_terms.specs.linear_forms.Causes.{cause_of}
@@ -9,21 +9,21 @@ use Rattle.poly_terms.specs.linear_forms.Limits.{certificate_limit, point_limit}
 use Rattle.poly_terms.specs.linear_forms.LinearProgram.{LinearProgram}
 use Rattle.poly_terms.specs.linear_forms.Questions.{listed, program_of_question}
 use Rattle.poly_terms.specs.linear_forms.RuleQuestions.{empty_question}
-use Rattle.proof_tree.specs.rule_forms.Laws.{HasPoint}
+use Rattle.cert_types.specs.rule_forms.Laws.{HasPoint}
 use Rattle.poly_terms.specs.model.Programs.{Program, Rule, rule_at}
-use Rattle.proof_tree.specs.guard_prep.declared.rule_rows.RuleRows.{RuleRows}
-use Rattle.proof_tree.specs.guard_prep.Prepared.{Prepared, prepared}
-use Rattle.proof_tree.specs.guard_prep.Laws.{IsPreparable}
-use Rattle.proof_tree.specs.guard_prep.Views.{prepared_of}
+use Rattle.cert_types.specs.guard_prep.declared.rule_rows.RuleRows.{RuleRows}
+use Rattle.cert_types.specs.guard_prep.Prepared.{Prepared, prepared}
+use Rattle.cert_types.specs.guard_prep.Laws.{IsPreparable}
+use Rattle.cert_types.specs.guard_prep.Views.{prepared_of}
 use Rattle.lp_builder.specs.simplex_core.Trips.{Trips, IsScaledSolution, IsScaledDual}
-use Rattle.proof_tree.specs.proof_nodes.Gaps.{ScaledPoint}
-use Rattle.proof_tree.specs.proof_nodes.AcceptsPlain.{AcceptsEmpty}
-use Rattle.proof_tree.specs.proof_setting.Setting.{setting_of}
-use Rattle.proof_tree.specs.declared.proof.EmptyNode.{EmptyNode}
-use Rattle.proof_tree.specs.declared.answer.Question.TheVariants as asked
-use Rattle.proof_tree.specs.declared.answer.EmptyAnswer.{EmptyAnswer}
-use Rattle.proof_tree.specs.declared.answer.EmptyAnswer.TheVariants.{Empty, Point, Tripped}
-use Rattle.proof_tree.specs.AnswerViews.{scaled_of}
+use Rattle.cert_types.specs.cert_rules.Gaps.{ScaledPoint}
+use Rattle.cert_types.specs.cert_rules.AcceptsPlain.{AcceptsEmpty}
+use Rattle.cert_types.specs.cert_program.Setting.{setting_of}
+use Rattle.cert_types.specs.declared.proof.EmptyNode.{EmptyNode}
+use Rattle.cert_types.specs.declared.answer.Question.TheVariants as asked
+use Rattle.cert_types.specs.declared.answer.GuardFeasibility.{GuardFeasibility}
+use Rattle.cert_types.specs.declared.answer.GuardFeasibility.TheVariants.{Empty, Point, OutOfLimits}
+use Rattle.cert_types.specs.AnswerViews.{scaled_of}
 use Rattle.rule_questions.specs.ProgramQuestions.{forms_of}
 use Rattle.rule_questions.specs.Programs.{NothingTrips}
 
@@ -68,37 +68,37 @@ pub record IsDualPoint (m : Prepared) (pivots : ℕ) (z : ScaledPoint) : Type 0 
 -- what the answer for a rule says, within a number of pivots: that the rows have no point, as a node shows, or that
 -- they have one, and which, and that nothing trips the linear program; or that it trips, and by which cause. The node
 -- and the point are those at which the sequence of tableaux ends
-abbrev pub IsEmptyAnswer : Prepared → ℕ → ℕ → EmptyAnswer → Type 0
+abbrev pub IsEmptyAnswer : Prepared → ℕ → ℕ → GuardFeasibility → Type 0
 IsEmptyAnswer m rule pivots (Empty n) =
     IsEmptyNode m rule n × NothingTrips (empty_program m) pivots × AreSolved m pivots n.multipliers.items
 IsEmptyAnswer m rule pivots (Point z) =
     IsNearPoint m (scaled_of z) × NothingTrips (empty_program m) pivots × IsDualPoint m pivots (scaled_of z)
-IsEmptyAnswer m rule pivots (Tripped t) =
+IsEmptyAnswer m rule pivots (OutOfLimits t) =
     (t.question ≡ asked.Empty rule) × Trips (empty_program m) pivots (cause_of t.cause)
 
 -- which answer it is
-abbrev pub SaysEmpty : EmptyAnswer → Type 0
+abbrev pub SaysEmpty : GuardFeasibility → Type 0
 SaysEmpty (Empty n) = Unit {0}
 SaysEmpty (Point z) = ⊥
-SaysEmpty (Tripped t) = ⊥
+SaysEmpty (OutOfLimits t) = ⊥
 
-abbrev pub SaysPoint : EmptyAnswer → Type 0
+abbrev pub SaysPoint : GuardFeasibility → Type 0
 SaysPoint (Empty n) = ⊥
 SaysPoint (Point z) = Unit {0}
-SaysPoint (Tripped t) = ⊥
+SaysPoint (OutOfLimits t) = ⊥
 
-abbrev pub SaysTripped : EmptyAnswer → Type 0
+abbrev pub SaysTripped : GuardFeasibility → Type 0
 SaysTripped (Empty n) = ⊥
 SaysTripped (Point z) = ⊥
-SaysTripped (Tripped t) = Unit {0}
+SaysTripped (OutOfLimits t) = Unit {0}
 
--- each of the three answers comes exactly where its cause stands
+-- each of the three answers comes exactly in its case
 pub record EmptyAnswersAreExact : Type 0 where
-  pub empty : (m : Prepared) (rule pivots : ℕ) (a : EmptyAnswer) → IsEmptyAnswer m rule pivots a
+  pub empty : (m : Prepared) (rule pivots : ℕ) (a : GuardFeasibility) → IsEmptyAnswer m rule pivots a
       → SaysEmpty a ↔ ((¬ HasPoint m.rows) × NothingTrips (empty_program m) pivots)
-  pub point : (m : Prepared) (rule pivots : ℕ) (a : EmptyAnswer) → IsEmptyAnswer m rule pivots a
+  pub point : (m : Prepared) (rule pivots : ℕ) (a : GuardFeasibility) → IsEmptyAnswer m rule pivots a
       → SaysPoint a ↔ (HasPoint m.rows × NothingTrips (empty_program m) pivots)
-  pub tripped : (m : Prepared) (rule pivots : ℕ) (a : EmptyAnswer) → IsEmptyAnswer m rule pivots a
+  pub tripped : (m : Prepared) (rule pivots : ℕ) (a : GuardFeasibility) → IsEmptyAnswer m rule pivots a
       → SaysTripped a ↔ (¬ NothingTrips (empty_program m) pivots)
 
 -- the node of a rule of a program whose rows have no point is accepted

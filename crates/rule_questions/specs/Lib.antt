@@ -12,7 +12,7 @@ pub mod GroupLines
 pub use Rattle.poly_terms.specs.model
 pub use Rattle.poly_terms.specs.int_laws
 pub use Rattle.poly_terms.specs.linear_forms
-pub use Rattle.proof_tree.specs.rule_forms
-pub use Rattle.proof_tree.specs.bound_expr
-pub use Rattle.proof_tree.specs.proof_nodes
-pub use Rattle.proof_tree.specs as proof_tree
+pub use Rattle.cert_types.specs.rule_forms
+pub use Rattle.cert_types.specs.bound_expr
+pub use Rattle.cert_types.specs.cert_rules
+pub use Rattle.cert_types.specs as cert_types

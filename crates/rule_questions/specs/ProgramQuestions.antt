@@ -1,9 +1,9 @@
--- What questions see of the rules of a program.
+-- The rules of a program as questions see them.
 use Rattle.std.specs.Prelude.{ℕ, List, map}
-use Rattle.proof_tree.specs.proof_nodes.Gaps.{SymbolPlace}
-use Rattle.proof_tree.specs.AnswerViews.{shut_of}
-pub use Rattle.proof_tree.specs.proof_setting.RankedSets.{forms_of, forms_in, forms_at, is_entered, ranked_set}
+use Rattle.cert_types.specs.cert_rules.Gaps.{SymbolPlace}
+use Rattle.cert_types.specs.AnswerViews.{shut_of}
+pub use Rattle.cert_types.specs.cert_program.RankedSets.{forms_of, forms_in, forms_at, is_entered, ranked_set}
 
--- places as they are handed in: a symbol, and a place of it
+-- places as they are given: a symbol, and a place of it
 abbrev pub places_of : List (ℕ × ℕ) → List SymbolPlace
 places_of shut = map shut_of shut

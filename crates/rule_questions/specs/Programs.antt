@@ -1,4 +1,4 @@
--- The linear programs of questions: problems that hold them, and when nothing trips them.
+-- The linear programs of questions: the problems that represent them, and when they exceed no limit.
 use Rattle.std.specs.Prelude.{ℕ}
 use Rattle.poly_terms.specs.linear_forms.Causes.{Cause}
 use Rattle.poly_terms.specs.linear_forms.LinearProgram.{LinearProgram}

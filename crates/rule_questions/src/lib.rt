@@ -1,7 +1,10 @@
-//! What questions are asked of the rules of a program: the rules as forms, whether the rows of one have a point, and the
-//! rows that go into a question and the parts that come out of an answer.
-//! Contract to the layers above: `ProgramQuestions` says which questions a program's rules give, `Programs` when a problem
-//! is that of a question, and `EmptyAnswers` what an answer on the rows of a rule says, which is exact and the only one.
+//! The questions that the searches ask about the rules of a program, in machine integers: the rules as affine forms,
+//! the rows that go into a question, the parts that are read off an answer, and whether the rows of a rule have a
+//! point.
+//!
+//! Builds on `lp_builder` (linear programs of questions), `poly_terms`, `farkas_cert` and `cert_types`. Main guarantee:
+//! `ProgramQuestions` says which questions a program's rules give, `Programs` when a problem is that of a question, and
+//! `EmptyAnswers` what an answer on the rows of a rule means; that answer is exact and the only one.
 #![tactic(auto)]
 
 mod laws;

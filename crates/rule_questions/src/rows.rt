@@ -1,4 +1,4 @@
-//! Rows that questions are made of, and their differences.
+//! The rows of questions, and their differences.
 
 ghost use Rattle.std.specs.Prelude.{◌≡◌, ◌+◌, ◌*ℤ◌, ◌+ℤ◌, ◌<◌, ◌≤◌};
 ghost use Rattle.std.specs.Prelude.{max, nat_abs, negsuc, IfOk};

@@ -8,7 +8,7 @@ use farkas_cert::Scaled;
 use poly_terms::Memory;
 use std::alloc::Global;
 
-/// The multipliers of so many rows, from the columns that begin at a place.
+/// The multipliers of this many rows, from the columns that begin at a place.
 ///
 /// # Errors
 ///
@@ -29,7 +29,7 @@ pub fn multipliers_from(
     Ok(multipliers)
 }
 
-/// The part of a group with so many unknowns, from the lines that begin at a place: a part for each unknown, and then
+/// The part of a group with this many unknowns, from the lines that begin at a place: a part for each unknown, and then
 /// the denominator.
 ///
 /// # Errors

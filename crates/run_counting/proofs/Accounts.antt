@@ -6,11 +6,11 @@ use Rattle.run_counting.specs.Paying.{allowance, IsPaidFor}
 use Rattle.run_counting.specs.Worked.{IsAccount, weighs, AccountsPay}
 
 -- a level that is told by the balance pays where it begins low enough, and changes with the balance as it may
-told : (level : ℕ → ℕ) (q w : ℕ) (es : List ℕ) → level 0 ≤ q * allowance (weighs w) es 0
+level_pays : (level : ℕ → ℕ) (q w : ℕ) (es : List ℕ) → level 0 ≤ q * allowance (weighs w) es 0
     → ((u c d : ℕ) → d + one_if_same u 2 ≡ c + 3 * one_if_same u 1
     → level d + q * one_if_same u 2 ≤ level c + q * allowance (weighs w) es u)
     → IsPaidFor IsAccount (λ c l. l ≡ level c) q 2 (weighs w) es
-told level q w es low changes = record {
+level_pays level q w es low changes = record {
   rule = λ e. omega (arith, e);
   start = λ c empty. (level c, refl, omega (arith, ap level empty, low));
   step = λ s earlier d run.
@@ -52,10 +52,10 @@ levels_from = record {
 -- levels pay or don't as it was worked out
 pub accounts_pay : AccountsPay
 accounts_pay = record {
-  balance = told (λ c. c) 1 3 (1 ∷ []) (omega arith) (λ u c d e. omega (arith, e));
-  doubled = told (λ c. 2 * c) 2 3 (1 ∷ []) (omega arith) (λ u c d e. omega (arith, e));
-  twice = told (λ c. c) 1 2 (1 ∷ 1 ∷ []) (omega arith) (λ u c d e. omega (arith, e));
-  one_more = told (λ c. suc c) 1 3 (0 ∷ 1 ∷ []) (omega arith) (λ u c d e. omega (arith, e));
+  balance = level_pays (λ c. c) 1 3 (1 ∷ []) (omega arith) (λ u c d e. omega (arith, e));
+  doubled = level_pays (λ c. 2 * c) 2 3 (1 ∷ []) (omega arith) (λ u c d e. omega (arith, e));
+  twice = level_pays (λ c. c) 1 2 (1 ∷ 1 ∷ []) (omega arith) (λ u c d e. omega (arith, e));
+  one_more = level_pays (λ c. suc c) 1 3 (0 ∷ 1 ∷ []) (omega arith) (λ u c d e. omega (arith, e));
   from_balance = levels_from;
   light = λ h. let step = changes_so (λ c. c) 1 2 (1 ∷ []) h (by_rule 1) [] 3 deposit in
       omega (arith, step.1, step.2);

@@ -66,7 +66,7 @@ module _ {C : Type 0} (IsRunTo : List Step → C → Type 0) (HasLevel : C → �
         mul-add q (allowance weight es s.rule) (income weight es earlier),
       ))
 
--- so it is for the runs of a program
+-- the counting lemma for the runs of a program
 pub entries_pay : (HasLevel : Config → ℕ → Type 0) → EntriesPay HasLevel
 entries_pay HasLevel = record {
   each =

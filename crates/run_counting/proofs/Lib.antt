@@ -1,3 +1,4 @@
+-- the counting lemma of runs, and its worked values
 pub mod Counting
 pub mod Accounts
 -- the lemmas of the crates below, which callers name through this one

@@ -1,5 +1,5 @@
--- Levels that pay for steps: how often a rule can occur where each of its steps takes from a level that only entries
--- raise.
+-- Levels that pay for steps (potentials): how often a rule can occur if each of its steps lowers a level that only
+-- entries raise.
 use Rattle.std.specs.Prelude.{◌≡◌, ◌≢◌, ℕ, ◌+◌, ◌*◌, ◌≤◌, List, [], ◌∷◌, ℤ}
 use Rattle.model.specs.Programs.{Program}
 use Rattle.model.specs.Runs.{Config, Step, IsRun, count, one_if_same}

@@ -1,4 +1,4 @@
--- Levels that pay and levels that don't, as they were worked out by hand.
+-- Worked values of levels that pay, and of levels that don't.
 use Rattle.std.specs.Prelude.{◌≡◌, ℕ, suc, ◌+◌, ◌*◌, ◌≤◌, List, [], ◌∷◌, ⊤}
 use Rattle.model.specs.Runs.{Step, one_if_same}
 use Rattle.model.specs.Worked.{four_steps}
@@ -29,17 +29,17 @@ pub record EntriesBringIn : Type 0 where
 
 -- levels that pay for rule 2, and levels that don't
 pub record AccountsPay : Type 0 where
-  -- they pay where rule 1 weighs 3 and rule 2 takes 1; where both are doubled; where rule 1 weighs 2 and is listed
-  -- twice; where one coin more is there, which the virtual entry brings in; and where any number from the balance on is
-  -- a level
+  -- the levels pay where rule 1 weighs 3 and rule 2 takes 1; where both are doubled; where rule 1 weighs 2 and is
+  -- listed twice; where there is one coin more, which the virtual entry brings in; and where any number from the
+  -- balance on is a level
   pub balance : IsPaidFor IsAccount Balance 1 2 (weighs 3) (1 ∷ [])
   pub doubled : IsPaidFor IsAccount (λ c l. l ≡ 2 * c) 2 2 (weighs 3) (1 ∷ [])
   pub twice : IsPaidFor IsAccount Balance 1 2 (weighs 2) (1 ∷ 1 ∷ [])
   pub one_more : IsPaidFor IsAccount (λ c l. l ≡ suc c) 1 2 (weighs 3) (0 ∷ 1 ∷ [])
   pub from_balance : IsPaidFor IsAccount (λ c l. c ≤ l) 1 2 (weighs 3) (1 ∷ [])
-  -- they don't where rule 1 weighs 2, or is no entry, or rule 2 is to take 2; where one coin more is there that nothing
-  -- brings in; where there is no level; where any number is one, so that a step has to take from 0; and the virtual
-  -- entry isn't paid for
+  -- they don't where rule 1 weighs 2, or is no entry, or rule 2 has to take 2; where there is one coin more that
+  -- nothing brings in; where there is no level; where any number is one, so that a step has to take from 0; and where
+  -- the virtual entry isn't paid for
   pub light : ¬ (IsPaidFor IsAccount Balance 1 2 (weighs 2) (1 ∷ []))
   pub no_entry : ¬ (IsPaidFor IsAccount Balance 1 2 (weighs 3) (0 ∷ []))
   pub takes_one : ¬ (IsPaidFor IsAccount Balance 2 2 (weighs 3) (1 ∷ []))

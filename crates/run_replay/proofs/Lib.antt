@@ -1,9 +1,11 @@
+-- laws of run files and their texts, and of replays and their tallies
 pub mod RuleNumbers
 pub mod RunParts
 pub mod RunText
 pub mod RunsApart
 pub mod WorkedRuns
-mod ReplayRuns
+pub mod ReplayFaults
+pub mod ReplayRuns
 mod ReplayTallies
 mod ReplayStands
 mod ReplayLaws

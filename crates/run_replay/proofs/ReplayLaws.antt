@@ -1,11 +1,11 @@
 -- The laws of replays.
-use Rattle.its_model.specs.Steps.{StepsHaveNoFault}
 use Rattle.run_replay.specs.ReplayLaws.{ReplaysAreDecided}
+use Rattle.run_replay.proofs.ReplayFaults.{ReplayStepsHaveNoFault}
 use Rattle.run_replay.proofs.ReplayRuns.{none_bad, one_bad, some_comes}
 use Rattle.run_replay.proofs.ReplayTallies.{greatest_is_most, greatest_is_reached}
 
--- all of them, by the law of single steps
-pub replays_decided : StepsHaveNoFault → ReplaysAreDecided
+-- all of them, by the laws of single steps and of their costs
+pub replays_decided : ReplayStepsHaveNoFault → ReplaysAreDecided
 replays_decided law = record {
   none_bad = λ p start steps bad h k. none_bad law p start steps bad h k;
   one_bad = λ p start steps a b h k. one_bad law p start steps a b h k;

@@ -6,18 +6,19 @@ use Rattle.std.proofs.lemmas.Bool.Decides.{nat_tests}
 use Rattle.its_model.specs.model.Terms.{value}
 use Rattle.its_model.specs.model.Programs.{Program, Rule, rule_at, arity_of}
 use Rattle.its_model.specs.model.Runs.{Config, Step, IsStep, IsRun}
+use Rattle.its_model.specs.Costs.{CostFits, cost_fault}
 use Rattle.its_model.specs.Steps.{StepFault, OtherRule, RuleFits, rule_fault, found_fault, body_fault, step_fault}
-use Rattle.its_model.specs.Steps.{StepsHaveNoFault}
 use Rattle.its_model.specs.Valid.{IsValid}
 use Rattle.its_model.proofs.poly_terms.model.RunLaws.{same_end}
 use Rattle.its_model.proofs.poly_terms.model.StepLaws.{values}
 use Rattle.its_model.proofs.poly_terms.model.CostLaws.{stands_at}
 use Rattle.its_model.proofs.ValidLaws.{arities_agree}
-use Rattle.run_replay.specs.Replays.{RunsInRange, IsRunInRange, BadStep, IsFirstBadStep}
+use Rattle.run_replay.specs.Replays.{replay_fault, RunsInRange, IsRunInRange, BadStep, IsFirstBadStep}
+use Rattle.run_replay.proofs.ReplayFaults.{ReplayStepsHaveNoFault, neither_fault}
 
 -- a step that is taken in range behind a run in range makes another one
-pub next_runs : StepsHaveNoFault → (p : Program) (start : List ℤ) (earlier : List Step) (c : Config) (s : Step)
-    (d : Config) → RunsInRange p start earlier c → IsStep p c s d → step_fault p c s ≡ None
+pub next_runs : ReplayStepsHaveNoFault → (p : Program) (start : List ℤ) (earlier : List Step) (c : Config) (s : Step)
+    (d : Config) → RunsInRange p start earlier c → IsStep p c s d → replay_fault p c s ≡ None
     → RunsInRange p start (s ∷ earlier) d
 next_runs law p start earlier c s d h step none = record {
   run = (c, h.run, step);
@@ -26,6 +27,8 @@ next_runs law p start earlier c s d h step none = record {
     record {
       each = λ q e. subst (λ (v : List ℤ). RuleFits q (v ++ s.free)) (stands_at p start earlier c h.run)
           (law.fits p c s q e none);
+      cost = λ q e. subst (λ (v : List ℤ). CostFits (v ++ s.free) q.cost) (stands_at p start earlier c h.run)
+          (law.cost_fits p c s q e none);
     },
   );
 }
@@ -38,14 +41,16 @@ beginning_runs p start (s ∷ later) earlier c h =
     beginning_runs p start later earlier h.run.0 (record { run = h.run.1; fit = h.fit.0 })
 
 -- the last step of a run in range has no fault where the steps before it lead
-pub last_has_no_fault : StepsHaveNoFault → (p : Program) (start : List ℤ) (s : Step) (earlier : List Step) (b c : Config)
-    → RunsInRange p start (s ∷ earlier) c → IsRun p start earlier b → step_fault p b s ≡ None
+pub last_has_no_fault : ReplayStepsHaveNoFault → (p : Program) (start : List ℤ) (s : Step) (earlier : List Step) (b c : Config)
+    → RunsInRange p start (s ∷ earlier) c → IsRun p start earlier b → replay_fault p b s ≡ None
 last_has_no_fault law p start s earlier b c h run =
     let e : h.run.0 ≡ b = same_end p start earlier h.run.0 b h.run.1 run in
     let step : IsStep p b s c = subst (λ (x : Config). IsStep p x s c) e h.run.2 in
     law.no_fault p b c s step.rule step.numbered step
     (subst (λ (v : List ℤ). RuleFits step.rule (v ++ s.free)) (sym (stands_at p start earlier b run))
     (h.fit.1.each step.rule step.numbered))
+    (subst (λ (v : List ℤ). CostFits (v ++ s.free) step.rule.cost) (sym (stands_at p start earlier b run))
+    (h.fit.1.cost step.rule step.numbered))
 
 -- what has no fault has none
 none_some : (f : StepFault) (o : Option StepFault) → o ≡ None → o ≡ Some f → ⊥
@@ -55,13 +60,13 @@ none_some f o h k = absurd (differ (sym h ∙ k))
     differ e = cc
 
 -- steps of which one is the first bad one aren't a run in range
-pub none_bad : StepsHaveNoFault → (p : Program) (start : List ℤ) (steps : List Step) (bad : BadStep)
+pub none_bad : ReplayStepsHaveNoFault → (p : Program) (start : List ℤ) (steps : List Step) (bad : BadStep)
     → IsRunInRange p start steps → IsFirstBadStep p start steps bad → ⊥
 none_bad law p start steps bad (c, h) k =
     let whole : RunsInRange p start (k.later ++ k.step ∷ k.earlier) c =
     subst (λ (ss : List Step). RunsInRange p start ss c) k.order h in
     let (d, g) = beginning_runs p start k.later (k.step ∷ k.earlier) c whole in
-    none_some bad.fault (step_fault p k.end k.step)
+    none_some bad.fault (replay_fault p k.end k.step)
     (last_has_no_fault law p start k.step k.earlier k.end d g k.runs.run) k.fault
 
 -- of two endings of a list the longer one ends with the shorter one
@@ -75,7 +80,7 @@ same_bad : (a b : BadStep) → a.number ≡ b.number → a.fault ≡ b.fault →
 same_bad a b e f = λ i. record { number = e i; fault = f i }
 
 -- two first bad steps of which one is reached no later than the other are one
-earlier_bad : StepsHaveNoFault → (p : Program) (start : List ℤ) (steps : List Step) (a b : BadStep)
+earlier_bad : ReplayStepsHaveNoFault → (p : Program) (start : List ℤ) (steps : List Step) (a b : BadStep)
     → (h : IsFirstBadStep p start steps a) (k : IsFirstBadStep p start steps b)
     → (m : List Step) → k.step ∷ k.earlier ≡ m ++ h.step ∷ h.earlier → a ≡ b
 earlier_bad law p start steps a b h k [] e =
@@ -84,7 +89,7 @@ earlier_bad law p start steps a b h k [] e =
     let end : k.end ≡ h.end = same_end p start h.earlier k.end h.end
     (subst (λ (ss : List Step). IsRun p start ss k.end) before k.runs.run) h.runs.run in
     let fault : Some b.fault ≡ Some a.fault = sym k.fault
-    ∙ (ap (λ (c : Config). step_fault p c k.step) end ∙ (ap (step_fault p h.end) step ∙ h.fault)) in
+    ∙ (ap (λ (c : Config). replay_fault p c k.step) end ∙ (ap (replay_fault p h.end) step ∙ h.fault)) in
     same_bad a b (omega (arith, h.number, k.number, ap length before)) (let f : a.fault ≡ b.fault = cc in f)
 earlier_bad law p start steps a b h k (w ∷ m) e =
     let before : k.earlier ≡ m ++ h.step ∷ h.earlier = cc in
@@ -100,7 +105,7 @@ earlier_bad law p start steps a b h k (w ∷ m) e =
     }))
 
 -- there is one first bad step at most
-pub one_bad : StepsHaveNoFault → (p : Program) (start : List ℤ) (steps : List Step) (a b : BadStep)
+pub one_bad : ReplayStepsHaveNoFault → (p : Program) (start : List ℤ) (steps : List Step) (a b : BadStep)
     → IsFirstBadStep p start steps a → IsFirstBadStep p start steps b → a ≡ b
 one_bad law p start steps a b h k = go (at_most (length h.earlier) (length k.earlier))
   where
@@ -147,28 +152,27 @@ more_behind p start s steps bad h = record {
 }
 
 -- what a step behind a run in range comes to
-more_steps : StepsHaveNoFault → (p : Program) (start : List ℤ) (s : Step) (earlier : List Step) (c : Config) → IsValid p
+more_steps : ReplayStepsHaveNoFault → (p : Program) (start : List ℤ) (s : Step) (earlier : List Step) (c : Config) → IsValid p
     → RunsInRange p start earlier c
     → IsRunInRange p start (s ∷ earlier) ⊎ ((bad : BadStep) × IsFirstBadStep p start (s ∷ earlier) bad)
-more_steps law p start s earlier c valid h = go (step_fault p c s) refl
+more_steps law p start s earlier c valid h = go (replay_fault p c s) refl
   where
-    taken : (o : Option Rule) → rule_at p s.rule ≡ o → found_fault o c s.free ≡ None
+    taken : (o : Option Rule) → rule_at p s.rule ≡ o → found_fault o c s.free ≡ None → replay_fault p c s ≡ None
         → IsRunInRange p start (s ∷ earlier)
-    taken None e none = absurd (no none)
+    taken None e none fault = absurd (no none)
       where
         no : Some OtherRule ≡ None → ⊥
         no k = cc
-    taken (Some r) e none =
-        let fault : step_fault p c s ≡ None = ap (λ (o : Option Rule). found_fault o c s.free) e ∙ none in
+    taken (Some r) e none fault =
         let agree = arities_agree p valid in
         let left : length c.values ≡ r.left = values p agree start earlier c h.run
         ∙ (ap (arity_of p) (leaves_source r c s.free none) ∙ sym (agree.left s.rule r e)) in
         let d : Config = record { at = r.target; values = map (λ u. value u (c.values ++ s.free)) r.updates } in
         (d, next_runs law p start earlier c s d h (law.step p c s r e left fault) fault)
 
-    go : (o : Option StepFault) → step_fault p c s ≡ o
+    go : (o : Option StepFault) → replay_fault p c s ≡ o
         → IsRunInRange p start (s ∷ earlier) ⊎ ((bad : BadStep) × IsFirstBadStep p start (s ∷ earlier) bad)
-    go None e = inl (taken (rule_at p s.rule) refl e)
+    go None e = inl (taken (rule_at p s.rule) refl (neither_fault (step_fault p c s) (cost_fault p c s) e).0 e)
     go (Some f) e = inr (
       record { number = suc (length earlier); fault = f },
       record {
@@ -184,7 +188,7 @@ more_steps law p start s earlier c valid h = go (step_fault p c s) refl
     )
 
 -- steps are a run in range or have a first bad one
-pub some_comes : StepsHaveNoFault → (p : Program) (start : List ℤ) (steps : List Step) → IsValid p
+pub some_comes : ReplayStepsHaveNoFault → (p : Program) (start : List ℤ) (steps : List Step) → IsValid p
     → length start ≡ arity_of p p.start
     → IsRunInRange p start steps ⊎ ((bad : BadStep) × IsFirstBadStep p start steps bad)
 some_comes law p start [] valid places =

@@ -1,7 +1,7 @@
 -- Where a replay stands, one step on, at a bad step, and at the end.
 use Rattle.std.proofs.Common.{◌≡◌, ℕ, zero, suc, ◌+◌, ◌-◌, ◌≤◌, ◌<◌, List, [], ◌∷◌, ◌++◌, length, take, drop, reverse}
 use Rattle.std.proofs.Common.{get_or, ℤ, Some, None, Option, refl, sym, ◌∙◌, ap, subst, arith, append_assoc}
-use Rattle.std.specs.Prelude.{slice_index, slice_index_or, vec_capacity, IfSome}
+use Rattle.std.specs.Prelude.{slice_index, slice_index_or, IfSome}
 use Rattle.std.proofs.lemmas.Grind.{reverse_onto}
 use Rattle.std.proofs.lemmas.List.{length-map, length-reverse, length-take-le, reverse-append, take_more, take-append-drop}
 use Rattle.std.proofs.lemmas.List.{take_all, drop_more}
@@ -9,18 +9,21 @@ use Rattle.std.proofs.lemmas.List.FromFn.{length-map-range_with_len, get_or-map-
 use Rattle.std.proofs.lemmas.Option.{slice_get_within}
 use Rattle.its_model.specs.model.Terms.{value}
 use Rattle.its_model.specs.model.Programs.{Program, Rule, rule_at}
+use Rattle.its_model.specs.model.Spending.{cost, spent}
 use Rattle.its_model.specs.model.Runs.{Config, Step, IsStep, count}
-use Rattle.its_model.specs.Steps.{StepFault, step_fault, maximum_arity, StepsHaveNoFault}
+use Rattle.its_model.specs.Steps.{StepFault}
 use Rattle.its_model.specs.Views.{config_of}
 use Rattle.its_model.proofs.poly_terms.model.CostLaws.{stands_at}
+use Rattle.bound_expr.specs.Capped.{capped}
 use Rattle.run_replay.specs.declared.replaying.Standing.{Standing}
 use Rattle.run_replay.specs.declared.replaying_error.ReplayError.{ReplayError}
 use Rattle.run_replay.specs.Runs.{Run}
-use Rattle.run_replay.specs.Replays.{RunsInRange, IsRunInRange, BadStep, IsFirstBadStep, Sums, tally_along, places_reached}
+use Rattle.run_replay.specs.Replays.{replay_fault, RunsInRange, IsRunInRange, BadStep, IsFirstBadStep, Sums, tally_along, places_reached}
 use Rattle.run_replay.specs.Replays.{greatest_size, greatest_sizes}
 use Rattle.run_replay.specs.ReplayLaws.{ReplaysAreDecided}
 use Rattle.run_replay.specs.ReplayAnswers.{sums_of, bad_step_of, last_first, first_steps, IsReplay, Refuses, Notes}
-use Rattle.run_replay.specs.ReplayAnswers.{StandsBehind}
+use Rattle.run_replay.specs.ReplayAnswers.{CanWalk, StandsBehind}
+use Rattle.run_replay.proofs.ReplayFaults.{ReplayStepsHaveNoFault}
 use Rattle.run_replay.proofs.ReplayRuns.{next_runs}
 use Rattle.run_replay.proofs.ReplayTallies.{count_at_most, tally_more}
 
@@ -49,7 +52,7 @@ parted r n s low e =
 
 -- a step with a fault behind the first steps is the first bad one
 pub bad_first : (p : Program) (r : Run) (n : ℕ) (s : Step) (c : Config) (f : StepFault) → n < length r.steps
-    → s ≡ get_or r.steps n s → RunsInRange p r.start (first_steps r n) c → step_fault p c s ≡ Some f
+    → s ≡ get_or r.steps n s → RunsInRange p r.start (first_steps r n) c → replay_fault p c s ≡ Some f
     → IsFirstBadStep p r.start (last_first r) (record { number = n + 1; fault = f })
 bad_first p r n s c f low e h fault = record {
   later = reverse (drop (n + 1) r.steps);
@@ -84,6 +87,7 @@ pub record IsNotable (t : Sums) (s : Step) (earlier : List Step) (values : List 
   pub places : length (slice_index_or t.greatest (s.rule - 1) []) ≡ length values
   pub steps : t.steps ≡ length earlier
   pub count : slice_index t.counts (s.rule - 1) ≤ length earlier
+  pub charged : s.rule ≤ length t.costs
 
 pub notable : (p : Program) (start : List ℤ) (earlier : List Step) (t : Sums) (c : Config) (s : Step) (d : Config)
     → t ≡ tally_along p start earlier → IsStep p c s d → IsNotable t s earlier d.values
@@ -93,6 +97,7 @@ notable p start earlier t c s d is step =
     let within = rule_within p s.rule step.rule step.numbered in
     let counts : ℕ → ℕ = λ u. count u earlier in
     let rows : ℕ → List ℕ = greatest_sizes p start earlier in
+    let costs : ℕ → ℕ = λ u. capped (spent p u start earlier) in
     let places : length d.values ≡ places_reached (rule_at p s.rule) =
     ap length step.leads.values ∙ (length-map step.rule.updates (λ u. value u (c.values ++ s.free))
     ∙ ap places_reached (sym step.numbered)) in
@@ -109,32 +114,35 @@ notable p start earlier t c s d is step =
         get_or-map-range_with_len counts 1 n k s.rule 0 within.1 (omega (arith, within.0)),
         count_at_most s.rule earlier within.0,
       );
+      charged = omega (arith, within.0, within.1, length-map-range_with_len costs 1 n);
     })
 
 -- a replay that takes a step and notes it stands behind one step more
-pub stands_next : StepsHaveNoFault → (p : Program) (r : Run) (n : ℕ) (s : Step) (old new : Standing)
+pub stands_next : ReplayStepsHaveNoFault → (p : Program) (r : Run) (n : ℕ) (s : Step) (charged : ℕ) (old new : Standing)
     → n < length r.steps → s ≡ get_or r.steps n s → StandsBehind p r n old
-    → IsStep p (config_of old.here) s (config_of new.here) → step_fault p (config_of old.here) s ≡ None
-    → Notes (s.rule - 1) new.here.values.items (sums_of old.tally) (sums_of new.tally)
-    → maximum_arity p.symbols ≤ vec_capacity new.here.values → maximum_arity p.symbols ≤ vec_capacity new.next.values
-    → StandsBehind p r (n + 1) new
-stands_next law p r n s old new low e h step none notes room next_room =
+    → IsStep p (config_of old.walk.here) s (config_of new.walk.here) → replay_fault p (config_of old.walk.here) s ≡ None
+    → charged ≡ cost p s.rule (old.walk.here.values.items ++ s.free)
+    → Notes (s.rule - 1) new.walk.here.values.items charged (sums_of old.tally) (sums_of new.tally)
+    → CanWalk p new.walk → StandsBehind p r (n + 1) new
+stands_next law p r n s charged old new low e h step none costs notes walks =
     let earlier = first_steps r n in
     let within = rule_within p s.rule step.rule step.numbered in
-    let runs : RunsInRange p r.start (s ∷ earlier) (config_of new.here) =
-    next_runs law p r.start earlier (config_of old.here) s (config_of new.here) h.runs step none in
-    let places : length new.here.values.items ≡ places_reached (rule_at p s.rule) =
-    ap length step.leads.values ∙ (length-map step.rule.updates (λ u. value u (old.here.values.items ++ s.free))
+    let runs : RunsInRange p r.start (s ∷ earlier) (config_of new.walk.here) =
+    next_runs law p r.start earlier (config_of old.walk.here) s (config_of new.walk.here) h.runs step none in
+    let places : length new.walk.here.values.items ≡ places_reached (rule_at p s.rule) =
+    ap length step.leads.values ∙ (length-map step.rule.updates (λ u. value u (old.walk.here.values.items ++ s.free))
     ∙ ap places_reached (sym step.numbered)) in
     let tally : sums_of new.tally ≡ tally_along p r.start (s ∷ earlier) =
-    tally_more p r.start s earlier (s.rule - 1) new.here.values.items (sums_of old.tally) (sums_of new.tally) h.tally notes
-    (omega (arith, within.0)) within.1 (stands_at p r.start (s ∷ earlier) (config_of new.here) runs.run) places in
+    tally_more p r.start s earlier (s.rule - 1) new.walk.here.values.items charged (sums_of old.tally)
+    (sums_of new.tally) h.tally notes (omega (arith, within.0)) within.1
+    (costs ∙ ap (λ (v : List ℤ). cost p s.rule (v ++ s.free))
+    (stands_at p r.start earlier (config_of old.walk.here) h.runs.run))
+    (stands_at p r.start (s ∷ earlier) (config_of new.walk.here) runs.run) places in
     let more = sym (first_more r n s low e) in
     record {
-      runs = subst (λ (ss : List Step). RunsInRange p r.start ss (config_of new.here)) more runs;
+      runs = subst (λ (ss : List Step). RunsInRange p r.start ss (config_of new.walk.here)) more runs;
+      walks = walks;
       tally = subst (λ (ss : List Step). sums_of new.tally ≡ tally_along p r.start ss) more tally;
-      room = room;
-      next_room = next_room;
     }
 
 -- a replay that stands behind all steps has replayed the run
@@ -143,7 +151,7 @@ pub whole_replay : (p : Program) (r : Run) (n : ℕ) (s : Standing) → length r
 whole_replay p r n s all h =
     let e : first_steps r n ≡ last_first r = ap reverse (take_all n r.steps all) in
     record {
-      run = (config_of s.here, subst (λ (ss : List Step). RunsInRange p r.start ss (config_of s.here)) e h.runs);
+      run = (config_of s.walk.here, subst (λ (ss : List Step). RunsInRange p r.start ss (config_of s.walk.here)) e h.runs);
       tally = subst (λ (ss : List Step). sums_of s.tally ≡ tally_along p r.start ss) e h.tally;
     }
 

@@ -1,7 +1,7 @@
 -- The tally along a run, step by step.
 use Rattle.std.proofs.Common.{◌≡◌, ◌≢◌, ◌⊎◌, inl, inr, true, false, ◌==◌, ℕ, zero, suc, ◌+◌, ◌≤◌, ◌<◌, max, List, []}
 use Rattle.std.proofs.Common.{◌∷◌, ◌++◌, length, map, set, get_or, ℤ, pos, nat_abs, Some, refl, sym, ◌∙◌, ap}
-use Rattle.std.proofs.Common.{subst, arith, replicate}
+use Rattle.std.proofs.Common.{subst, arith, replicate, min}
 use Rattle.std.specs.Prelude.{slice_index_or}
 use Rattle.std.specs.List.{range_with_len}
 use Rattle.std.proofs.lemmas.Bool.Decides.{eqb_tells}
@@ -12,12 +12,14 @@ use Rattle.its_model.specs.declared.program.Program as code
 use Rattle.its_model.specs.declared.program.Rule as code_rule
 use Rattle.its_model.specs.model.Programs.{Program, rule_at}
 use Rattle.its_model.specs.model.Runs.{Config, Step, IsRun, count, last_rule, place_value}
-use Rattle.its_model.specs.model.Costs.{values_after}
+use Rattle.its_model.specs.model.Spending.{values_after, step_cost, spent, spent_all}
 use Rattle.its_model.specs.poly_terms.Views.{term_of}
 use Rattle.its_model.specs.Views.{rule_of, program_of}
 use Rattle.its_model.proofs.ListLaws.{mapped-get}
 use Rattle.its_model.proofs.poly_terms.model.RunLaws.{one_if_same-same, one_if_same-other}
-use Rattle.its_model.proofs.poly_terms.model.CostLaws.{stands_at}
+use Rattle.its_model.proofs.poly_terms.model.CostLaws.{stands_at, spent_more, spent_same}
+use Rattle.bound_expr.specs.Limits.{cap}
+use Rattle.bound_expr.specs.Capped.{capped}
 use Rattle.run_replay.specs.Replays.{size_after, greatest_size, rule_numbers, places_reached, place_numbers}
 use Rattle.run_replay.specs.Replays.{greatest_sizes, Sums, tally_along, IsSizeAfter}
 use Rattle.run_replay.specs.ReplayAnswers.{Notes}
@@ -112,17 +114,25 @@ row_more p start s earlier row len raised =
     at_zero (x ∷ xs) (suc j) d h = at_zero xs j d (omega (arith, h))
 
 -- tallies with the same parts are the same
-same_sums : (a b : Sums) → a.steps ≡ b.steps → a.counts ≡ b.counts → a.greatest ≡ b.greatest → a ≡ b
-same_sums a b e f g = λ i. record { steps = e i; counts = f i; greatest = g i }
+same_sums : (a b : Sums) → a.steps ≡ b.steps → a.counts ≡ b.counts → a.greatest ≡ b.greatest → a.costs ≡ b.costs
+    → a.spent ≡ b.spent → a ≡ b
+same_sums a b e f g h k = λ i. record { steps = e i; counts = f i; greatest = g i; costs = h i; spent = k i }
+
+-- a capped sum and a number more, capped, is the sum of all, capped
+capped_more : (a b : ℕ) → capped (capped a + b) ≡ capped (b + a)
+capped_more a b = capped_at a b cap
+  where
+    capped_at : (a b limit : ℕ) → min (min a limit + b) limit ≡ min (b + a) limit
+    capped_at a b limit = omega arith
 
 -- the tally along steps with one more is the one along them with that step noted
-pub tally_more : (p : Program) (start : List ℤ) (s : Step) (earlier : List Step) (k : ℕ) (values : List ℤ)
-    (old new : Sums) → old ≡ tally_along p start earlier → Notes k values old new → s.rule ≡ suc k
-    → k < length p.rules → values ≡ values_after p start (s ∷ earlier)
+pub tally_more : (p : Program) (start : List ℤ) (s : Step) (earlier : List Step) (k : ℕ) (values : List ℤ) (cost : ℕ)
+    (old new : Sums) → old ≡ tally_along p start earlier → Notes k values cost old new → s.rule ≡ suc k
+    → k < length p.rules → cost ≡ step_cost p start s earlier → values ≡ values_after p start (s ∷ earlier)
     → length values ≡ places_reached (rule_at p s.rule) → new ≡ tally_along p start (s ∷ earlier)
-tally_more p start s earlier k values old new is notes e low stands places =
+tally_more p start s earlier k values cost old new is notes e low charged stands places =
     let n = length p.rules in
-    let t : Notes k values (tally_along p start earlier) new = subst (λ (o : Sums). Notes k values o new) is notes in
+    let t : Notes k values cost (tally_along p start earlier) new = subst (λ (o : Sums). Notes k values cost o new) is notes in
     let counts : ℕ → ℕ = λ u. count u earlier in
     let counted : get_or (map counts (rule_numbers p)) k 0 + 1 ≡ count s.rule (s ∷ earlier) =
     omega (arith, get_or-map-range_with_len counts 1 n k s.rule 0 low (omega (arith, e)), one_if_same-same s.rule s.rule refl) in
@@ -132,12 +142,21 @@ tally_more p start s earlier k values old new is notes e low stands places =
     row_more p start s earlier t.row (t.places ∙ places) (λ j h. t.raised j (omega (arith, h, places))
     ∙ (ap (λ (xs : List ℕ). max (get_or xs j 0) (nat_abs (get_or values j (pos 0)))) row_at
     ∙ ap (λ (v : List ℤ). max (get_or (greatest_sizes p start earlier s.rule) j 0) (nat_abs (get_or v j (pos 0)))) stands)) in
+    let costs : ℕ → ℕ = λ u. capped (spent p u start earlier) in
+    let charge : capped (get_or (map costs (rule_numbers p)) k 0 + cost) ≡ capped (spent p s.rule start (s ∷ earlier)) =
+    ap (λ (x : ℕ). capped (x + cost)) (get_or-map-range_with_len costs 1 n k s.rule 0 low (omega (arith, e)))
+    ∙ (capped_more (spent p s.rule start earlier) cost
+    ∙ ap capped (omega (arith, spent_more p s.rule start s earlier refl, charged))) in
     same_sums new (tally_along p start (s ∷ earlier)) (t.steps ∙ omega arith)
     (t.counts ∙ set_listed counts (λ u. count u (s ∷ earlier)) n k s.rule _ low e counted
     (λ u ne. count_same u s earlier (λ q. ne (sym q))))
     (t.greatest ∙ set_listed (greatest_sizes p start earlier) (greatest_sizes p start (s ∷ earlier)) n k s.rule t.row low e row
     (λ u ne. same_map (λ i. greatest_size p start u i earlier) (λ i. greatest_size p start u i (s ∷ earlier))
     (place_numbers p u) (λ i. sym (greatest_same p start u i s earlier (λ q. ne (sym q))))))
+    (t.costs ∙ set_listed costs (λ u. capped (spent p u start (s ∷ earlier))) n k s.rule _ low e charge
+    (λ u ne. ap capped (sym (spent_same p u start s earlier (λ q. ne (sym q))))))
+    (t.spent ∙ (capped_more (spent_all p start earlier) cost
+    ∙ ap capped (ap (λ (x : ℕ). x + spent_all p start earlier) charged)))
 
 -- the absolute value at a place behind a run is that where the run stands
 size_there : (p : Program) (start : List ℤ) (i : ℕ) (steps : List Step) (c : Config) → IsRun p start steps c
@@ -286,12 +305,18 @@ rows_more p k m r rows low e is h =
     ap (λ (xs : List (List ℕ)). xs ++ replicate {A = ℕ} m 0 ∷ []) h
     ∙ (ap (λ (x : List ℕ). map f (range_with_len 1 k) ++ x ∷ []) row ∙ sym (map-range_with_len_more f 1 k (suc k) (omega arith)))
 
+-- no rule costs anything in no step
+zeros_spent : (a m : ℕ) → replicate {A = ℕ} m 0 ≡ map (λ (t : ℕ). capped 0) (range_with_len a m)
+zeros_spent a m = zeros_listed a m
+
 -- zeros for every rule and place are the tally along no step
-pub start_tally : (p : Program) (start : List ℤ) (n k : ℕ) (counts : List ℕ) (rows : List (List ℕ))
-    → n ≡ length p.rules → counts ≡ replicate {A = ℕ} n 0 → k ≡ length p.rules
-    → rows ≡ map (greatest_sizes p [] []) (range_with_len 1 k)
-    → record { steps = 0; counts = counts; greatest = rows } ≡ tally_along p start []
-start_tally p start n k counts rows all zeros whole h =
-    same_sums (record { steps = 0; counts = counts; greatest = rows }) (tally_along p start []) refl
+pub start_tally : (p : Program) (start : List ℤ) (n m k : ℕ) (counts costs : List ℕ) (rows : List (List ℕ))
+    → n ≡ length p.rules → counts ≡ replicate {A = ℕ} n 0 → m ≡ length p.rules → costs ≡ replicate {A = ℕ} m 0
+    → k ≡ length p.rules → rows ≡ map (greatest_sizes p [] []) (range_with_len 1 k)
+    → record { steps = 0; counts = counts; greatest = rows; costs = costs; spent = 0 } ≡ tally_along p start []
+start_tally p start n m k counts costs rows all zeros all_costs free whole h =
+    same_sums (record { steps = 0; counts = counts; greatest = rows; costs = costs; spent = 0 }) (tally_along p start []) refl
     (zeros ∙ (ap (λ (m : ℕ). replicate {A = ℕ} m 0) all ∙ zeros_counted 1 (length p.rules) (omega arith)))
     (h ∙ ap (λ (m : ℕ). map (greatest_sizes p [] []) (range_with_len 1 m)) whole)
+    (free ∙ (ap (λ (m : ℕ). replicate {A = ℕ} m 0) all_costs ∙ zeros_spent 1 (length p.rules)))
+    refl

@@ -13,7 +13,7 @@ use Rattle.text_grammar.specs.ByteTexts.{HasNumbers, IsBounded}
 use Rattle.text_grammar.specs.ByteParts.{ValueOf, parts_of, OwnAreMade}
 use Rattle.text_grammar.proofs.ByteLaws.{bytes_lawful}
 use Rattle.text_grammar.proofs.ByteDerivations.{IsDerived, by, each_natural, each_line}
-use Rattle.text_grammar.proofs.Numerals.{none_when, when_none}
+use Rattle.text_grammar.proofs.Numerals.{none_when, some_none, when_none}
 use Rattle.run_replay.specs.declared.kind.RunKind.{RunKind}
 use Rattle.run_replay.specs.declared.kind.RunKind.TheVariants.{Syntax, NumberTooLarge, BadReference, ArityDiffers}
 use Rattle.run_replay.specs.declared.kind.RunKind.TheVariants.{Limit}
@@ -50,8 +50,8 @@ differ Limit Limit h = refl
 differ a b h = absurd (omega (arith, h))
 
 module _ (p : Program) where
-  -- natural numbers that aren't refused are below 2^64, lesser ones from 1 on aren't refused either, and nothing stands
-  -- against `-` and a blank
+  -- natural numbers that aren't refused are below 2^64, and lesser ones from 1 on aren't refused either; signed numbers
+  -- all are
   pub bounded : IsBounded (run_bytes p)
   bounded = record {
     small = λ s n e.
@@ -60,8 +60,8 @@ module _ (p : Program) where
         let r = rule_passed p n (none_when (is_no_rule p n) BadReference e) in
         when_none (is_no_rule p m) BadReference (rule_taken p m some (let k = r.1 in omega (arith, l, k))
         (let k = r.2 in omega (arith, l, k)));
-    minus = λ s. refl;
-    blank = λ s. refl;
+    small_signed = λ s negative n e. absurd (some_none Syntax e);
+    below_signed = λ s negative m n some l e. absurd (some_none Syntax e);
   }
 
   -- the grammar can be read, and has the rules of numbers
@@ -77,6 +77,7 @@ module _ (p : Program) where
     digits = refl;
     line = refl;
     values = refl;
+    signed = refl;
   }
 
   pub runs_lawful : IsLawful (runs_of p)
@@ -88,8 +89,8 @@ module _ (p : Program) where
     where
       go : (n : ℕ) → AllMake (fold_of (run_bytes p)) (numbers_of (run_bytes p)) (grammar_of (run_bytes p))
           (only LETTERS) (ValueOf RunValue run_parts) (parts_of RunValue run_parts)
-          (suc (suc (suc (suc (suc (suc (suc (suc n))))))))
-          (alternatives (run_bytes p).rules (suc (suc (suc (suc (suc (suc (suc (suc n)))))))))
+          (suc (suc (suc (suc (suc (suc (suc (suc (suc n)))))))))
+          (alternatives (run_bytes p).rules (suc (suc (suc (suc (suc (suc (suc (suc (suc n))))))))))
       go zero = ((λ (n, (vs, (ss, u))). (record { rule = n; free = vs } ∷ ss, refl)), ((λ u. ([], refl)), tt))
       go (suc n) = tt
 
@@ -97,10 +98,10 @@ module _ (p : Program) where
   abbrev Derived : (n : ℕ) → ValueOf RunValue run_parts n → Type 0
   Derived n v = IsDerived (run_bytes p) bounded numbers readable RunValue run_parts n v
 
-  steps_derived : (ss : List Step) → AreStepsOf p ss → Derived 8 ss
-  steps_derived [] h = by (run_bytes p) bounded numbers readable RunValue run_parts 8 _ (inr (inl refl)) tt tt
+  steps_derived : (ss : List Step) → AreStepsOf p ss → Derived 9 ss
+  steps_derived [] h = by (run_bytes p) bounded numbers readable RunValue run_parts 9 _ (inr (inl refl)) tt tt
   steps_derived (s ∷ ss) h =
-      by (run_bytes p) bounded numbers readable RunValue run_parts 8 _ (inl refl) (s.rule, (s.free, (ss, tt))) (
+      by (run_bytes p) bounded numbers readable RunValue run_parts 9 _ (inl refl) (s.rule, (s.free, (ss, tt))) (
         each_natural (run_bytes p) bounded numbers readable RunValue run_parts s.rule
             (let l = h.0.held in omega (arith, l)),
         (

@@ -8,9 +8,9 @@ use Rattle.its_model.specs.model.Runs.{Step}
 use Rattle.text_grammar.specs.text_core.Reading.{Stands, answer}
 use Rattle.text_grammar.specs.Texts.{reader}
 use Rattle.text_grammar.specs.Parts.{Part, Puts, come, Stand}
-use Rattle.text_grammar.specs.declared.numeral.Within.TheVariants.{Words}
+use Rattle.text_grammar.specs.declared.numeral.NumberContext.TheVariants.{Words}
 use Rattle.text_grammar.specs.ByteTexts.{Spelling, Numbered, Line, fresh, fold_of, numbers_of, tokens}
-use Rattle.text_grammar.proofs.Numerals.{none_when, when_none, not_differs, differs_not, room, has_room}
+use Rattle.text_grammar.proofs.Numerals.{none_when, when_none, not_differs, differs_not, room, has_room, bytes_stand}
 use Rattle.text_grammar.proofs.ByteDerivations.{word_stands, stand_word, answered, taken}
 use Rattle.run_replay.specs.declared.kind.RunKind.TheVariants.{BadReference, ArityDiffers, Limit}
 use Rattle.run_replay.specs.Runs.{Run, step_limit}
@@ -65,7 +65,7 @@ module _ (p : Program) where
       (differs_not (wanted p s.rule) (length s.free) free) in
       let others = subst (λ (t : State). StandsFrom (at t) (steps_parts ss)) (sym (stepped r s named.0 h.0.held))
       (steps_stand ss (with_step r s) s.rule h.1 (omega (arith, count, few))) in
-      (first, (refl, (refl, (refl, (refl, (number, ((h.0.small, line), others)))))))
+      (first, (refl, (refl, (refl, (refl, (number, ((h.0.small, bytes_stand (run_bytes p) (record { run = r; rule = s.rule }) s.free refl refl, line), others)))))))
 
   stand_steps : (ss : List Step) (r : Run) (rule : ℕ) → StandsFrom (from r rule) (steps_parts ss)
       → AreStepsOf p ss × (length r.steps ≤ step_limit → length r.steps + length ss ≤ step_limit)
@@ -77,7 +77,7 @@ module _ (p : Program) where
       let line = h.1.1.1.1.1.1 in
       let free =
       not_differs (wanted p s.rule) (length s.free)
-      (none_when (not (length s.free == wanted p s.rule)) ArityDiffers line.0.1) in
+      (none_when (not (length s.free == wanted p s.rule)) ArityDiffers line.0.2) in
       let w =
       stand_steps ss (with_step r s) s.rule
       (subst (λ (t : State). StandsFrom (at t) (steps_parts ss)) (stepped r s named.0 named.2) line.1) in
@@ -117,6 +117,7 @@ module _ (p : Program) where
       (behind_start r) refl (
         (
           h.values,
+          bytes_stand (run_bytes p) (record { run = record { start = []; steps = [] }; rule = 0 }) r.start refl refl,
           when_none (not (length r.start == wanted p 0)) ArityDiffers
               (differs_not (wanted p 0) (length r.start) h.start),
         ),
@@ -133,7 +134,7 @@ module _ (p : Program) where
       record {
         start =
             not_differs (wanted p 0) (length r.start)
-            (none_when (not (length r.start == wanted p 0)) ArityDiffers line.0.1);
+            (none_when (not (length r.start == wanted p 0)) ArityDiffers line.0.2);
         values = line.0.0;
         steps = w.0;
         count = (let l = w.1 (omega arith) in omega (arith, l));

@@ -1,25 +1,39 @@
 -- What was worked out by hand of replays.
 use Rattle.std.proofs.Common.{◌≡◌, ◌⊎◌, inl, inr, ℕ, suc, ◌≤◌, List, [], ◌∷◌, ◌++◌, length, map, ℤ, pos, negsuc, Some, None, refl, ap, arith}
-use Rattle.its_model.specs.model.Terms.{value}
+use Rattle.its_model.specs.model.Terms.{Term, value}
 use Rattle.its_model.specs.model.Programs.{Program, Rule, rule_at}
 use Rattle.its_model.specs.model.Runs.{Config, Step, count}
 use Rattle.its_model.specs.model.Worked.{by_rule, two_values, four_steps}
 use Rattle.its_model.specs.model.WorkedRuns.{countdown, both, entering, looping}
-use Rattle.its_model.specs.Steps.{StepFault, OtherRule, AtomFails, PastRange, step_fault, StepsHaveNoFault}
-use Rattle.its_model.specs.WorkedSteps.{maximum, minimum}
-use Rattle.run_replay.specs.Replays.{RunsInRange, BadStep, IsFirstBadStep, IsGreatest, IsSizeAfter}
-use Rattle.run_replay.specs.WorkedReplays.{five_steps, with_zero, counting_up, comparing, IsFirst, TalliesAreTold}
-use Rattle.run_replay.specs.WorkedReplays.{GreatestAreTold, BadStepsAreTold, ReplaysAreTold}
+use Rattle.its_model.specs.Steps.{StepFault, OtherRule, AtomFails, PastRange}
+use Rattle.its_model.specs.WorkedSteps.{maximum, minimum, A, one_more}
+use Rattle.run_replay.specs.Replays.{replay_fault, RunsInRange, BadStep, IsFirstBadStep, IsGreatest, IsSizeAfter}
+use Rattle.run_replay.specs.WorkedReplays.{five_steps, with_zero, counting_up, comparing, comparing_at_cost, IsFirst, TalliesAreWorkedOut}
+use Rattle.run_replay.specs.WorkedReplays.{swapping_at_cost, GreatestAreWorkedOut, CostsAreTallied, BadStepsAreWorkedOut}
+use Rattle.run_replay.specs.WorkedReplays.{ReplaysAreWorkedOut}
+use Rattle.run_replay.proofs.ReplayFaults.{ReplayStepsHaveNoFault}
 use Rattle.run_replay.proofs.ReplayRuns.{next_runs, none_bad, one_bad}
 use Rattle.run_replay.proofs.ReplayLaws.{replays_decided}
 
 -- the tallies
-tallies_told : TalliesAreTold
-tallies_told = record { four = refl; one = refl; none = refl; below_zero = refl; costs = refl }
+tallies_worked : TalliesAreWorkedOut
+tallies_worked = record { four = refl; one = refl; none = refl; below_zero = refl }
+
+-- the costs
+costs_tallied : CostsAreTallied
+costs_tallied = record {
+  paying = refl;
+  before_the_step = refl;
+  both_steps = refl;
+  negative = refl;
+  at_most = refl;
+  at_the_cap = refl;
+  beyond = refl;
+}
 
 -- a run in range with one step more, against which nothing stands
-more : StepsHaveNoFault → (p : Program) (start : List ℤ) (earlier : List Step) (c : Config) (s : Step) (r : Rule)
-    → RunsInRange p start earlier c → rule_at p s.rule ≡ Some r → length c.values ≡ r.left → step_fault p c s ≡ None
+more : ReplayStepsHaveNoFault → (p : Program) (start : List ℤ) (earlier : List Step) (c : Config) (s : Step) (r : Rule)
+    → RunsInRange p start earlier c → rule_at p s.rule ≡ Some r → length c.values ≡ r.left → replay_fault p c s ≡ None
     → RunsInRange p start (s ∷ earlier)
     (record { at = r.target; values = map (λ u. value u (c.values ++ s.free)) r.updates })
 more law p start earlier c s r h e l none =
@@ -28,7 +42,7 @@ more law p start earlier c s r h e l none =
 
 -- a step behind a run in range that has a fault is the first bad one, whatever comes behind it
 bad_behind : (p : Program) (start : List ℤ) (later : List Step) (s : Step) (earlier : List Step) (c : Config)
-    (f : StepFault) → RunsInRange p start earlier c → step_fault p c s ≡ Some f
+    (f : StepFault) → RunsInRange p start earlier c → replay_fault p c s ≡ Some f
     → IsFirstBadStep p start (later ++ s ∷ earlier) (record { number = suc (length earlier); fault = f })
 bad_behind p start later s earlier c f h e = record {
   later = later;
@@ -45,47 +59,47 @@ bad_behind p start later s earlier c f h e = record {
 begun : (a b : ℤ) → RunsInRange countdown (both a b) [] (two_values 0 a b)
 begun a b = record { run = record { places = refl; at = refl; values = refl }; fit = tt }
 
-entered : StepsHaveNoFault → (a b : ℤ) → step_fault countdown (two_values 0 a b) (by_rule 1) ≡ None
+entered : ReplayStepsHaveNoFault → (a b : ℤ) → replay_fault countdown (two_values 0 a b) (by_rule 1) ≡ None
     → RunsInRange countdown (both a b) (by_rule 1 ∷ []) (two_values 1 a b)
 entered law a b none =
     more law countdown (both a b) [] (two_values 0 a b) (by_rule 1) entering (begun a b) refl refl none
 
-once : StepsHaveNoFault
+once : ReplayStepsHaveNoFault
     → RunsInRange countdown (both (pos 3) (pos 7)) (by_rule 2 ∷ by_rule 1 ∷ []) (two_values 1 (pos 2) (negsuc 2))
 once law =
     more law countdown (both (pos 3) (pos 7)) (by_rule 1 ∷ []) (two_values 1 (pos 3) (pos 7)) (by_rule 2) looping
     (entered law (pos 3) (pos 7) refl) refl refl refl
 
-twice : StepsHaveNoFault → RunsInRange countdown (both (pos 3) (pos 7)) (by_rule 2 ∷ by_rule 2 ∷ by_rule 1 ∷ [])
+twice : ReplayStepsHaveNoFault → RunsInRange countdown (both (pos 3) (pos 7)) (by_rule 2 ∷ by_rule 2 ∷ by_rule 1 ∷ [])
     (two_values 1 (pos 1) (negsuc 1))
 twice law =
     more law countdown (both (pos 3) (pos 7)) (by_rule 2 ∷ by_rule 1 ∷ []) (two_values 1 (pos 2) (negsuc 2)) (by_rule 2)
     looping (once law) refl refl refl
 
-thrice : StepsHaveNoFault → RunsInRange countdown (both (pos 3) (pos 7)) four_steps (two_values 1 (pos 0) (negsuc 0))
+thrice : ReplayStepsHaveNoFault → RunsInRange countdown (both (pos 3) (pos 7)) four_steps (two_values 1 (pos 0) (negsuc 0))
 thrice law =
     more law countdown (both (pos 3) (pos 7)) (by_rule 2 ∷ by_rule 2 ∷ by_rule 1 ∷ []) (two_values 1 (pos 1) (negsuc 1))
     (by_rule 2) looping (twice law) refl refl refl
 
 -- the fifth step is the first bad one
-fifth_bad : StepsHaveNoFault → IsFirst countdown (pos 3) (pos 7) five_steps 5 (AtomFails 1)
+fifth_bad : ReplayStepsHaveNoFault → IsFirst countdown (pos 3) (pos 7) five_steps 5 (AtomFails 1)
 fifth_bad law =
     bad_behind countdown (both (pos 3) (pos 7)) [] (by_rule 2) four_steps (two_values 1 (pos 0) (negsuc 0)) (AtomFails 1)
     (thrice law) refl
 
-first_counts : StepsHaveNoFault → IsFirst countdown (pos 3) (pos 7) (by_rule 9 ∷ five_steps) 5 (AtomFails 1)
+first_counts : ReplayStepsHaveNoFault → IsFirst countdown (pos 3) (pos 7) (by_rule 9 ∷ five_steps) 5 (AtomFails 1)
 first_counts law =
     bad_behind countdown (both (pos 3) (pos 7)) (by_rule 9 ∷ []) (by_rule 2) four_steps (two_values 1 (pos 0) (negsuc 0))
     (AtomFails 1) (thrice law) refl
 
 -- another number isn't that of the first bad step, and another fault isn't its fault
-other_number : StepsHaveNoFault → (p : Program) (start : List ℤ) (steps : List Step) (m n : ℕ) (f g : StepFault)
+other_number : ReplayStepsHaveNoFault → (p : Program) (start : List ℤ) (steps : List Step) (m n : ℕ) (f g : StepFault)
     → (m ≡ n → ⊥) → IsFirstBadStep p start steps (record { number = m; fault = f })
     → IsFirstBadStep p start steps (record { number = n; fault = g }) → ⊥
 other_number law p start steps m n f g ne h k =
     ne (ap (λ (b : BadStep). b.number) (one_bad law p start steps (record { number = m; fault = f }) (record { number = n; fault = g }) h k))
 
-other_fault : StepsHaveNoFault → (p : Program) (start : List ℤ) (steps : List Step) (n : ℕ) (f g : StepFault)
+other_fault : ReplayStepsHaveNoFault → (p : Program) (start : List ℤ) (steps : List Step) (n : ℕ) (f g : StepFault)
     → (f ≡ g → ⊥) → IsFirstBadStep p start steps (record { number = n; fault = f })
     → IsFirstBadStep p start steps (record { number = n; fault = g }) → ⊥
 other_fault law p start steps n f g ne h k =
@@ -99,7 +113,7 @@ other_atom m n ne e = let f : m ≡ n = cc in ne f
 standing : (a b : ℤ) → RunsInRange counting_up (both a b) [] (two_values 0 a b)
 standing a b = record { run = record { places = refl; at = refl; values = refl }; fit = tt }
 
-at_maximum : StepsHaveNoFault
+at_maximum : ReplayStepsHaveNoFault
     → RunsInRange counting_up (both (pos 170141183460469231731687303715884105726) (pos 0)) (with_zero ∷ [])
     (two_values 0 maximum (pos 0))
 at_maximum law =
@@ -107,9 +121,25 @@ at_maximum law =
     (two_values 0 (pos 170141183460469231731687303715884105726) (pos 0)) with_zero _
     (standing (pos 170141183460469231731687303715884105726) (pos 0)) refl refl refl
 
+-- the beginning of the program that swaps at a cost, one step of it, and its second step, whose cost is the first bad one
+at_start : (c : Term) (a b : ℤ) → RunsInRange (swapping_at_cost c) (both a b) [] (two_values 0 a b)
+at_start c a b = record { run = record { places = refl; at = refl; values = refl }; fit = tt }
+
+swapped : ReplayStepsHaveNoFault → (c : Term) (a b : ℤ)
+    → replay_fault (swapping_at_cost c) (two_values 0 a b) with_zero ≡ None
+    → RunsInRange (swapping_at_cost c) (both a b) (with_zero ∷ []) (two_values 0 b a)
+swapped law c a b none =
+    more law (swapping_at_cost c) (both a b) [] (two_values 0 a b) with_zero _ (at_start c a b) refl refl none
+
+second_bad : ReplayStepsHaveNoFault
+    → IsFirst (swapping_at_cost one_more) (pos 0) maximum (with_zero ∷ with_zero ∷ []) 2 PastRange
+second_bad law =
+    bad_behind (swapping_at_cost one_more) (both (pos 0) maximum) [] with_zero (with_zero ∷ []) (two_values 0 maximum (pos 0))
+    PastRange (swapped law one_more (pos 0) maximum refl) refl
+
 -- the bad steps
-bad_steps_told : StepsHaveNoFault → BadStepsAreTold
-bad_steps_told law = record {
+bad_steps_worked : ReplayStepsHaveNoFault → BadStepsAreWorkedOut
+bad_steps_worked law = record {
   no_step = (two_values 0 (pos 3) (pos 7), begun (pos 3) (pos 7));
   four = (two_values 1 (pos 0) (negsuc 0), thrice law);
   five = λ h. none_bad law countdown (both (pos 3) (pos 7)) five_steps _ h (fifth_bad law);
@@ -143,6 +173,15 @@ bad_steps_told law = record {
     more law comparing (both minimum minimum) [] (two_values 0 minimum minimum)
         with_zero _ (record { run = record { places = refl; at = refl; values = refl }; fit = tt }) refl refl refl,
   );
+  greatest_cost = (two_values 0 (pos 0) maximum, swapped law A maximum (pos 0) refl);
+  least_cost = (two_values 0 (pos 0) minimum, swapped law A minimum (pos 0) refl);
+  past_cost = bad_behind (swapping_at_cost one_more) (both maximum (pos 0)) [] with_zero [] (two_values 0 maximum (pos 0))
+      PastRange (at_start one_more maximum (pos 0)) refl;
+  second_cost = second_bad law;
+  not_first_cost = other_number law (swapping_at_cost one_more) (both (pos 0) maximum) (with_zero ∷ with_zero ∷ []) 2 1 _ _
+      (λ e. omega (arith, e)) (second_bad law);
+  atom_before_cost = bad_behind comparing_at_cost (both (pos 0) maximum) [] with_zero [] (two_values 0 (pos 0) maximum) (AtomFails 1)
+      (record { run = record { places = refl; at = refl; values = refl }; fit = tt }) refl;
 }
 
 -- one number is the greatest
@@ -155,8 +194,8 @@ one_greatest p start steps t i m n h k = go h.reached
     go (inr (e, z)) = omega (arith, z)
 
 -- the greatest values
-greatest_told : StepsHaveNoFault → GreatestAreTold
-greatest_told law = record {
+greatest_worked : ReplayStepsHaveNoFault → GreatestAreWorkedOut
+greatest_worked law = record {
   between = refl;
   first_after_2 = two;
   not_of_rule_1 = λ h.
@@ -178,5 +217,5 @@ greatest_told law = record {
         (two_values 1 (pos 3) (pos 7), entered law (pos 3) (pos 7) refl)
 
 -- all of it
-pub replays_told : StepsHaveNoFault → ReplaysAreTold
-replays_told law = record { tallies = tallies_told; greatest = greatest_told law; steps = bad_steps_told law }
+pub replays_worked : ReplayStepsHaveNoFault → ReplaysAreWorkedOut
+replays_worked law = record { tallies = tallies_worked; greatest = greatest_worked law; costs = costs_tallied; steps = bad_steps_worked law }

@@ -7,41 +7,41 @@ use Rattle.its_model.specs.model.Programs.{Program}
 use Rattle.text_grammar.specs.text_core.Choices.{when}
 use Rattle.run_replay.specs.declared.kind.RunKind.TheVariants.{Limit}
 use Rattle.run_replay.specs.Texts.{State, is_no_rule, run_bytes, is_full}
-use Rattle.run_replay.specs.Worked.{RunsAreTold, small_program}
+use Rattle.run_replay.specs.Worked.{RunsAreWorkedOut, small_program}
 
 -- behind 1,000,000 steps there is no room for one more
-limit_told : (s : State) → 1000000 ≤ length s.run.steps → (run_bytes small_program).against_byte s 115 ≡ Some Limit
-limit_told s l = ap (λ (b : Bool). when b Limit) (le-leb 1000000 (length s.run.steps) l)
+limit_at_step : (s : State) → 1000000 ≤ length s.run.steps → (run_bytes small_program).against_byte s 115 ≡ Some Limit
+limit_at_step s l = ap (λ (b : Bool). when b Limit) (le-leb 1000000 (length s.run.steps) l)
 
 -- behind fewer there is
-within_told : (s : State) → length s.run.steps ≤ 999999 → (run_bytes small_program).against_byte s 115 ≡ None
-within_told s l = ap (λ (b : Bool). when b Limit) (lt-leb 1000000 (length s.run.steps) (omega (arith, l)))
+no_limit_before : (s : State) → length s.run.steps ≤ 999999 → (run_bytes small_program).against_byte s 115 ≡ None
+no_limit_before s l = ap (λ (b : Bool). when b Limit) (lt-leb 1000000 (length s.run.steps) (omega (arith, l)))
 
 -- and no other byte begins a line of a step
-other_told : (s : State) (b : ℕ) → b ≢ 115 → (run_bytes small_program).against_byte s b ≡ None
-other_told s b d = ap (λ (c : Bool). if c then when (is_full (length s.run.steps)) Limit else None) (ne_eqb b 115 d)
+no_other_limit : (s : State) (b : ℕ) → b ≢ 115 → (run_bytes small_program).against_byte s b ≡ None
+no_other_limit s b d = ap (λ (c : Bool). if c then when (is_full (length s.run.steps)) Limit else None) (ne_eqb b 115 d)
 
 -- rule 2^32-1 can be named, and rule 2^32 can't
-held_told : (p : Program) → length p.rules ≡ 2 ^ 32 → is_no_rule p (2 ^ 32 - 1) ≡ false
-held_told p e = ap (λ (n : ℕ). (2 ^ 32 - 1 == 0) || nat_lt (min n (2 ^ 32 - 1)) (2 ^ 32 - 1)) e
+rule_in_range : (p : Program) → length p.rules ≡ 2 ^ 32 → is_no_rule p (2 ^ 32 - 1) ≡ false
+rule_in_range p e = ap (λ (n : ℕ). (2 ^ 32 - 1 == 0) || nat_lt (min n (2 ^ 32 - 1)) (2 ^ 32 - 1)) e
 
-not_held_told : (p : Program) → length p.rules ≡ 2 ^ 32 → is_no_rule p (2 ^ 32) ≡ true
-not_held_told p e = ap (λ (n : ℕ). (2 ^ 32 == 0) || nat_lt (min n (2 ^ 32 - 1)) (2 ^ 32)) e
+rule_out_of_range : (p : Program) → length p.rules ≡ 2 ^ 32 → is_no_rule p (2 ^ 32) ≡ true
+rule_out_of_range p e = ap (λ (n : ℕ). (2 ^ 32 == 0) || nat_lt (min n (2 ^ 32 - 1)) (2 ^ 32)) e
 
-pub runs_told : RunsAreTold
+pub runs_worked : RunsAreWorkedOut
 unfolding digits
-runs_told = record {
-  told = refl;
+runs_worked = record {
+  worked = refl;
   empty = refl;
   start_too_few = refl;
   kinds = refl;
-  held = held_told;
-  not_held = not_held_told;
+  held = rule_in_range;
+  not_held = rule_out_of_range;
   full = refl;
   room = refl;
-  limit = limit_told;
-  within = within_told;
-  other_byte = other_told;
+  limit = limit_at_step;
+  within = no_limit_before;
+  other_byte = no_other_limit;
   no_places = refl;
   blank_alone = refl;
   surplus_start = refl;

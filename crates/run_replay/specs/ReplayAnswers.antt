@@ -2,11 +2,13 @@
 use Rattle.std.specs.Prelude.{◌≡◌, ◌+◌, ◌<◌, ◌≤◌, ℕ, max, ℤ, pos, nat_abs, List, [], length, map, reverse, take, Result}
 use Rattle.std.specs.Prelude.{slice_index, slice_index_or, slice_set, Option, Some, None, MatchResult, IfSome, ⊤}
 use Rattle.std.specs.Prelude.{vec_capacity}
-use Rattle.its_model.specs.model.Programs.{Program}
+use Rattle.its_model.specs.model.Programs.{Program, arity_of}
 use Rattle.its_model.specs.model.Runs.{Step}
 use Rattle.its_model.specs.Steps.{OtherRule, AtomFails, PastRange, maximum_arity}
 use Rattle.its_model.specs.Views.{config_of}
+use Rattle.bound_expr.specs.Capped.{capped}
 use Rattle.run_replay.specs.declared.replaying.Standing.{Standing}
+use Rattle.run_replay.specs.declared.walk.Walk.{Walk}
 use Rattle.run_replay.specs.declared.tally.Tally.{Tally}
 use Rattle.run_replay.specs.declared.replaying_error.ReplayError.{ReplayError}
 use Rattle.run_replay.specs.declared.replaying_error.ReplayError.TheVariants.{WrongRule, GuardFails, PassedRange}
@@ -20,7 +22,13 @@ sizes_in t = map (λ row. row.items) t.greatest.items
 
 -- a tally as plain data
 abbrev pub sums_of : Tally → Sums
-sums_of t = record { steps = t.steps; counts = t.counts.items; greatest = sizes_in t }
+sums_of t = record {
+  steps = t.steps;
+  counts = t.counts.items;
+  greatest = sizes_in t;
+  costs = t.costs.items;
+  spent = t.spent;
+}
 
 -- the bad step that an error names; want of memory names none
 abbrev pub bad_step_of : ReplayError → Option BadStep
@@ -46,9 +54,10 @@ Refuses p r e = IfSome (bad_step_of e) (λ bad. IsFirstBadStep p r.start (last_f
 abbrev pub Replays : Program → Run → Result Tally ReplayError → Type 0
 Replays p r result = MatchResult result (λ t. IsReplay p r (sums_of t)) (Refuses p r)
 
--- one tally is another one with a step more, by the rule at a position, that leads to these values: the step is
--- counted, and each number of the rule's row raised to the absolute value at its place
-pub record Notes (k : ℕ) (values : List ℤ) (old new : Sums) : Type 0 where
+-- one tally is another one with a step more, by the rule at a position, that leads to these values at this cost: the
+-- step is counted, each number of the rule's row raised to the absolute value at its place, and the cost added, up to
+-- 2^127, to what the rule has cost and to what all rules have
+pub record Notes (k : ℕ) (values : List ℤ) (cost : ℕ) (old new : Sums) : Type 0 where
   pub steps : new.steps ≡ old.steps + 1
   pub counts : new.counts ≡ slice_set old.counts k (slice_index old.counts k + 1)
   pub row : List ℕ
@@ -56,6 +65,8 @@ pub record Notes (k : ℕ) (values : List ℤ) (old new : Sums) : Type 0 where
   pub places : length row ≡ length values
   pub raised : (i : ℕ) → i < length values → slice_index row i
       ≡ max (slice_index (slice_index_or old.greatest k []) i) (nat_abs (slice_index_or values i (pos 0)))
+  pub costs : new.costs ≡ slice_set old.costs k (capped (slice_index old.costs k + cost))
+  pub spent : new.spent ≡ capped (old.spent + cost)
 
 -- a result is a tally, unless memory ran out
 abbrev pub Tallies : Result Tally ReplayError → Type 0
@@ -69,10 +80,16 @@ RefusesWith bad result = MatchResult result (λ _. ⊥) (λ e. IfSome (bad_step_
 abbrev pub first_steps : Run → ℕ → List Step
 first_steps r n = reverse (take n r.steps)
 
--- a replay stands behind the first n steps of a run: they are one in range that leads there, the tally is that along
--- them, and both configurations have room for the values of any symbol
+-- a walk can go on in a program: where it stands there is a value for each place of the symbol, and both configurations
+-- have room for the values of any symbol
+pub record CanWalk (p : Program) (w : Walk) : Type 0 where
+  pub places : length w.here.values.items ≡ arity_of p w.here.at
+  pub room : maximum_arity p.symbols ≤ vec_capacity w.here.values
+  pub next_room : maximum_arity p.symbols ≤ vec_capacity w.next.values
+
+-- a replay stands behind the first n steps of a run: they are one in range that leads there, where it can walk on, and
+-- the tally is that along them
 pub record StandsBehind (p : Program) (r : Run) (n : ℕ) (s : Standing) : Type 0 where
-  pub runs : RunsInRange p r.start (first_steps r n) (config_of s.here)
+  pub runs : RunsInRange p r.start (first_steps r n) (config_of s.walk.here)
+  pub walks : CanWalk p s.walk
   pub tally : sums_of s.tally ≡ tally_along p r.start (first_steps r n)
-  pub room : maximum_arity p.symbols ≤ vec_capacity s.here.values
-  pub next_room : maximum_arity p.symbols ≤ vec_capacity s.next.values

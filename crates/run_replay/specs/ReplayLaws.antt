@@ -1,4 +1,4 @@
--- What holds of all replays.
+-- Laws of all replays.
 use Rattle.std.specs.Prelude.{◌≡◌, ◌⊎◌, ◌<◌, ℕ, List, length, ℤ}
 use Rattle.its_model.specs.model.Programs.{Program, arity_of}
 use Rattle.its_model.specs.model.Runs.{Step}

@@ -1,15 +1,24 @@
--- Replaying a run: whether its steps are a run of the program within 128 bits, the first bad step, and the tally.
+-- Replaying a run: whether its steps are a run of the program within 128 bits, costs included, the first bad step, and
+-- the tally.
 use Rattle.std.specs.Prelude.{◌≡◌, ◌⊎◌, ◌≤◌, ℕ, suc, max, if◌then◌else◌, ◌==◌, List, [], ◌∷◌, ◌++◌, length, map, ℤ}
 use Rattle.std.specs.Prelude.{nat_abs, Option, Some, None, ⊤}
 use Rattle.std.specs.List.{range_with_len}
 use Rattle.its_model.specs.model.Programs.{Program, Rule, rule_at}
 use Rattle.its_model.specs.model.Runs.{Config, Step, IsRun, count, last_rule, place_value}
-use Rattle.its_model.specs.model.Costs.{values_after}
-use Rattle.its_model.specs.Steps.{StepFault, RuleFits, step_fault}
+use Rattle.its_model.specs.model.Spending.{values_after, spent, spent_all}
+use Rattle.its_model.specs.Costs.{CostFits, cost_fault}
+use Rattle.its_model.specs.Steps.{StepFault, RuleFits, first_of, step_fault}
+use Rattle.bound_expr.specs.Capped.{capped}
 
--- no value of a step's guard and updates passes 128 bits, at the values that the earlier steps lead to
+-- the first fault of a step in a replay: what keeps it from being a step within 128 bits, and behind that a value of
+-- its cost that passes 128 bits
+abbrev pub replay_fault : Program → Config → Step → Option StepFault
+replay_fault p c s = first_of (step_fault p c s) (cost_fault p c s)
+
+-- no value of a step's guard, updates and cost passes 128 bits, at the values that the earlier steps lead to
 pub record StepFits (p : Program) (start : List ℤ) (s : Step) (earlier : List Step) : Type 0 where
   pub each : (r : Rule) → rule_at p s.rule ≡ Some r → RuleFits r (values_after p start earlier ++ s.free)
+  pub cost : (r : Rule) → rule_at p s.rule ≡ Some r → CostFits (values_after p start earlier ++ s.free) r.cost
 
 -- no value of any step does; the last step stands first
 abbrev pub StepsFit : Program → List ℤ → List Step → Type 0
@@ -41,7 +50,7 @@ pub record IsFirstBadStep (p : Program) (start : List ℤ) (steps : List Step) (
   pub number : bad.number ≡ suc (length earlier)
   pub end : Config
   pub runs : RunsInRange p start earlier end
-  pub fault : step_fault p end step ≡ Some bad.fault
+  pub fault : replay_fault p end step ≡ Some bad.fault
 
 -- the absolute value at a place, numbered from 1, behind steps
 abbrev pub size_after : Program → List ℤ → ℕ → List Step → ℕ
@@ -70,11 +79,14 @@ place_numbers p t = range_with_len 1 (places_reached (rule_at p t))
 abbrev pub greatest_sizes : Program → List ℤ → List Step → ℕ → List ℕ
 greatest_sizes p start steps t = map (λ i. greatest_size p start t i steps) (place_numbers p t)
 
--- how many steps there are, how often each rule occurs, and the greatest absolute values after each rule
+-- how many steps there are, how often each rule occurs, the greatest absolute values after each rule, what the steps by
+-- each rule cost together, and what all steps cost together, each of these two up to 2^127
 pub record Sums : Type 0 where
   pub steps : ℕ
   pub counts : List ℕ
   pub greatest : List (List ℕ)
+  pub costs : List ℕ
+  pub spent : ℕ
 
 -- the tally along steps, the last one first
 abbrev pub tally_along : Program → List ℤ → List Step → Sums
@@ -82,6 +94,8 @@ tally_along p start steps = record {
   steps = length steps;
   counts = map (λ t. count t steps) (rule_numbers p);
   greatest = map (greatest_sizes p start steps) (rule_numbers p);
+  costs = map (λ t. capped (spent p t start steps)) (rule_numbers p);
+  spent = capped (spent_all p start steps);
 }
 
 -- a beginning of the steps, the last one first, that ends with the rule leads to this absolute value at the place

@@ -1,4 +1,4 @@
--- The one text of a run, and which runs of a program have one that is taken.
+-- The one text of a run, and which runs of a program have one that is accepted.
 use Rattle.std.specs.Prelude.{◌≡◌, ℕ, ◌^◌, ◌<◌, ◌≤◌, List, [], ◌∷◌, ◌++◌, codes, length, Some, ⊤}
 use Rattle.std.specs.Fmt.{decimal}
 use Rattle.its_model.specs.model.Programs.{Program, Rule, rule_at, arity_of}

@@ -56,7 +56,7 @@ with_line vs s =
     }
 
 -- run files as texts in bytes: against a number stands that no rule has it, against a line that it has another number
--- of values, and against an `s` that a step too many begins with it
+-- of values, and against an `s` that a step too many begins with it. Signed numbers stand in lines of values alone
 abbrev pub run_bytes : Program → ByteText State Run RunKind
 run_bytes p = record {
   letters = LETTERS;
@@ -64,9 +64,11 @@ run_bytes p = record {
   rounds = ROUNDS;
   begun = record { run = record { start = []; steps = [] }; rule = 0 };
   natural = λ n s. record s { rule = n };
+  signed = λ z s. s;
   line = with_line;
   done = λ m s. s;
   against_natural = λ s n. when (is_no_rule p n) BadReference;
+  against_signed = λ s z. Some Syntax;
   against_line = λ s n. when (not (n == wanted p s.rule)) ArityDiffers;
   against_byte = λ s b. if b == 115 then when (is_full (length s.run.steps)) Limit else None;
   tree = λ s. s.run;

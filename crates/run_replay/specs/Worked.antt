@@ -1,4 +1,4 @@
--- What reading small run texts comes to, worked out by hand on both sides.
+-- Worked values of reading small run texts.
 use Rattle.std.specs.Prelude.{◌≡◌, ◌≢◌, ◌≤◌, ◌-◌, ◌^◌, ℕ, pos, negsuc, Some, None, true, false, List, [], ◌∷◌}
 use Rattle.std.specs.Prelude.{◌++◌, codes, length, map}
 use Rattle.its_model.specs.model.Programs.{Program, Rule}
@@ -104,8 +104,8 @@ rows =
     ∷ []
 
 -- the texts of the rows come to what stands there
-pub record RunsAreTold : Type 0 where
-  pub told : map (λ r. answer_behind r.text) rows ≡ map (λ r. r.comes) rows
+pub record RunsAreWorkedOut : Type 0 where
+  pub worked : map (λ r. answer_behind r.text) rows ≡ map (λ r. r.comes) rows
   -- nothing at all ends too early at 0, and a start value is lacking at byte 18
   pub empty : answer_to [] ≡ refused Syntax 0
   pub start_too_few : answer_to (codes "koat-run 1\nstart 1\n") ≡ refused ArityDiffers 18

@@ -4,7 +4,8 @@ use class::{A, D, E, K, N, O, P, R, S, T, U};
 use text_grammar::Item::{self, AMade, AMark, APiece, End, Or};
 use text_grammar::{
     BLANK, DIGITS, LINE, LINE_BEGINS, LINE_FEED, LINE_READ, MINUS, MORE, NATURAL, NATURAL_BEGINS,
-    NATURAL_READ, NUMBER, ONE, POSITIVE, VALUE, VALUE_BEGINS, VALUE_READ, VALUES, ZERO,
+    NATURAL_READ, NUMBER, ONE, POSITIVE, SIGNED_BEGINS, SIGNED_READ, VALUE, VALUE_BEGINS,
+    VALUE_READ, VALUES, ZERO,
 };
 
 /// The letters of its words, of which each is a class behind those of digits, `-`, a blank and a line feed.
@@ -24,11 +25,12 @@ pub const CLASSES: u32 = 18;
 /// After how many rounds an entry of the table is what it stays.
 pub const ROUNDS: u32 = 9;
 
-const STEPS: u32 = 8;
+const STEPS: u32 = 9;
 
-/// The rules: text, those of numbers and of lines of values, steps.
+/// The rules: text, those of numbers, of lines of values and of signed numbers, of which none stands in a run file, and
+/// steps.
 #[rattlefmt::skip]
-pub const RUN_GRAMMAR: [Item; 76] = [
+pub const RUN_GRAMMAR: [Item; 85] = [
     // text
     APiece(K), APiece(O), APiece(A), APiece(T), APiece(MINUS), APiece(R), APiece(U), APiece(N), APiece(BLANK),
     APiece(ONE), APiece(LINE_FEED), APiece(S), APiece(T), APiece(A), APiece(R), APiece(T), AMade(LINE), AMade(STEPS),
@@ -43,6 +45,9 @@ pub const RUN_GRAMMAR: [Item; 76] = [
     // line, values
     AMark(LINE_BEGINS), AMade(VALUES), End,
     APiece(BLANK), AMade(VALUE), AMade(VALUES), Or, APiece(LINE_FEED), AMark(LINE_READ), End,
+    // signed
+    AMark(SIGNED_BEGINS), APiece(MINUS), AMade(POSITIVE), AMark(SIGNED_READ), Or,
+    AMark(SIGNED_BEGINS), AMade(NUMBER), AMark(SIGNED_READ), End,
     // steps
     APiece(S), APiece(T), APiece(E), APiece(P), APiece(BLANK), AMade(NATURAL), AMade(LINE), AMade(STEPS), Or,
     APiece(E), APiece(N), APiece(D), APiece(LINE_FEED), End,

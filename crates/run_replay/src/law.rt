@@ -1,11 +1,11 @@
 //! The laws of run texts.
 
 ghost use Rattle.run_replay.specs.Spelled.{OneRun};
-ghost use Rattle.run_replay.specs.Worked.{RunsAreTold};
+ghost use Rattle.run_replay.specs.Worked.{RunsAreWorkedOut};
 
 /// What reading small run texts comes to is what was worked out by hand. It has no code: its contract is the law.
 pub fn worked_runs_hold()
-    ensures { RunsAreTold }
+    ensures { RunsAreWorkedOut }
 {}
 
 /// A text is that of one run at most, whatever the program and the limits, where no number has more than 64 digits, as

@@ -1,7 +1,8 @@
-//! Run files: the start values and the steps of a run, as text in one spelling, and what a run comes to.
-//! Contract to the layers above: `read_run` answers exactly the run of which the bytes are the text, within the limits,
-//! or exactly the first refusal. `replay` answers exactly the tally along the run, where its steps are one of the
-//! program and no value passes 128 bits, or exactly the first bad step.
+//! Run files: the start values and the steps of a run as text, in one spelling; and replaying a run.
+//!
+//! Builds on `text_grammar` (the parser) and `its_model` (steps in 128 bits). Main guarantee: `read_run` gives exactly
+//! the run whose text the bytes are, within the limits, or exactly the first refusal. `replay` gives exactly the tally
+//! along the run if its steps are steps of the program and no value exceeds 128 bits, or exactly the first bad step.
 #![tactic(auto)]
 
 mod error;
@@ -16,6 +17,7 @@ mod replaying_error;
 mod replaying_law;
 mod tally;
 mod text;
+mod walk;
 
 pub use error::RunTextError;
 pub use file::RunFile;
@@ -26,3 +28,4 @@ pub use replaying::replay;
 pub use replaying_error::ReplayError;
 pub use replaying_law::{replays_are_decided, worked_replays_hold};
 pub use tally::Tally;
+pub use walk::Walk;

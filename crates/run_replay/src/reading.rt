@@ -1,4 +1,4 @@
-//! From a text to its run.
+//! Reads a run from its text.
 
 ghost use Rattle.std.specs.Prelude.{◌≡◌, length};
 ghost use Rattle.its_model.specs.Views.{program_of};
@@ -19,20 +19,20 @@ use its_model::Program;
 use std::alloc::Global;
 use text_grammar::read_bytes;
 
-/// Reads the run that a text stands for, as one of a program.
+/// Reads the run that a text represents, as a run of the given program.
 ///
 /// The first line is `koat-run 1`. The second one is `start` with a value for each place of the start symbol. Then come
 /// any number of lines `step`, each with the number of a rule and a value for each of its free variables, and a line
-/// `end`. One blank stands before each value, and each line ends with a line feed. Values are decimal, with `-` before
-/// them where they are below 0, and without leading zeros.
+/// `end`. One blank precedes each value, and each line ends with a line feed. Values are decimal, with `-` before
+/// negative ones, and without leading zeros.
 ///
 /// # Errors
 ///
-/// The refusal at the least position is the answer. `Syntax` stands at the first byte that can't follow, or at the
-/// text's length where it ends too early; `NumberTooLarge` at the first byte of a value over 2^63-1 in absolute value;
+/// The refusal at the least position is reported. `Syntax` is at the first byte that can't follow, or at the text's
+/// length if it ends too early; `NumberTooLarge` at the first byte of a value over 2^63-1 in absolute value;
 /// `BadReference` at the first byte of a number that no rule has; `ArityDiffers` at the line feed of a line with
-/// another number of values; `Limit` at the `s` with which a line begins behind 1,000,000 steps. `Memory` comes where
-/// memory ran out.
+/// another number of values; `Limit` at the `s` that begins a line behind 1,000,000 steps. `Memory` comes where memory
+/// ran out.
 pub fn read_run(alloc: Global, p: &Program, bytes: &[u8]) -> Result<RunFile, RunTextError>
     ensures answer { Answers (program_of p.now) bytes.now result }
     ensures complete { (r : Run) → IsTextWithin (program_of p.now) bytes.now r → GivesBack r result }

@@ -1,8 +1,7 @@
 //! From a run file to the tally along its run.
 
-ghost use Rattle.std.specs.Prelude.{◌≡◌, ◌+◌, ◌<◌, ◌≤◌, [], length, IfOk, MatchResult, vec_capacity};
+ghost use Rattle.std.specs.Prelude.{◌≡◌, ◌+◌, ◌<◌, length, IfOk, MatchResult};
 ghost use Rattle.its_model.specs.model.Programs.{arity_of};
-ghost use Rattle.its_model.specs.Steps.{maximum_arity};
 ghost use Rattle.its_model.specs.Valid.{IsValid};
 ghost use Rattle.its_model.specs.Views.{program_of};
 ghost use Rattle.run_replay.specs.Replays.{BadStep, IsRunInRange, IsFirstBadStep};
@@ -13,20 +12,20 @@ use crate::file::RunFile;
 use crate::replaying_error::{ReplayError, error_at};
 use crate::replaying_law::replays_are_decided;
 use crate::tally::Tally;
-use its_model::{Config, Program, step_checked, steps_have_no_fault};
+use crate::walk::Walk;
+use its_model::{Program, costs_have_no_fault, steps_have_no_fault};
 use std::alloc::{AllocError, Global};
-use std::mem::swap;
 
-/// Takes the steps of a run, one after the other, from its start values, and tallies them. The run has a start value
-/// for each place of the start symbol. What the steps cost isn't looked at.
+/// Takes the steps of a run, one after the other, from its start values, and tallies them and what they cost. The run
+/// has a start value for each place of the start symbol.
 ///
 /// # Errors
 ///
 /// The first bad step is the answer, by its number from 1. `WrongRule` where there is no such rule, it leaves another
 /// symbol than the one at which the run stands, or it has another number of free variables; `GuardFails` with the first
-/// atom, from 1, that doesn't hold; `PassedRange` where a value of its guard or of its updates passes 128 bits. Of one
-/// step the atoms are looked at in order, the left side before the right one, and then the updates. `Memory` comes
-/// where memory ran out.
+/// atom, from 1, that doesn't hold; `PassedRange` where a value of its guard, its updates or its cost passes 128 bits.
+/// Of one step the atoms are looked at in order, the left side before the right one, then the updates, and then the
+/// cost. `Memory` comes where memory ran out.
 pub fn replay(alloc: Global, p: &Program, run: &RunFile) -> Result<Tally, ReplayError>
     requires valid { IsValid (program_of p.now) }
     requires start { length run.now.start.items ≡ arity_of (program_of p.now) (program_of p.now).start }
@@ -47,11 +46,10 @@ pub fn replay(alloc: Global, p: &Program, run: &RunFile) -> Result<Tally, Replay
     Ok(standing.tally)
 }
 
-/// Where a replay stands: the configuration, another one into which the next step is taken, and the tally so far.
+/// Where a replay stands: how far it has walked, and the tally so far.
 #[derive(Drop)]
 pub struct Standing {
-    pub here: Config,
-    pub next: Config,
+    pub walk: Walk,
     pub tally: Tally,
 }
 
@@ -62,18 +60,8 @@ impl Standing {
         requires start { length run.now.start.items ≡ arity_of (program_of p.now) (program_of p.now).start }
         ensures { IfOk result (λ s. StandsBehind (program_of p.now) (run_of run.now) 0 s) }
     {
-        let places = most_places(p);
-        let mut values = Vec::with_capacity(alloc, places)?;
-        values.extend_from_slice(&run.start)?;
         Ok(Standing {
-            here: Config {
-                at: p.start,
-                values,
-            },
-            next: Config {
-                at: p.start,
-                values: Vec::with_capacity(alloc, places)?,
-            },
+            walk: Walk::new(alloc, p, &run.start)?,
             tally: Tally::new(alloc, p)?,
         })
     }
@@ -87,25 +75,14 @@ impl Standing {
             (Refuses (program_of p.now) (run_of run.now)) }
     {
         steps_have_no_fault();
+        costs_have_no_fault();
         let step = &run.steps[i];
-        match step_checked(p, &self.here, step, &mut self.next) {
-            Ok(()) => {
-                swap(&mut self.here, &mut self.next);
-                self.tally.note(step.rule, &self.here.values);
+        match self.walk.step_on(p, step) {
+            Ok(cost) => {
+                self.tally.note(step.rule, &self.walk.here.values, cost);
                 Ok(())
             }
             Err(error) => Err(error_at(i as u64 + 1, error)),
         }
     }
-}
-
-// The most places that a symbol has.
-fn most_places(p: &Program) -> usize
-    ensures { result ≡ maximum_arity (program_of p.now).symbols }
-{
-    let mut most = 0;
-    for symbol in &p.symbols {
-        most = most.max(symbol.arity as usize);
-    }
-    most
 }

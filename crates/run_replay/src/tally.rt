@@ -6,6 +6,7 @@ ghost use Rattle.its_model.specs.Views.{program_of};
 ghost use Rattle.run_replay.specs.Replays.{tally_along};
 ghost use Rattle.run_replay.specs.ReplayAnswers.{sizes_in, sums_of, Notes};
 
+use bound_expr::capped_add;
 use its_model::Program;
 use std::alloc::{AllocError, Global};
 
@@ -19,6 +20,10 @@ pub struct Tally {
     /// For each rule, in order, and for each place of its target, in order, the greatest absolute value after the rule;
     /// 0 where the rule doesn't occur.
     pub greatest: Vec<Vec<u128>>,
+    /// What the steps by each rule cost together, in the order of the rules, or 2^127 where it is more.
+    pub costs: Vec<u128>,
+    /// What all steps cost together, or 2^127 where it is more.
+    pub spent: u128,
 }
 
 impl Tally {
@@ -32,31 +37,37 @@ impl Tally {
     {
         let mut greatest = Vec::new(alloc);
         for rule in &p.rules {
-            let row = no_sizes(alloc, rule.updates.len())?;
+            let row = zeros(alloc, rule.updates.len())?;
             greatest.push(row)?;
         }
         let counts = no_counts(alloc, p.rules.len())?;
+        let costs = zeros(alloc, p.rules.len())?;
         Ok(Tally {
             steps: 0,
             counts,
             greatest,
+            costs,
+            spent: 0,
         })
     }
 
-    /// Counts a step by the rule with a number, which leads to these values.
-    pub(crate) fn note(&mut self, rule: u32, values: &[i128])
+    /// Counts a step by the rule with a number, which leads to these values at this cost.
+    pub(crate) fn note(&mut self, rule: u32, values: &[i128], cost: u128)
         requires rule { 0 < rule }
         requires counted { rule ≤ length self.old.counts.items }
         requires sized { rule ≤ length self.old.greatest.items }
         requires places { length (slice_index_or (sizes_in self.old) (rule - 1) []) ≡ length values.now }
         requires steps { self.old.steps < 2 ^ 64 - 1 }
         requires count { slice_index self.old.counts.items (rule - 1) < 2 ^ 64 - 1 }
-        ensures { Notes (rule - 1) values.now (sums_of self.old) (sums_of self.new) }
+        requires charged { rule ≤ length self.old.costs.items }
+        ensures { Notes (rule - 1) values.now cost (sums_of self.old) (sums_of self.new) }
     {
         let i = rule as usize - 1;
         self.steps += 1;
         self.counts[i] += 1;
         raise(&mut self.greatest[i], values);
+        self.costs[i] = capped_add(self.costs[i], cost);
+        self.spent = capped_add(self.spent, cost);
     }
 }
 
@@ -67,11 +78,11 @@ fn no_counts(alloc: Global, rules: usize) -> Result<Vec<u64>, AllocError>
     vec![in alloc; 0u64; rules]
 }
 
-// A 0 for each of so many places.
-fn no_sizes(alloc: Global, places: usize) -> Result<Vec<u128>, AllocError>
-    ensures { IfOk result (λ sizes. sizes.items ≡ replicate places 0) }
+// So many zeros, for the places of a rule or for the costs of rules.
+fn zeros(alloc: Global, n: usize) -> Result<Vec<u128>, AllocError>
+    ensures { IfOk result (λ numbers. numbers.items ≡ replicate n 0) }
 {
-    vec![in alloc; 0u128; places]
+    vec![in alloc; 0u128; n]
 }
 
 // Raises each number to the absolute value that stands beside it, where that is greater.

@@ -45,6 +45,11 @@ impl<'a> ByteText for State<'a> {
         Ok(())
     }
 
+    fn signed(&mut self, number: i128) -> Result<(), AllocError> {
+        let _number = number;
+        Ok(())
+    }
+
     fn line(&mut self, values: Vec<i128>) -> Result<(), AllocError> {
         if self.rule == 0 {
             self.file.start = values;
@@ -66,6 +71,11 @@ impl<'a> ByteText for State<'a> {
         } else {
             None
         }
+    }
+
+    fn against_signed(&self, number: i128) -> Option<RunKind> {
+        let _number = number;
+        Some(RunKind::Syntax)
     }
 
     fn against_line(&self, values: usize) -> Option<RunKind> {

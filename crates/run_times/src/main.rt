@@ -1,6 +1,6 @@
-//! Reads a made run file, or replays a made run, so often as its words tell, and writes how many steps were read or
-//! counted; for measuring. The words are how many steps it has and how often it is read; behind a word `replay` how
-//! often it is replayed.
+//! A benchmark: reads a made run file, or replays a made run, a number of times, and writes how many steps were read or
+//! counted. The words are how many steps it has and how often it is read; behind a word `replay` how often it is
+//! replayed.
 #![tactic(auto)]
 
 mod replays;
@@ -39,7 +39,7 @@ fn program(alloc: Global) -> Result<Program, AllocError> {
     })
 }
 
-// The text of a run of so many steps.
+// The text of a run of this many steps.
 fn text(alloc: Global, steps: u32) -> Result<Vec<u8>, AllocError> {
     let mut text = Vec::new(alloc);
     text.extend_from_slice(b"koat-run 1\nstart 5\n")?;
@@ -72,7 +72,7 @@ fn number(word: &str) -> u32 {
     }
 }
 
-// What the words ask for.
+// The meaning of the words.
 fn told(alloc: Global, words: &[String]) -> Result<u64, AllocError> {
     match words {
         [_, steps, times] => steps_read(alloc, number(steps.as_str()), number(times.as_str())),

@@ -36,7 +36,7 @@ fn program_text(alloc: Global) -> Result<Vec<u8>, AllocError> {
     Ok(text)
 }
 
-// A run of so many steps of it.
+// A run of this many steps of it.
 fn run_text(alloc: Global, steps: u32) -> Result<Vec<u8>, AllocError> {
     let mut text = b"koat-run 1\nstart".to_vec(alloc)?;
     for _ in 0..PLACES {
@@ -50,7 +50,7 @@ fn run_text(alloc: Global, steps: u32) -> Result<Vec<u8>, AllocError> {
     Ok(text)
 }
 
-/// How many steps are counted where a run of so many is replayed so often.
+/// How many steps are counted where a run of this many steps is replayed a number of times.
 pub(crate) fn steps_replayed(alloc: Global, steps: u32, times: u32) -> Result<u64, AllocError> {
     let program = program_text(alloc)?;
     let run = run_text(alloc, steps)?;

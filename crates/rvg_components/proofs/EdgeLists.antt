@@ -7,7 +7,7 @@ use Rattle.std.proofs.lemmas.Bool.{cases_lt}
 use Rattle.std.proofs.lemmas.Option.{none-some, same_Some}
 use Rattle.model.specs.Programs.{Program}
 use Rattle.guard_prep.specs.Prepared.{Prepared}
-use Rattle.proof_tree.specs.proof_setting.Setting.{bent_at}
+use Rattle.cert_types.specs.cert_program.Setting.{nonlinear_at}
 use Rattle.its_graph.proofs.Elements.{Contains-cons_cases, Contains-first, Contains-later, none_in_empty, only_element}
 use Rattle.its_graph.proofs.PairLists.{Pair, same_pair, pair-cases, pair-later}
 use Rattle.local_size.specs.LocalAnswers.{local_answer_of}
@@ -27,9 +27,9 @@ pub record EdgeTo (to : ℕ) (before places : List ℕ) (a b : ℕ) : Type 0 whe
   pub into : b ≡ to
 
 -- from one place
-from-told : (j to : ℕ) (before : List ℕ) (a b : ℕ) → Contains (edges_from j to before) (a, b) → EdgeTo to before (j ∷ []) a b
-from-told j to [] a b h = absurd (none_in_empty (a, b) h)
-from-told j to (x ∷ before) a b h = go (pair-cases (x + j, to) (edges_from j to before) (a, b) h) (λ l. from-told j to before a b l)
+from-sound : (j to : ℕ) (before : List ℕ) (a b : ℕ) → Contains (edges_from j to before) (a, b) → EdgeTo to before (j ∷ []) a b
+from-sound j to [] a b h = absurd (none_in_empty (a, b) h)
+from-sound j to (x ∷ before) a b h = go (pair-cases (x + j, to) (edges_from j to before) (a, b) h) (λ l. from-sound j to before a b l)
   where
     later : EdgeTo to before (j ∷ []) a b → EdgeTo to (x ∷ before) (j ∷ []) a b
     later e = record { place = e.place; read = e.read; first = e.first; among = Contains-later x before e.first e.among; from = e.from; into = e.into }
@@ -46,7 +46,7 @@ from-told j to (x ∷ before) a b h = go (pair-cases (x + j, to) (edges_from j t
     }
     go (inr l) ih = later (ih l)
 
--- so it is listed
+-- hence it is listed
 from-listed : (j to : ℕ) (before : List ℕ) (x : ℕ) → Contains before x → Contains (edges_from j to before) (x + j, to)
 from-listed j to [] x h = absurd (none_in_empty x h)
 from-listed j to (y ∷ before) x h = go (Contains-cons_cases y before x h) (λ l. from-listed j to before x l)
@@ -56,9 +56,9 @@ from-listed j to (y ∷ before) x h = go (Contains-cons_cases y before x h) (λ 
     go (inr l) ih = pair-later (y + j, to) (edges_from j to before) (x + j, to) (ih l)
 
 -- from all places that are read
-pub to-told : (to : ℕ) (before places : List ℕ) (a b : ℕ) → Contains (edges_to to before places) (a, b) → EdgeTo to before places a b
-to-told to before [] a b h = absurd (none_in_empty (a, b) h)
-to-told to before (j ∷ places) a b h = go (Contains-append_cases (edges_from j to before) (edges_to to before places) (a, b) h) (λ l. to-told to before places a b l)
+pub to-sound : (to : ℕ) (before places : List ℕ) (a b : ℕ) → Contains (edges_to to before places) (a, b) → EdgeTo to before places a b
+to-sound to before [] a b h = absurd (none_in_empty (a, b) h)
+to-sound to before (j ∷ places) a b h = go (Contains-append_cases (edges_from j to before) (edges_to to before places) (a, b) h) (λ l. to-sound to before places a b l)
   where
     first : EdgeTo to before (j ∷ []) a b → EdgeTo to before (j ∷ places) a b
     first e = record {
@@ -75,7 +75,7 @@ to-told to before (j ∷ places) a b h = go (Contains-append_cases (edges_from j
 
     go : Contains (edges_from j to before) (a, b) ⊎ Contains (edges_to to before places) (a, b)
         → (Contains (edges_to to before places) (a, b) → EdgeTo to before places a b) → EdgeTo to before (j ∷ places) a b
-    go (inl l) ih = first (from-told j to before a b l)
+    go (inl l) ih = first (from-sound j to before a b l)
     go (inr l) ih = later (ih l)
 
 -- and each such edge is listed
@@ -90,7 +90,7 @@ to-listed to before (i ∷ places) x j h r = go (Contains-cons_cases i places j 
 
 -- what the answer at a place reads
 abbrev pub read_at : Prepared → ℕ → LocalAnswer → List ℕ
-read_at m i answer = answer_reads (bent_at m.polys i) (local_answer_of answer) m.left
+read_at m i answer = answer_reads (nonlinear_at m.polys i) (local_answer_of answer) m.left
 
 -- an edge to a place of a rule with these answers, the first of which is that of place i
 pub record EdgeInto (m : Prepared) (before : List ℕ) (first i : ℕ) (answers : List LocalAnswer) (a b : ℕ) : Type 0 where
@@ -100,12 +100,12 @@ pub record EdgeInto (m : Prepared) (before : List ℕ) (first i : ℕ) (answers 
   pub edge : EdgeTo (first + (i + position)) before (read_at m (i + position) answer) a b
 
 -- each edge of the list is one
-pub into-told : (m : Prepared) (before : List ℕ) (first i : ℕ) (answers : List LocalAnswer) (a b : ℕ) → Contains (edges_into m before first i answers) (a, b)
+pub into-sound : (m : Prepared) (before : List ℕ) (first i : ℕ) (answers : List LocalAnswer) (a b : ℕ) → Contains (edges_into m before first i answers) (a, b)
     → EdgeInto m before first i answers a b
-into-told m before first i [] a b h = absurd (none_in_empty (a, b) h)
-into-told m before first i (x ∷ answers) a b h =
+into-sound m before first i [] a b h = absurd (none_in_empty (a, b) h)
+into-sound m before first i (x ∷ answers) a b h =
     go (Contains-append_cases (edges_to (first + i) before (read_at m i x)) (edges_into m before first (suc i) answers) (a, b) h)
-    (λ l. into-told m before first (suc i) answers a b l)
+    (λ l. into-sound m before first (suc i) answers a b l)
   where
     plain : i ≡ i + 0
     plain = omega arith
@@ -127,7 +127,7 @@ into-told m before first i (x ∷ answers) a b h =
       position = 0;
       answer = x;
       there = refl;
-      edge = subst (λ (n : ℕ). EdgeTo (first + n) before (read_at m n x) a b) plain (to-told (first + i) before (read_at m i x) a b l);
+      edge = subst (λ (n : ℕ). EdgeTo (first + n) before (read_at m n x) a b) plain (to-sound (first + i) before (read_at m i x) a b l);
     }
     go (inr l) ih = later (ih l)
 
@@ -159,10 +159,10 @@ pub record FirstOf (live : List Bool) (firsts es : List ℕ) (x : ℕ) : Type 0 
   pub is : x ≡ first_of firsts rule
 
 -- each number of the list is one
-pub firsts-told : (live : List Bool) (firsts es : List ℕ) (x : ℕ) → Contains (firsts_of live firsts es) x → FirstOf live firsts es x
-firsts-told live firsts [] x h = absurd (none_in_empty x h)
-firsts-told live firsts (e ∷ es) x h =
-    go (Contains-append_cases (cond (is_flagged live e) (first_of firsts e ∷ []) []) (firsts_of live firsts es) x h) (λ l. firsts-told live firsts es x l)
+pub firsts-sound : (live : List Bool) (firsts es : List ℕ) (x : ℕ) → Contains (firsts_of live firsts es) x → FirstOf live firsts es x
+firsts-sound live firsts [] x h = absurd (none_in_empty x h)
+firsts-sound live firsts (e ∷ es) x h =
+    go (Contains-append_cases (cond (is_flagged live e) (first_of firsts e ∷ []) []) (firsts_of live firsts es) x h) (λ l. firsts-sound live firsts es x l)
   where
     here : (v : Bool) → is_flagged live e ≡ v → Contains (cond v (first_of firsts e ∷ []) []) x → FirstOf live firsts (e ∷ es) x
     here true is l = record { rule = e; among = Contains-first e es; flagged = is; is = only_element (first_of firsts e) x l }
@@ -196,9 +196,9 @@ pub record EdgeBelow (p : Program) (known : FlowInputs) (n : ℕ) (e : Pair) : T
   pub edge : Contains (edges_at p known position) e
 
 -- each edge of the list is one
-pub below-told : (p : Program) (known : FlowInputs) (n : ℕ) (e : Pair) → Contains (edges_below p known n) e → EdgeBelow p known n e
-below-told p known zero e h = absurd (none_in_empty e h)
-below-told p known (suc k) e h = go (Contains-append_cases (edges_below p known k) (live_edges_at p known k) e h) (λ l. below-told p known k e l)
+pub below-sound : (p : Program) (known : FlowInputs) (n : ℕ) (e : Pair) → Contains (edges_below p known n) e → EdgeBelow p known n e
+below-sound p known zero e h = absurd (none_in_empty e h)
+below-sound p known (suc k) e h = go (Contains-append_cases (edges_below p known k) (live_edges_at p known k) e h) (λ l. below-sound p known k e l)
   where
     here : (v : Bool) → get_or known.live k false ≡ v → Contains (cond v (edges_at p known k) []) e → EdgeBelow p known (suc k) e
     here true is l = record { position = k; below = omega arith; live = is; edge = l }

@@ -1,4 +1,4 @@
--- Numbers of places: where the places of each rule stand among all, and which place has a number.
+-- Numbers of places: the position of each rule's places among all, and the place of each number.
 use Rattle.std.proofs.Common.{◌≡◌, ◌⊎◌, inl, inr, ℕ, zero, suc, ◌+◌, ◌-◌, ◌<◌, ◌≤◌, Bool, true, false, cond, List, []}
 use Rattle.std.proofs.Common.{◌∷◌, ◌++◌, length, get_or, map, refl, sym, ◌∙◌, ap, subst, arith}
 use Rattle.std.specs.List.{sum}
@@ -6,41 +6,41 @@ use Rattle.std.proofs.lemmas.Bool.{cases_lt}
 use Rattle.std.proofs.lemmas.List.{map-append, append_assoc, length-append, get_or_append_left, get_or-append_right}
 use Rattle.std.proofs.lemmas.List.FromFn.{length-map-range_with_len, get_or-map-range_with_len, map-range_with_len_more}
 use Rattle.std.proofs.lemmas.List.Sums.{sum_by-cons}
-use Rattle.proof_tree.specs.proof_nodes.Nodes.{Spot}
-use Rattle.proof_tree.specs.declared.arm.Spot as code
-use Rattle.proof_tree.specs.Views.{spot_of}
+use Rattle.cert_types.specs.cert_rules.Nodes.{ResultVariable}
+use Rattle.cert_types.specs.declared.side_bound.ResultVariable as code
+use Rattle.cert_types.specs.Views.{result_variable_of}
 use Rattle.local_size.specs.declared.answer.LocalAnswer.{LocalAnswer}
-use Rattle.rvg_components.specs.Numbering.{widths, firsts_from, places_of, spots_by_width}
+use Rattle.rvg_components.specs.Numbering.{widths, firsts_from, places_of, result_variables_by_width}
 
 -- the spot that is the place i, numbered from 0, of rule t
-abbrev pub spot_in : ℕ → ℕ → Spot
-spot_in t i = record { rule = t; place = suc i }
+abbrev pub result_variable_in : ℕ → ℕ → ResultVariable
+result_variable_in t i = record { rule = t; place = suc i }
 
 -- how many places of a rule there are
 pub places-length : (t i n : ℕ) → length (places_of t i n) ≡ n
-places-length t i n = length-map-range_with_len (λ j. let s : Spot = record { rule = t; place = j } in s) i n
+places-length t i n = length-map-range_with_len (λ j. let s : ResultVariable = record { rule = t; place = j } in s) i n
 
 -- and which they are
-places-read : (t n i : ℕ) (d : Spot) → i < n → get_or (places_of t 1 n) i d ≡ spot_in t i
-places-read t n i d low = get_or-map-range_with_len (λ j. let s : Spot = record { rule = t; place = j } in s) 1 n i (suc i) d low (omega arith)
+places-read : (t n i : ℕ) (d : ResultVariable) → i < n → get_or (places_of t 1 n) i d ≡ result_variable_in t i
+places-read t n i d low = get_or-map-range_with_len (λ j. let s : ResultVariable = record { rule = t; place = j } in s) 1 n i (suc i) d low (omega arith)
 
 -- one place more
 pub places_more : (t n : ℕ) → places_of t 1 (n + 1) ≡ places_of t 1 n ++ record { rule = t; place = n + 1 } ∷ []
-places_more t n = map-range_with_len_more (λ j. let s : Spot = record { rule = t; place = j } in s) 1 n (n + 1) (omega arith)
+places_more t n = map-range_with_len_more (λ j. let s : ResultVariable = record { rule = t; place = j } in s) 1 n (n + 1) (omega arith)
 
 -- the sum of one width more
 pub sum-cons : (w : ℕ) (ws : List ℕ) → sum (w ∷ ws) ≡ w + sum ws
 sum-cons w ws = sum_by-cons (λ x. x) w ws
 
 -- the places of one rule more
-spots-cons : (t w : ℕ) (ws : List ℕ) → length (spots_by_width t (w ∷ ws)) ≡ w + length (spots_by_width (suc t) ws)
-spots-cons t w ws = length-append (places_of t 1 w) (spots_by_width (suc t) ws)
-    ∙ ap (λ (n : ℕ). n + length (spots_by_width (suc t) ws)) (places-length t 1 w)
+result_variables-cons : (t w : ℕ) (ws : List ℕ) → length (result_variables_by_width t (w ∷ ws)) ≡ w + length (result_variables_by_width (suc t) ws)
+result_variables-cons t w ws = length-append (places_of t 1 w) (result_variables_by_width (suc t) ws)
+    ∙ ap (λ (n : ℕ). n + length (result_variables_by_width (suc t) ws)) (places-length t 1 w)
 
 -- there are as many places as the widths say
-pub spots-length : (t : ℕ) (ws : List ℕ) → length (spots_by_width t ws) ≡ sum ws
-spots-length t [] = refl
-spots-length t (w ∷ ws) = spots-cons t w ws ∙ (ap (λ (n : ℕ). w + n) (spots-length (suc t) ws) ∙ sym (sum-cons w ws))
+pub result_variables-length : (t : ℕ) (ws : List ℕ) → length (result_variables_by_width t ws) ≡ sum ws
+result_variables-length t [] = refl
+result_variables-length t (w ∷ ws) = result_variables-cons t w ws ∙ (ap (λ (n : ℕ). w + n) (result_variables-length (suc t) ws) ∙ sym (sum-cons w ws))
 
 -- a first place for each rule
 pub firsts-length : (b : ℕ) (ws : List ℕ) → length (firsts_from b ws) ≡ length ws
@@ -50,16 +50,16 @@ firsts-length b (w ∷ ws) = omega (arith, firsts-length (b + w) ws)
 -- the position of place i of the rule at position k among the places from rule t on, where b places come before these
 pub record IsAt (b t : ℕ) (ws : List ℕ) (k i x : ℕ) : Type 0 where
   pub number : get_or (firsts_from b ws) k 0 + i ≡ b + x
-  pub within : x < length (spots_by_width t ws)
-  pub spot : (d : Spot) → get_or (spots_by_width t ws) x d ≡ spot_in (t + k) i
+  pub within : x < length (result_variables_by_width t ws)
+  pub result_variable : (d : ResultVariable) → get_or (result_variables_by_width t ws) x d ≡ result_variable_in (t + k) i
 
 -- a place of the first rule
 at-first : (b t w : ℕ) (ws : List ℕ) (i : ℕ) → i < w → IsAt b t (w ∷ ws) 0 i i
 at-first b t w ws i inside = record {
   number = refl;
-  within = omega (arith, spots-cons t w ws, inside);
-  spot = λ d. get_or_append_left (places_of t 1 w) (spots_by_width (suc t) ws) d i (omega (arith, places-length t 1 w, inside))
-      ∙ (places-read t w i d inside ∙ ap (λ (r : ℕ). spot_in r i) plain);
+  within = omega (arith, result_variables-cons t w ws, inside);
+  result_variable = λ d. get_or_append_left (places_of t 1 w) (result_variables_by_width (suc t) ws) d i (omega (arith, places-length t 1 w, inside))
+      ∙ (places-read t w i d inside ∙ ap (λ (r : ℕ). result_variable_in r i) plain);
 }
   where
     plain : t ≡ t + 0
@@ -69,9 +69,9 @@ at-first b t w ws i inside = record {
 at-later : (b t w : ℕ) (ws : List ℕ) (k i x : ℕ) → IsAt (b + w) (suc t) ws k i x → IsAt b t (w ∷ ws) (suc k) i (w + x)
 at-later b t w ws k i x a = record {
   number = a.number ∙ grouped;
-  within = omega (arith, spots-cons t w ws, a.within);
-  spot = λ d. get_or-append_right (places_of t 1 w) (spots_by_width (suc t) ws) w (w + x) d (places-length t 1 w) (omega arith)
-      ∙ (ap (λ (y : ℕ). get_or (spots_by_width (suc t) ws) y d) back ∙ (a.spot d ∙ ap (λ (r : ℕ). spot_in r i) moved));
+  within = omega (arith, result_variables-cons t w ws, a.within);
+  result_variable = λ d. get_or-append_right (places_of t 1 w) (result_variables_by_width (suc t) ws) w (w + x) d (places-length t 1 w) (omega arith)
+      ∙ (ap (λ (y : ℕ). get_or (result_variables_by_width (suc t) ws) y d) back ∙ (a.result_variable d ∙ ap (λ (r : ℕ). result_variable_in r i) moved));
 }
   where
     grouped : b + w + x ≡ b + (w + x)
@@ -101,9 +101,9 @@ pub record PlaceAt (b t : ℕ) (ws : List ℕ) (x : ℕ) : Type 0 where
   pub at : IsAt b t ws rule place x
 
 -- each position has a place
-pub place-at : (b t : ℕ) (ws : List ℕ) (x : ℕ) → x < length (spots_by_width t ws) → PlaceAt b t ws x
+pub place-at : (b t : ℕ) (ws : List ℕ) (x : ℕ) → x < length (result_variables_by_width t ws) → PlaceAt b t ws x
 place-at b t [] x low = absurd (omega (arith, low))
-place-at b t (w ∷ ws) x low = go (cases_lt x w) (λ past. place-at (b + w) (suc t) ws (x - w) (omega (arith, low, past, spots-cons t w ws)))
+place-at b t (w ∷ ws) x low = go (cases_lt x w) (λ past. place-at (b + w) (suc t) ws (x - w) (omega (arith, low, past, result_variables-cons t w ws)))
   where
     later : w ≤ x → PlaceAt (b + w) (suc t) ws (x - w) → PlaceAt b t (w ∷ ws) x
     later past p = record {
@@ -138,16 +138,16 @@ widths-at (l ∷ locals) (f ∷ live) zero e = refl
 widths-at (l ∷ locals) (f ∷ live) (suc k) e = widths-at locals live k (omega (arith, e))
 
 -- one place more is pushed
-pub spot_pushed : (t n : ℕ) (first old new : List code.Spot) (x : code.Spot) → map spot_of old ≡ map spot_of first ++ places_of t 1 n → new ≡ old ++ x ∷ []
-    → spot_of x ≡ record { rule = t; place = n + 1 } → map spot_of new ≡ map spot_of first ++ places_of t 1 (n + 1)
-spot_pushed t n first old new x kept pushed is =
-    ap (map spot_of) pushed
-    ∙ (map-append spot_of old (x ∷ [])
-    ∙ (ap (λ (xs : List Spot). xs ++ spot_of x ∷ []) kept
-    ∙ (append_assoc (map spot_of first) (places_of t 1 n) (spot_of x ∷ [])
-    ∙ ap (λ (xs : List Spot). map spot_of first ++ xs) (ap (λ (y : Spot). places_of t 1 n ++ y ∷ []) is ∙ sym (places_more t n)))))
+pub result_variable_pushed : (t n : ℕ) (first old new : List code.ResultVariable) (x : code.ResultVariable) → map result_variable_of old ≡ map result_variable_of first ++ places_of t 1 n → new ≡ old ++ x ∷ []
+    → result_variable_of x ≡ record { rule = t; place = n + 1 } → map result_variable_of new ≡ map result_variable_of first ++ places_of t 1 (n + 1)
+result_variable_pushed t n first old new x kept pushed is =
+    ap (map result_variable_of) pushed
+    ∙ (map-append result_variable_of old (x ∷ [])
+    ∙ (ap (λ (xs : List ResultVariable). xs ++ result_variable_of x ∷ []) kept
+    ∙ (append_assoc (map result_variable_of first) (places_of t 1 n) (result_variable_of x ∷ [])
+    ∙ ap (λ (xs : List ResultVariable). map result_variable_of first ++ xs) (ap (λ (y : ResultVariable). places_of t 1 n ++ y ∷ []) is ∙ sym (places_more t n)))))
 
--- a rule with a place is live, and has so many answers
+-- a rule with a place is live, and has this many answers
 pub width-live : (v : Bool) (n i : ℕ) → i < cond v n 0 → (v ≡ true) × (i < n)
 width-live true n i low = (refl, low)
 width-live false n i low = absurd (omega (arith, low))

@@ -12,10 +12,10 @@ use Rattle.std.proofs.lemmas.List.Elements.{All-from_recursion}
 use Rattle.std.proofs.lemmas.Option.{slice_get-map, slice_get_cases, get_or_from_slice_get}
 use Rattle.model.specs.Programs.{Program, Rule, rule_at, arity_of}
 use Rattle.model.specs.Paths.{pre, comes_before, same_symbol, source_in, target_in, source_of}
-use Rattle.model.proofs.Membership.{filter-in, is_in-contained, no_is_not_yes, told_same}
+use Rattle.model.proofs.Membership.{filter-in, is_in-contained, no_is_not_yes, same_number-sound}
 use Rattle.guard_prep.specs.its_model.Valid.{IsValidRule}
 use Rattle.guard_prep.proofs.its_model.ValidLaws.{rule-valid}
-use Rattle.proof_tree.proofs.rule_forms.Shapes.{ranged}
+use Rattle.cert_types.proofs.rule_forms.Shapes.{ranged}
 use Rattle.guard_prep.specs.declared.rule_rows.RuleRows.{RuleRows}
 use Rattle.guard_prep.specs.Prepared.{Prepared, prepared}
 use Rattle.guard_prep.specs.Views.{prepared_of}
@@ -24,17 +24,17 @@ use Rattle.its_graph.specs.Links.{ends_of}
 use Rattle.its_graph.specs.declared.graph.Graph.{Graph}
 use Rattle.local_size.specs.declared.answer.LocalAnswer.{LocalAnswer}
 use Rattle.model.specs.Paths.{entry_and_rules}
-use Rattle.proof_tree.specs.proof_nodes.AcceptsPlain.{places_at}
-use Rattle.proof_tree.specs.proof_nodes.Nodes.{Spot}
-use Rattle.rvg_components.specs.Flows.{live_spots, target_spots, spots_of}
+use Rattle.cert_types.specs.cert_rules.AcceptsPlain.{places_at}
+use Rattle.cert_types.specs.cert_rules.Nodes.{ResultVariable}
+use Rattle.rvg_components.specs.Flows.{live_result_variables, target_result_variables, result_variables_of}
 use Rattle.rvg_components.specs.Listing.{AreAnswersOfProgram, answer_lists, is_flagged}
-use Rattle.rvg_components.specs.Numbering.{widths, firsts_from, places_of, spots_by_width}
+use Rattle.rvg_components.specs.Numbering.{widths, firsts_from, places_of, result_variables_by_width}
 use Rattle.rvg_components.specs.Edges.{no_rows, first_of, firsts_of, edges_into, edges_at, live_edges_at}
 use Rattle.rvg_components.specs.Fitting.{flow_inputs_of, IsFitting}
 use Rattle.rvg_components.proofs.Numbers.{sum-cons, widths-length, widths-at, firsts-length}
-use Rattle.rvg_components.proofs.Places.{spots-agree}
+use Rattle.rvg_components.proofs.Places.{result_variables-agree}
 
--- a flag that is set stands in its list
+-- a flag that is set has its position in the list
 pub flag-within : (live : List Bool) (k : ℕ) → get_or live k false ≡ true → k < length live
 flag-within [] k h = absurd (no_is_not_yes false refl h)
 flag-within (f ∷ live) zero h = omega arith
@@ -97,17 +97,17 @@ live-firsts-few live firsts (e ∷ es) m some h =
     here false = All-nil (λ x. x < m)
 
 -- the edges to the places of a live rule, by its rows, answers and first place
-pub edges-agree : (p : Program) (preps : List RuleRows) (locals : List (Vec LocalAnswer Global)) (live : List Bool) (firsts : List ℕ) (k : ℕ) (m : RuleRows)
-    (l : Vec LocalAnswer Global) (before : List ℕ) (answers : List LocalAnswer) → k < length preps → k < length locals → m ≡ get_or preps k m → l ≡ get_or locals k l
+pub edges-agree : (p : Program) (prepared_rules : List RuleRows) (locals : List (Vec LocalAnswer Global)) (live : List Bool) (firsts : List ℕ) (k : ℕ) (m : RuleRows)
+    (l : Vec LocalAnswer Global) (before : List ℕ) (answers : List LocalAnswer) → k < length prepared_rules → k < length locals → m ≡ get_or prepared_rules k m → l ≡ get_or locals k l
     → get_or live k false ≡ true → before ≡ firsts_of live firsts (pre p (suc k)) → answers ≡ l.items
-    → edges_into (prepared_of m) before (get_or firsts k 0) 0 answers ≡ live_edges_at p (flow_inputs_of preps locals live firsts) k
-edges-agree p preps locals live firsts k m l before answers low inside rows list is firstly same =
+    → edges_into (prepared_of m) before (get_or firsts k 0) 0 answers ≡ live_edges_at p (flow_inputs_of prepared_rules locals live firsts) k
+edges-agree p prepared_rules locals live firsts k m l before answers low inside rows list is firstly same =
     ap (λ (xs : List ℕ). edges_into (prepared_of m) xs (get_or firsts k 0) 0 answers) firstly
     ∙ (ap (λ (xs : List LocalAnswer). edges_into (prepared_of m) (firsts_of live firsts (pre p (suc k))) (get_or firsts k 0) 0 xs)
     (same ∙ (ap (λ (v : Vec LocalAnswer Global). v.items) list ∙ sym (get_or-map (λ (v : Vec LocalAnswer Global). v.items) locals k l [] inside)))
     ∙ (ap (λ (n : Prepared). edges_into n (firsts_of live firsts (pre p (suc k))) (get_or firsts k 0) 0 (get_or (answer_lists locals) k []))
-    (ap prepared_of rows ∙ sym (get_or-map prepared_of preps k m no_rows low))
-    ∙ ap (λ (v : Bool). cond v (edges_at p (flow_inputs_of preps locals live firsts) k) []) (sym is)))
+    (ap prepared_of rows ∙ sym (get_or-map prepared_of prepared_rules k m no_rows low))
+    ∙ ap (λ (v : Bool). cond v (edges_at p (flow_inputs_of prepared_rules locals live firsts) k) []) (sym is)))
 
 -- a rule that comes just before another leads to where that one comes from
 pub record RuleBefore (p : Program) (e : ℕ) (r : Rule) : Type 0 where
@@ -117,8 +117,8 @@ pub record RuleBefore (p : Program) (e : ℕ) (r : Rule) : Type 0 where
   pub numbered : rule_at p (suc position) ≡ Some rule
   pub meets : rule.target ≡ r.source
 
-module _ (p : Program) (g : Graph) (preps : List RuleRows) (locals : List (Vec LocalAnswer Global)) (live : List Bool)
-    (given : AreAnswersOfProgram p g preps (answer_lists locals) live) where
+module _ (p : Program) (g : Graph) (prepared_rules : List RuleRows) (locals : List (Vec LocalAnswer Global)) (live : List Bool)
+    (given : AreAnswersOfProgram p g prepared_rules (answer_lists locals) live) where
   -- there is a list of answers for each flag
   pub lists-long : length (answer_lists locals) ≡ length live
   lists-long = given.locals_for.lists ∙ sym given.locals_for.flags
@@ -133,7 +133,7 @@ module _ (p : Program) (g : Graph) (preps : List RuleRows) (locals : List (Vec L
       go (inr (past, e)) = absurd (omega (arith, past, low, given.locals_for.flags))
 
   -- its rows
-  pub rows-here : (k : ℕ) (r : Rule) → rule_at p (suc k) ≡ Some r → get_or (map prepared_of preps) k no_rows ≡ prepared r
+  pub rows-here : (k : ℕ) (r : Rule) → rule_at p (suc k) ≡ Some r → get_or (map prepared_of prepared_rules) k no_rows ≡ prepared r
   rows-here k r e =
       ap (λ (ms : List Prepared). get_or ms k no_rows) given.rows
       ∙ get_or_from_slice_get (map prepared p.rules) k (prepared r) no_rows
@@ -173,10 +173,10 @@ module _ (p : Program) (g : Graph) (preps : List RuleRows) (locals : List (Vec L
   widths-few = omega (arith, sum-few (widths (answer_lists locals) live) width-few, widths-length (answer_lists locals) live lists-long, live-few)
 
   -- the places of live rules are those that the widths give
-  pub live-spots : live_spots p (is_flagged live) ≡ spots_by_width 1 (widths (answer_lists locals) live)
-  live-spots =
-      ap (λ (n : ℕ). spots_of p (is_flagged live) (range_with_len 1 n)) (sym given.locals_for.flags)
-      ∙ spots-agree p (is_flagged live) 1 (answer_lists locals) live lists-long flags places
+  pub live-result_variables : live_result_variables p (is_flagged live) ≡ result_variables_by_width 1 (widths (answer_lists locals) live)
+  live-result_variables =
+      ap (λ (n : ℕ). result_variables_of p (is_flagged live) (range_with_len 1 n)) (sym given.locals_for.flags)
+      ∙ result_variables-agree p (is_flagged live) 1 (answer_lists locals) live lists-long flags places
     where
       next : (k : ℕ) → 1 + k ≡ suc k
       next k = omega arith
@@ -184,12 +184,12 @@ module _ (p : Program) (g : Graph) (preps : List RuleRows) (locals : List (Vec L
       flags : (k : ℕ) → k < length live → is_flagged live (1 + k) ≡ get_or live k false
       flags k low = ap (is_flagged live) (next k)
 
-      places : (k : ℕ) → get_or live k false ≡ true → target_spots p (1 + k) ≡ places_of (1 + k) 1 (length (get_or (answer_lists locals) k []))
-      places k is = subst (λ (t : ℕ). target_spots p t ≡ places_of t 1 (length (get_or (answer_lists locals) k []))) (sym (next k)) (by (rule-here k (flag-within live k is)))
+      places : (k : ℕ) → get_or live k false ≡ true → target_result_variables p (1 + k) ≡ places_of (1 + k) 1 (length (get_or (answer_lists locals) k []))
+      places k is = subst (λ (t : ℕ). target_result_variables p t ≡ places_of t 1 (length (get_or (answer_lists locals) k []))) (sym (next k)) (by (rule-here k (flag-within live k is)))
         where
-          by : (r : Rule) × (rule_at p (suc k) ≡ Some r) → target_spots p (suc k) ≡ places_of (suc k) 1 (length (get_or (answer_lists locals) k []))
+          by : (r : Rule) × (rule_at p (suc k) ≡ Some r) → target_result_variables p (suc k) ≡ places_of (suc k) 1 (length (get_or (answer_lists locals) k []))
           by (r, e) =
-              ap (λ (o : Option Rule). map (λ (i : ℕ). let s : Spot = record { rule = suc k; place = i } in s) (places_at p (target_in o))) e
+              ap (λ (o : Option Rule). map (λ (i : ℕ). let s : ResultVariable = record { rule = suc k; place = i } in s) (places_at p (target_in o))) e
               ∙ ap (λ (n : ℕ). places_of (suc k) 1 n) (sym (answers-here k r e is))
 
   -- a live one of these is a rule that leads to where the other comes from
@@ -204,10 +204,10 @@ module _ (p : Program) (g : Graph) (preps : List RuleRows) (locals : List (Vec L
       by (q, e) =
           let same : (q.target == r.source) ≡ true = sym (ap (λ (o : Option Rule). same_symbol (target_in o) (source_of p (suc k))) e
           ∙ ap (λ (o : Option Rule). same_symbol (Some q.target) (source_in o)) here) ∙ comes in
-          record { position = n; number = refl; rule = q; numbered = e; meets = told_same q.target r.source same }
+          record { position = n; number = refl; rule = q; numbered = e; meets = same_number-sound q.target r.source same }
 
   -- there is one of each for each rule, and the numbers are small
-  pub fitting : IsFitting (flow_inputs_of preps locals live (firsts_from 0 (widths (answer_lists locals) live))) (length g.links.items)
+  pub fitting : IsFitting (flow_inputs_of prepared_rules locals live (firsts_from 0 (widths (answer_lists locals) live))) (length g.links.items)
   fitting = record {
     rows = ap length given.rows ∙ (length-map p.rules prepared ∙ sym rules);
     locals = given.locals_for.lists ∙ sym rules;

@@ -11,13 +11,13 @@ use Rattle.model.specs.Entries.{is_in}
 use Rattle.model.specs.Polynomials.{Polynomial}
 use Rattle.model.proofs.Membership.{is_in-filter, filter-in, contains-is_in, is_in-contained, is_in-numbers}
 use Rattle.model.proofs.Membership.{no_is_not_yes}
-use Rattle.proof_tree.specs.proof_nodes.Nodes.{Spot, Arm}
-use Rattle.proof_tree.specs.proof_nodes.Setting.{Setting}
-use Rattle.proof_tree.specs.proof_nodes.ComposedSizes.{reads, poly_at}
+use Rattle.cert_types.specs.cert_rules.Nodes.{ResultVariable, SideBound}
+use Rattle.cert_types.specs.cert_rules.Setting.{Setting}
+use Rattle.cert_types.specs.cert_rules.ComposedSizes.{reads, poly_at}
 use Rattle.its_graph.proofs.Elements.{none_in_empty}
-use Rattle.local_size.specs.LocalAnswers.{Local, HasBound, IsLooseOn, HasTripped}
+use Rattle.local_size.specs.LocalAnswers.{Local, HasBound, IsUnboundedOn, HasTripped}
 use Rattle.rvg_components.specs.Flows.{local_reads}
-use Rattle.proof_tree.specs.Reading.{places_read}
+use Rattle.cert_types.specs.Reading.{places_read}
 use Rattle.rvg_components.specs.Reading.{answer_reads}
 
 -- a number among the first n is below n
@@ -35,62 +35,62 @@ either true b h = inl refl
 either false b h = inr h
 
 -- the places that an arm reads
-arm-told : (poly : Option Polynomial) (arm : Arm) (left j : ℕ) → Contains (places_read poly arm left) j → (j < left) × (reads poly arm j ≡ true)
-arm-told poly arm left j h =
-    let k = filter-in (λ i. reads poly arm i) (range_with_len 0 left) j (is_in-contained (places_read poly arm left) j h) in
+side_bound-sound : (poly : Option Polynomial) (side_bound : SideBound) (left j : ℕ) → Contains (places_read poly side_bound left) j → (j < left) × (reads poly side_bound j ≡ true)
+side_bound-sound poly side_bound left j h =
+    let k = filter-in (λ i. reads poly side_bound i) (range_with_len 0 left) j (is_in-contained (places_read poly side_bound left) j h) in
     (below left j k.0, k.1)
 
 -- and each place that it reads is listed
-arm-listed : (poly : Option Polynomial) (arm : Arm) (left j : ℕ) → j < left → reads poly arm j ≡ true → Contains (places_read poly arm left) j
-arm-listed poly arm left j low h =
-    contains-is_in (places_read poly arm left) j (is_in-filter (λ i. reads poly arm i) (range_with_len 0 left) j (is_in-numbers left j low) h)
+side_bound-listed : (poly : Option Polynomial) (side_bound : SideBound) (left j : ℕ) → j < left → reads poly side_bound j ≡ true → Contains (places_read poly side_bound left) j
+side_bound-listed poly side_bound left j low h =
+    contains-is_in (places_read poly side_bound left) j (is_in-filter (λ i. reads poly side_bound i) (range_with_len 0 left) j (is_in-numbers left j low) h)
 
 -- what is listed is read
-pub read-told : (s : Setting) (spot : Spot) (a : Local) (left j : ℕ) → Contains (answer_reads (poly_at s spot) a left) j → (j < left) × (local_reads s spot a j ≡ true)
-read-told s spot (HasBound l) left j h =
-    go (Contains-append_cases (places_read (poly_at s spot) l.up left) (places_read (poly_at s spot) l.low left) j h)
+pub read-sound : (s : Setting) (result_variable : ResultVariable) (a : Local) (left j : ℕ) → Contains (answer_reads (poly_at s result_variable) a left) j → (j < left) × (local_reads s result_variable a j ≡ true)
+read-sound s result_variable (HasBound l) left j h =
+    go (Contains-append_cases (places_read (poly_at s result_variable) l.up left) (places_read (poly_at s result_variable) l.low left) j h)
   where
-    go : Contains (places_read (poly_at s spot) l.up left) j ⊎ Contains (places_read (poly_at s spot) l.low left) j
-        → (j < left) × (local_reads s spot (HasBound l) j ≡ true)
-    go (inl c) = let k = arm-told (poly_at s spot) l.up left j c in (k.0, or_left (reads (poly_at s spot) l.up j) (reads (poly_at s spot) l.low j) k.1)
-    go (inr c) = let k = arm-told (poly_at s spot) l.low left j c in (k.0, or_right (reads (poly_at s spot) l.up j) (reads (poly_at s spot) l.low j) k.1)
-read-told s spot (IsLooseOn side ray kept) left j h = absurd (none_in_empty j h)
-read-told s spot (HasTripped t) left j h = absurd (none_in_empty j h)
+    go : Contains (places_read (poly_at s result_variable) l.up left) j ⊎ Contains (places_read (poly_at s result_variable) l.low left) j
+        → (j < left) × (local_reads s result_variable (HasBound l) j ≡ true)
+    go (inl c) = let k = side_bound-sound (poly_at s result_variable) l.up left j c in (k.0, or_left (reads (poly_at s result_variable) l.up j) (reads (poly_at s result_variable) l.low j) k.1)
+    go (inr c) = let k = side_bound-sound (poly_at s result_variable) l.low left j c in (k.0, or_right (reads (poly_at s result_variable) l.up j) (reads (poly_at s result_variable) l.low j) k.1)
+read-sound s result_variable (IsUnboundedOn side ray kept) left j h = absurd (none_in_empty j h)
+read-sound s result_variable (HasTripped t) left j h = absurd (none_in_empty j h)
 
 -- and what is read is listed
-pub read-listed : (s : Setting) (spot : Spot) (a : Local) (left j : ℕ) → j < left → local_reads s spot a j ≡ true → Contains (answer_reads (poly_at s spot) a left) j
-read-listed s spot (HasBound l) left j low h = go (either (reads (poly_at s spot) l.up j) (reads (poly_at s spot) l.low j) h)
+pub read-listed : (s : Setting) (result_variable : ResultVariable) (a : Local) (left j : ℕ) → j < left → local_reads s result_variable a j ≡ true → Contains (answer_reads (poly_at s result_variable) a left) j
+read-listed s result_variable (HasBound l) left j low h = go (either (reads (poly_at s result_variable) l.up j) (reads (poly_at s result_variable) l.low j) h)
   where
-    go : (reads (poly_at s spot) l.up j ≡ true) ⊎ (reads (poly_at s spot) l.low j ≡ true) → Contains (answer_reads (poly_at s spot) (HasBound l) left) j
-    go (inl e) = Contains-append_left (places_read (poly_at s spot) l.up left) (places_read (poly_at s spot) l.low left) j (arm-listed (poly_at s spot) l.up left j low e)
-    go (inr e) = Contains-append_right (places_read (poly_at s spot) l.up left) (places_read (poly_at s spot) l.low left) j (arm-listed (poly_at s spot) l.low left j low e)
-read-listed s spot (IsLooseOn side ray kept) left j low h = absurd (no_is_not_yes false refl h)
-read-listed s spot (HasTripped t) left j low h = absurd (no_is_not_yes false refl h)
+    go : (reads (poly_at s result_variable) l.up j ≡ true) ⊎ (reads (poly_at s result_variable) l.low j ≡ true) → Contains (answer_reads (poly_at s result_variable) (HasBound l) left) j
+    go (inl e) = Contains-append_left (places_read (poly_at s result_variable) l.up left) (places_read (poly_at s result_variable) l.low left) j (side_bound-listed (poly_at s result_variable) l.up left j low e)
+    go (inr e) = Contains-append_right (places_read (poly_at s result_variable) l.up left) (places_read (poly_at s result_variable) l.low left) j (side_bound-listed (poly_at s result_variable) l.low left j low e)
+read-listed s result_variable (IsUnboundedOn side ray kept) left j low h = absurd (no_is_not_yes false refl h)
+read-listed s result_variable (HasTripped t) left j low h = absurd (no_is_not_yes false refl h)
 
 -- the places among one more
-read_more : (poly : Option Polynomial) (arm : Arm) (n : ℕ) → places_read poly arm (n + 1) ≡ places_read poly arm n ++ cond (reads poly arm n) (n ∷ []) []
-read_more poly arm n =
-    ap (filter (λ j. reads poly arm j)) (numbers-more 0 n n (omega arith)) ∙ filter-append (λ j. reads poly arm j) (range_with_len 0 n) (n ∷ [])
+read_more : (poly : Option Polynomial) (side_bound : SideBound) (n : ℕ) → places_read poly side_bound (n + 1) ≡ places_read poly side_bound n ++ cond (reads poly side_bound n) (n ∷ []) []
+read_more poly side_bound n =
+    ap (filter (λ j. reads poly side_bound j)) (numbers-more 0 n n (omega arith)) ∙ filter-append (λ j. reads poly side_bound j) (range_with_len 0 n) (n ∷ [])
   where
     numbers-more : (a n j : ℕ) → a + n ≡ j → range_with_len a (n + 1) ≡ range_with_len a n ++ j ∷ []
     numbers-more a n j e = sym (map-id (range_with_len a (n + 1))) ∙ (map-range_with_len_more (λ i. i) a n j e ∙ ap (λ (xs : List ℕ). xs ++ j ∷ []) (map-id (range_with_len a n)))
 
 -- one place more is looked at
-pub read_pushed : (poly : Option Polynomial) (arm : Arm) (n : ℕ) (first old new : List ℕ) (v : Bool) → old ≡ first ++ places_read poly arm n → v ≡ reads poly arm n
-    → new ≡ old ++ cond v (n ∷ []) [] → new ≡ first ++ places_read poly arm (n + 1)
-read_pushed poly arm n first old new v kept is pushed =
+pub read_pushed : (poly : Option Polynomial) (side_bound : SideBound) (n : ℕ) (first old new : List ℕ) (v : Bool) → old ≡ first ++ places_read poly side_bound n → v ≡ reads poly side_bound n
+    → new ≡ old ++ cond v (n ∷ []) [] → new ≡ first ++ places_read poly side_bound (n + 1)
+read_pushed poly side_bound n first old new v kept is pushed =
     pushed
     ∙ (ap (λ (xs : List ℕ). xs ++ cond v (n ∷ []) []) kept
-    ∙ (append_assoc first (places_read poly arm n) (cond v (n ∷ []) [])
-    ∙ ap (λ (xs : List ℕ). first ++ xs) (ap (λ (w : Bool). places_read poly arm n ++ cond w (n ∷ []) []) is ∙ sym (read_more poly arm n))))
+    ∙ (append_assoc first (places_read poly side_bound n) (cond v (n ∷ []) [])
+    ∙ ap (λ (xs : List ℕ). first ++ xs) (ap (λ (w : Bool). places_read poly side_bound n ++ cond w (n ∷ []) []) is ∙ sym (read_more poly side_bound n))))
 
 -- all of these places are below the number of left variables
 pub read-few : (poly : Option Polynomial) (a : Local) (left m : ℕ) → left ≤ m → All (λ j. j < m) (answer_reads poly a left)
 read-few poly (HasBound l) left m low =
     All-append (λ j. j < m) (places_read poly l.up left) (places_read poly l.low left) (few l.up) (few l.low)
   where
-    few : (arm : Arm) → All (λ j. j < m) (places_read poly arm left)
-    few arm = All-from_get_or (λ j. j < m) (places_read poly arm left) 0
-        (λ i inside. let k = arm-told poly arm left (get_or (places_read poly arm left) i 0) (Contains-get_or (places_read poly arm left) i 0 inside) in omega (arith, low, k.0))
-read-few poly (IsLooseOn side ray kept) left m low = All-nil (λ j. j < m)
+    few : (side_bound : SideBound) → All (λ j. j < m) (places_read poly side_bound left)
+    few side_bound = All-from_get_or (λ j. j < m) (places_read poly side_bound left) 0
+        (λ i inside. let k = side_bound-sound poly side_bound left (get_or (places_read poly side_bound left) i 0) (Contains-get_or (places_read poly side_bound left) i 0 inside) in omega (arith, low, k.0))
+read-few poly (IsUnboundedOn side ray kept) left m low = All-nil (λ j. j < m)
 read-few poly (HasTripped t) left m low = All-nil (λ j. j < m)

@@ -5,11 +5,11 @@ use Rattle.its_graph.specs.Components.{IsListing}
 use Rattle.its_graph.specs.WorkedComponents.{Loop, Backward, ListingsAreWorkedOut}
 use Rattle.its_graph.proofs.PairLists.{Pair}
 use Rattle.its_graph.proofs.Uniqueness.{one_listing}
-use Rattle.proof_tree.specs.proof_nodes.Nodes.{Spot}
-use Rattle.proof_tree.specs.proof_nodes.Setting.{Setting}
-use Rattle.rvg_components.specs.Flows.{value_flows, live_spots}
-use Rattle.rvg_components.specs.Listing.{spot_at, HasFlow, AreComponents}
-use Rattle.rvg_components.specs.WorkedFlows.{spot, all_read, all_live, ring, last_first, FlowComponentsAreWorkedOut}
+use Rattle.cert_types.specs.cert_rules.Nodes.{ResultVariable}
+use Rattle.cert_types.specs.cert_rules.Setting.{Setting}
+use Rattle.rvg_components.specs.Flows.{value_flows, live_result_variables}
+use Rattle.rvg_components.specs.Listing.{result_variable_at, HasFlow, AreComponents}
+use Rattle.rvg_components.specs.WorkedFlows.{result_variable, all_read, all_live, ring, last_first, FlowComponentsAreWorkedOut}
 use Rattle.rvg_components.proofs.Listings.{listing-same}
 
 -- no isn't yes
@@ -17,8 +17,8 @@ no_flow : false ≡ true → ⊥
 no_flow e = cc
 
 -- three places, one after each rule
-abbrev three : List Spot
-three = spot 1 1 ∷ spot 2 1 ∷ spot 3 1 ∷ []
+abbrev three : List ResultVariable
+three = result_variable 1 1 ∷ result_variable 2 1 ∷ result_variable 3 1 ∷ []
 
 -- a value flows from one of them into another
 abbrev Flow : Setting → ℕ → ℕ → Type 0
@@ -42,7 +42,7 @@ loop_flows a b (suc (suc (suc k)), low, e) = absurd (omega (arith, low))
 flows_loop : (a b : ℕ) → Flow ring a b → Loop a b
 flows_loop a b h = go a b h.from h.to h.flow
   where
-    go : (a b : ℕ) → a < 3 → b < 3 → value_flows ring all_read (spot_at three a) (spot_at three b) ≡ true → Loop a b
+    go : (a b : ℕ) → a < 3 → b < 3 → value_flows ring all_read (result_variable_at three a) (result_variable_at three b) ≡ true → Loop a b
     go zero zero from to e = absurd (no_flow e)
     go zero (suc zero) from to e = (0, omega arith, refl)
     go zero (suc (suc zero)) from to e = absurd (no_flow e)
@@ -66,7 +66,7 @@ flows_backward : (a b : ℕ) → Flow last_first a b → Backward a b
 flows_backward a b h = go a b h.from h.to h.flow
   where
     go : (a b : ℕ) → a < 3 → b < 3
-        → value_flows last_first all_read (spot_at three a) (spot_at three b) ≡ true → Backward a b
+        → value_flows last_first all_read (result_variable_at three a) (result_variable_at three b) ≡ true → Backward a b
     go zero zero from to e = absurd (no_flow e)
     go zero (suc zero) from to e = absurd (no_flow e)
     go zero (suc (suc zero)) from to e = absurd (no_flow e)
@@ -80,23 +80,23 @@ flows_backward a b h = go a b h.from h.to h.flow
     go a (suc (suc (suc b))) from to e = absurd (omega (arith, to))
 
 -- the places at these positions
-abbrev at_positions : List (List ℕ) → List (List Spot)
-at_positions positions = map (map (spot_at three)) positions
+abbrev at_positions : List (List ℕ) → List (List ResultVariable)
+at_positions positions = map (map (result_variable_at three)) positions
 
 -- components are the places at the positions that a listing has, which is the only one
 only : (s : Setting) (Edge : ℕ → ℕ → Type 0) → ((a b : ℕ) → Edge a b → Flow s a b)
-    → ((a b : ℕ) → Flow s a b → Edge a b) → live_spots s.program all_live ≡ three → (positions : List (List ℕ))
-    → IsListing Edge 3 positions → (cs : List (List Spot)) → AreComponents s all_live all_read cs
+    → ((a b : ℕ) → Flow s a b → Edge a b) → live_result_variables s.program all_live ≡ three → (positions : List (List ℕ))
+    → IsListing Edge 3 positions → (cs : List (List ResultVariable)) → AreComponents s all_live all_read cs
     → cs ≡ at_positions positions
 only s Edge on back places positions listing cs h =
     let counted : IsListing (Flow s) 3 h.positions = subst
-    (λ (xs : List Spot). IsListing (HasFlow s all_read xs) (length xs) h.positions) places h.listing in
+    (λ (xs : List ResultVariable). IsListing (HasFlow s all_read xs) (length xs) h.positions) places h.listing in
     let same : h.positions ≡ positions = one_listing Edge 3 h.positions positions
     (listing-same (Flow s) Edge back on 3 h.positions counted) listing in
-    h.spots ∙ ap (λ (xs : List Spot). map (map (spot_at xs)) h.positions) places ∙ ap at_positions same
+    h.result_variables ∙ ap (λ (xs : List ResultVariable). map (map (result_variable_at xs)) h.positions) places ∙ ap at_positions same
 
 -- the rules of the places of components
-abbrev rules : List (List Spot) → List (List ℕ)
+abbrev rules : List (List ResultVariable) → List (List ℕ)
 rules cs = map (map (λ m. m.rule)) cs
 
 -- these are the same
@@ -104,35 +104,35 @@ abbrev AreSame : List (List ℕ) → List (List ℕ) → Type 0
 AreSame a b = a ≡ b
 
 -- components and their order are as worked out, where those of the graphs by numbers are
-pub components_told : ListingsAreWorkedOut → FlowComponentsAreWorkedOut
-components_told told = record {
+pub components-sound : ListingsAreWorkedOut → FlowComponentsAreWorkedOut
+components-sound told = record {
   round = record {
     positions = (0 ∷ []) ∷ (1 ∷ 2 ∷ []) ∷ [];
     listing = listing-same Loop (Flow ring) loop_flows flows_loop 3 ((0 ∷ []) ∷ (1 ∷ 2 ∷ []) ∷ []) told.loop;
-    spots = refl;
+    result_variables = refl;
   };
-  turned = λ h. turned (ap rules (only_round ((spot 2 1 ∷ spot 3 1 ∷ []) ∷ (spot 1 1 ∷ []) ∷ []) h));
-  descending = λ h. descending (ap rules (only_round ((spot 1 1 ∷ []) ∷ (spot 3 1 ∷ spot 2 1 ∷ []) ∷ []) h));
+  turned = λ h. turned (ap rules (only_round ((result_variable 2 1 ∷ result_variable 3 1 ∷ []) ∷ (result_variable 1 1 ∷ []) ∷ []) h));
+  descending = λ h. descending (ap rules (only_round ((result_variable 1 1 ∷ []) ∷ (result_variable 3 1 ∷ result_variable 2 1 ∷ []) ∷ []) h));
   taken_apart = λ h. taken_apart
-      (ap rules (only_round ((spot 1 1 ∷ []) ∷ (spot 2 1 ∷ []) ∷ (spot 3 1 ∷ []) ∷ []) h));
-  together = λ h. together (ap rules (only_round ((spot 1 1 ∷ spot 2 1 ∷ spot 3 1 ∷ []) ∷ []) h));
-  lacking = λ h. lacking (ap rules (only_round ((spot 1 1 ∷ []) ∷ []) h));
+      (ap rules (only_round ((result_variable 1 1 ∷ []) ∷ (result_variable 2 1 ∷ []) ∷ (result_variable 3 1 ∷ []) ∷ []) h));
+  together = λ h. together (ap rules (only_round ((result_variable 1 1 ∷ result_variable 2 1 ∷ result_variable 3 1 ∷ []) ∷ []) h));
+  lacking = λ h. lacking (ap rules (only_round ((result_variable 1 1 ∷ []) ∷ []) h));
   each_alone = record {
     positions = (1 ∷ []) ∷ (2 ∷ []) ∷ (0 ∷ []) ∷ [];
     listing = listing-same Backward (Flow last_first) backward_flows flows_backward 3
         ((1 ∷ []) ∷ (2 ∷ []) ∷ (0 ∷ []) ∷ []) told.backward;
-    spots = refl;
+    result_variables = refl;
   };
-  by_rules = λ h. by_rules (ap rules (only_each ((spot 1 1 ∷ []) ∷ (spot 2 1 ∷ []) ∷ (spot 3 1 ∷ []) ∷ []) h));
-  ends_first = λ h. ends_first (ap rules (only_each ((spot 3 1 ∷ []) ∷ (spot 1 1 ∷ []) ∷ (spot 2 1 ∷ []) ∷ []) h));
+  by_rules = λ h. by_rules (ap rules (only_each ((result_variable 1 1 ∷ []) ∷ (result_variable 2 1 ∷ []) ∷ (result_variable 3 1 ∷ []) ∷ []) h));
+  ends_first = λ h. ends_first (ap rules (only_each ((result_variable 3 1 ∷ []) ∷ (result_variable 1 1 ∷ []) ∷ (result_variable 2 1 ∷ []) ∷ []) h));
 }
   where
-    only_round : (cs : List (List Spot)) → AreComponents ring all_live all_read cs
-        → cs ≡ (spot 1 1 ∷ []) ∷ (spot 2 1 ∷ spot 3 1 ∷ []) ∷ []
+    only_round : (cs : List (List ResultVariable)) → AreComponents ring all_live all_read cs
+        → cs ≡ (result_variable 1 1 ∷ []) ∷ (result_variable 2 1 ∷ result_variable 3 1 ∷ []) ∷ []
     only_round = only ring Loop loop_flows flows_loop refl ((0 ∷ []) ∷ (1 ∷ 2 ∷ []) ∷ []) told.loop
 
-    only_each : (cs : List (List Spot)) → AreComponents last_first all_live all_read cs
-        → cs ≡ (spot 2 1 ∷ []) ∷ (spot 3 1 ∷ []) ∷ (spot 1 1 ∷ []) ∷ []
+    only_each : (cs : List (List ResultVariable)) → AreComponents last_first all_live all_read cs
+        → cs ≡ (result_variable 2 1 ∷ []) ∷ (result_variable 3 1 ∷ []) ∷ (result_variable 1 1 ∷ []) ∷ []
     only_each =
         only last_first Backward backward_flows flows_backward refl ((1 ∷ []) ∷ (2 ∷ []) ∷ (0 ∷ []) ∷ []) told.backward
 

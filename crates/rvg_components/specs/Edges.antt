@@ -3,7 +3,7 @@ use Rattle.std.specs.Prelude.{ℕ, zero, suc, ◌+◌, Bool, false, cond, List, 
 use Rattle.model.specs.Programs.{Program}
 use Rattle.model.specs.Paths.{pre}
 use Rattle.guard_prep.specs.Prepared.{Prepared}
-use Rattle.proof_tree.specs.proof_setting.Setting.{bent_at}
+use Rattle.cert_types.specs.cert_program.Setting.{nonlinear_at}
 use Rattle.local_size.specs.LocalAnswers.{local_answer_of}
 use Rattle.local_size.specs.declared.answer.LocalAnswer.{LocalAnswer}
 use Rattle.rvg_components.specs.Listing.{is_flagged}
@@ -13,7 +13,7 @@ use Rattle.rvg_components.specs.Reading.{answer_reads}
 abbrev pub edges_from : ℕ → ℕ → List ℕ → List (ℕ × ℕ)
 edges_from j to before = map (λ first. (first + j, to)) before
 
--- so from each of the places that are read
+-- the same from each of the places that are read
 abbrev pub edges_to : ℕ → List ℕ → List ℕ → List (ℕ × ℕ)
 edges_to to before [] = []
 edges_to to before (j ∷ js) = edges_from j to before ++ edges_to to before js
@@ -22,7 +22,7 @@ edges_to to before (j ∷ js) = edges_from j to before ++ edges_to to before js
 abbrev pub edges_into : Prepared → List ℕ → ℕ → ℕ → List LocalAnswer → List (ℕ × ℕ)
 edges_into m before first i [] = []
 edges_into m before first i (a ∷ answers) =
-    edges_to (first + i) before (answer_reads (bent_at m.polys i) (local_answer_of a) m.left)
+    edges_to (first + i) before (answer_reads (nonlinear_at m.polys i) (local_answer_of a) m.left)
     ++ edges_into m before first (suc i) answers
 
 -- the first place of a rule
@@ -44,7 +44,7 @@ pub record FlowInputs : Type 0 where
 
 -- of a rule that isn't there nothing is known
 abbrev pub no_rows : Prepared
-no_rows = record { left = 0; unknowns = 0; rows = []; news = []; bent = []; polys = [] }
+no_rows = record { left = 0; unknowns = 0; rows = []; new_values = []; nonlinear = []; polys = [] }
 
 -- the edges to the places of the rule at a position, numbered from 0
 abbrev pub edges_at : Program → FlowInputs → ℕ → List (ℕ × ℕ)

@@ -1,4 +1,4 @@
--- What is known of each rule, as the code keeps it.
+-- The data of each rule, as the code stores it.
 use Rattle.std.specs.Prelude.{◌≡◌, ℕ, ◌+◌, ◌<◌, ◌^◌, Bool, true, false, [], List, Vec, map, length, All, slice_index_or}
 use Rattle.std.specs.declared.alloc.Global.{Global}
 use Rattle.guard_prep.specs.declared.rule_rows.RuleRows.{RuleRows}
@@ -9,8 +9,8 @@ use Rattle.rvg_components.specs.Edges.{FlowInputs}
 
 -- what is known, as plain data
 abbrev pub flow_inputs_of : List RuleRows → List (Vec LocalAnswer Global) → List Bool → List ℕ → FlowInputs
-flow_inputs_of preps locals live firsts = record {
-  rows = map prepared_of preps;
+flow_inputs_of prepared_rules locals live firsts = record {
+  rows = map prepared_of prepared_rules;
   locals = answer_lists locals;
   live = live;
   firsts = firsts;

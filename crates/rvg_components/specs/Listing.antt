@@ -2,10 +2,10 @@
 use Rattle.std.specs.Prelude.{◌≡◌, ℕ, zero, suc, ◌<◌, Bool, true, false, List, [], map, length, Option, Some, None}
 use Rattle.std.specs.Prelude.{slice_index_or, slice_get}
 use Rattle.model.specs.Programs.{Program, Rule, rule_at, arity_of}
-use Rattle.proof_tree.specs.proof_nodes.Nodes.{Spot}
-use Rattle.proof_tree.specs.proof_nodes.Setting.{Setting}
-use Rattle.proof_tree.specs.proof_nodes.AcceptsSizes.{Up}
-use Rattle.local_size.specs.LocalAnswers.{Local, IsLooseOn, local_answer_of}
+use Rattle.cert_types.specs.cert_rules.Nodes.{ResultVariable}
+use Rattle.cert_types.specs.cert_rules.Setting.{Setting}
+use Rattle.cert_types.specs.cert_rules.AcceptsSizes.{Up}
+use Rattle.local_size.specs.LocalAnswers.{Local, IsUnboundedOn, local_answer_of}
 use Rattle.local_size.specs.declared.answer.LocalAnswer.{LocalAnswer}
 use Rattle.std.specs.Prelude.{Vec}
 use Rattle.std.specs.declared.alloc.Global.{Global}
@@ -13,35 +13,35 @@ use Rattle.guard_prep.specs.its_model.Valid.{IsValid}
 use Rattle.its_graph.specs.Graphs.{IsGraphOf}
 use Rattle.its_graph.specs.declared.graph.Graph.{Graph}
 use Rattle.guard_prep.specs.declared.rule_rows.RuleRows.{RuleRows}
-use Rattle.proof_tree.specs.Composing.{AreRowsOf}
+use Rattle.cert_types.specs.Composing.{AreRowsOf}
 use Rattle.its_graph.specs.Components.{IsListing}
-use Rattle.proof_tree.specs.Views.{spot_of}
+use Rattle.cert_types.specs.Views.{result_variable_of}
 use Rattle.rvg_components.specs.declared.component.Component.{Component}
-use Rattle.rvg_components.specs.Flows.{Locals, value_flows, live_spots, loops}
+use Rattle.rvg_components.specs.Flows.{Locals, value_flows, live_result_variables, loops}
 
 -- the spot at a position
-abbrev pub spot_at : List Spot → ℕ → Spot
-spot_at spots i = slice_index_or spots i (record { rule = 0; place = 0 })
+abbrev pub result_variable_at : List ResultVariable → ℕ → ResultVariable
+result_variable_at result_variables i = slice_index_or result_variables i (record { rule = 0; place = 0 })
 
 -- a value flows from the place at one position of a list into that at another
-pub record HasFlow (s : Setting) (local : Locals) (spots : List Spot) (a b : ℕ) : Type 0 where
-  pub from : a < length spots
-  pub to : b < length spots
-  pub flow : value_flows s local (spot_at spots a) (spot_at spots b) ≡ true
+pub record HasFlow (s : Setting) (local : Locals) (result_variables : List ResultVariable) (a b : ℕ) : Type 0 where
+  pub from : a < length result_variables
+  pub to : b < length result_variables
+  pub flow : value_flows s local (result_variable_at result_variables a) (result_variable_at result_variables b) ≡ true
 
 -- the strongly connected components of the places of live rules, by the positions of these among all of them in order:
 -- each comes after all from which values flow into it, and among those that may come next the one with the least rule
 -- and place comes first; the members of each ascend
-pub record AreComponents (s : Setting) (is_live : ℕ → Bool) (local : Locals) (components : List (List Spot))
+pub record AreComponents (s : Setting) (is_live : ℕ → Bool) (local : Locals) (components : List (List ResultVariable))
     : Type 0 where
   pub positions : List (List ℕ)
-  pub listing : IsListing (HasFlow s local (live_spots s.program is_live)) (length (live_spots s.program is_live))
+  pub listing : IsListing (HasFlow s local (live_result_variables s.program is_live)) (length (live_result_variables s.program is_live))
       positions
-  pub spots : components ≡ map (map (spot_at (live_spots s.program is_live))) positions
+  pub result_variables : components ≡ map (map (result_variable_at (live_result_variables s.program is_live))) positions
 
 -- the members of a component as plain data
-abbrev pub members_of : Component → List Spot
-members_of c = map spot_of c.members.items
+abbrev pub members_of : Component → List ResultVariable
+members_of c = map result_variable_of c.members.items
 
 -- it says whether it loops
 abbrev pub SaysWhetherItLoops : Setting → Locals → Component → Type 0
@@ -49,7 +49,7 @@ SaysWhetherItLoops s local c = c.looping ≡ loops s local (members_of c)
 
 -- the answer at a position of a list of answers, as plain data; where there is none, nothing flows into the place
 abbrev pub local_in : Option LocalAnswer → Local
-local_in None = IsLooseOn Up [] (record { parts = []; den = 0 })
+local_in None = IsUnboundedOn Up [] (record { parts = []; den = 0 })
 local_in (Some a) = local_answer_of a
 
 -- the answers for the places of a rule, and for its place with a number, from 1, as lists hold them
@@ -73,12 +73,12 @@ pub record AreLocalsFor (p : Program) (locals : List (List LocalAnswer)) (live :
   pub places : (t : ℕ) (r : Rule) → rule_at p t ≡ Some r → is_flagged live t ≡ true
       → length (answers_for locals t) ≡ arity_of p r.target
 
--- what is handed in: the graph and the rows of a valid program, with answers and flags for its rules
-pub record AreAnswersOfProgram (p : Program) (g : Graph) (preps : List RuleRows) (locals : List (List LocalAnswer))
+-- the arguments: the graph and the rows of a valid program, with answers and flags for its rules
+pub record AreAnswersOfProgram (p : Program) (g : Graph) (prepared_rules : List RuleRows) (locals : List (List LocalAnswer))
     (live : List Bool) : Type 0 where
   pub valid : IsValid p
   pub graph : IsGraphOf g p
-  pub rows : AreRowsOf preps p
+  pub rows : AreRowsOf prepared_rules p
   pub locals_for : AreLocalsFor p locals live
 
 -- lists of answers as plain lists

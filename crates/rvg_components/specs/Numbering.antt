@@ -1,7 +1,7 @@
 -- The places of live rules, numbered in the order of rules and places.
 use Rattle.std.specs.Prelude.{ℕ, suc, ◌+◌, Bool, cond, List, [], ◌∷◌, ◌++◌, map, length}
 use Rattle.std.specs.List.{range_with_len}
-use Rattle.proof_tree.specs.proof_nodes.Nodes.{Spot}
+use Rattle.cert_types.specs.cert_rules.Nodes.{ResultVariable}
 use Rattle.local_size.specs.declared.answer.LocalAnswer.{LocalAnswer}
 
 -- how many places each rule has: if it is live, as many as answers, and else none
@@ -15,11 +15,11 @@ abbrev pub firsts_from : ℕ → List ℕ → List ℕ
 firsts_from k [] = []
 firsts_from k (w ∷ ws) = k ∷ firsts_from (k + w) ws
 
--- so many places of a rule, from one on
-abbrev pub places_of : ℕ → ℕ → ℕ → List Spot
+-- this many places of a rule, from one on
+abbrev pub places_of : ℕ → ℕ → ℕ → List ResultVariable
 places_of t i n = map (λ j. record { rule = t; place = j }) (range_with_len i n)
 
 -- the places of rules with these widths, the first of which is rule t
-abbrev pub spots_by_width : ℕ → List ℕ → List Spot
-spots_by_width t [] = []
-spots_by_width t (w ∷ ws) = places_of t 1 w ++ spots_by_width (suc t) ws
+abbrev pub result_variables_by_width : ℕ → List ℕ → List ResultVariable
+result_variables_by_width t [] = []
+result_variables_by_width t (w ∷ ws) = places_of t 1 w ++ result_variables_by_width (suc t) ws

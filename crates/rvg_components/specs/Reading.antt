@@ -1,11 +1,11 @@
 -- Which places an answer reads, as lists.
 use Rattle.std.specs.Prelude.{ℕ, List, [], ◌++◌, Option}
 use Rattle.model.specs.Polynomials.{Polynomial}
-use Rattle.proof_tree.specs.Reading.{places_read}
-use Rattle.local_size.specs.LocalAnswers.{Local, HasBound, IsLooseOn, HasTripped}
+use Rattle.cert_types.specs.Reading.{places_read}
+use Rattle.local_size.specs.LocalAnswers.{Local, HasBound, IsUnboundedOn, HasTripped}
 
 -- those that an answer reads: those of the up arm and then those of the low arm; what is loose or tripped has no arms
 abbrev pub answer_reads : Option Polynomial → Local → ℕ → List ℕ
 answer_reads poly (HasBound l) left = places_read poly l.up left ++ places_read poly l.low left
-answer_reads poly (IsLooseOn side ray kept) left = []
+answer_reads poly (IsUnboundedOn side ray kept) left = []
 answer_reads poly (HasTripped t) left = []

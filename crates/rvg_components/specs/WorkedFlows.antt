@@ -1,43 +1,43 @@
--- Which places are nodes, where values flow, what loops, and the components in their order, as they were worked out by
--- hand of small programs.
+-- Worked values, for small programs, of which places are nodes, where values flow, what loops, and of the components in
+-- their order.
 use Rattle.std.specs.Prelude.{◌≡◌, ℕ, ◌==◌, Bool, true, false, cond, [], ◌∷◌, pos, negsuc, Some}
 use Rattle.model.specs.Terms.{Variable}
 use Rattle.model.specs.WorkedRuns.{countdown}
-use Rattle.proof_tree.specs.proof_nodes.Nodes.{Spot, Poly}
-use Rattle.proof_tree.specs.proof_nodes.AcceptsSizes.{Up}
-use Rattle.proof_tree.specs.proof_nodes.Setting.{Setting}
-use Rattle.proof_tree.specs.proof_nodes.WorkedSettings.{counting, program_with, rule_over}
-use Rattle.proof_tree.specs.proof_nodes.Worked.{arm}
-use Rattle.proof_tree.specs.declared.answer.Question.TheVariants as asked
-use Rattle.poly_terms.specs.linear_forms.declared.trip_cause.TripCause.TheVariants as causes
-use Rattle.local_size.specs.LocalAnswers.{Local, HasBound, IsLooseOn, HasTripped}
-use Rattle.rvg_components.specs.Flows.{Locals, value_flows, live_spots, loops}
+use Rattle.cert_types.specs.cert_rules.Nodes.{ResultVariable, Poly}
+use Rattle.cert_types.specs.cert_rules.AcceptsSizes.{Up}
+use Rattle.cert_types.specs.cert_rules.Setting.{Setting}
+use Rattle.cert_types.specs.cert_rules.WorkedSettings.{counting, program_with, rule_over}
+use Rattle.cert_types.specs.cert_rules.Worked.{side_bound}
+use Rattle.cert_types.specs.declared.answer.Question.TheVariants as asked
+use Rattle.poly_terms.specs.linear_forms.declared.limit_cause.LimitCause.TheVariants as causes
+use Rattle.local_size.specs.LocalAnswers.{Local, HasBound, IsUnboundedOn, HasTripped}
+use Rattle.rvg_components.specs.Flows.{Locals, value_flows, live_result_variables, loops}
 use Rattle.rvg_components.specs.Listing.{AreComponents}
 
 -- a place after a rule
-abbrev pub spot : ℕ → ℕ → Spot
-spot t i = record { rule = t; place = i }
+abbrev pub result_variable : ℕ → ℕ → ResultVariable
+result_variable t i = record { rule = t; place = i }
 
 -- answers whose arms read the place before: both, the up arm, the low arm, and none
 abbrev pub reads_both : Local
-reads_both = HasBound (record { up = arm (pos 1) (pos 0) []; low = arm (negsuc 0) (pos 0) [] })
+reads_both = HasBound (record { up = side_bound (pos 1) (pos 0) []; low = side_bound (negsuc 0) (pos 0) [] })
 
 abbrev pub reads_up : Local
-reads_up = HasBound (record { up = arm (pos 1) (pos 0) []; low = arm (pos 0) (pos 7) [] })
+reads_up = HasBound (record { up = side_bound (pos 1) (pos 0) []; low = side_bound (pos 0) (pos 7) [] })
 
 abbrev pub reads_low : Local
-reads_low = HasBound (record { up = arm (pos 0) (pos 7) []; low = arm (negsuc 0) (pos 0) [] })
+reads_low = HasBound (record { up = side_bound (pos 0) (pos 7) []; low = side_bound (negsuc 0) (pos 0) [] })
 
 abbrev pub reads_none : Local
-reads_none = HasBound (record { up = arm (pos 0) (pos 7) []; low = arm (pos 0) (pos 7) [] })
+reads_none = HasBound (record { up = side_bound (pos 0) (pos 7) []; low = side_bound (pos 0) (pos 7) [] })
 
 -- an answer of the polynomial itself
 abbrev pub reads_poly : Local
 reads_poly = HasBound (record { up = Poly; low = Poly })
 
 -- answers without arms
-abbrev pub is_loose : Local
-is_loose = IsLooseOn Up (pos 1 ∷ []) (record { parts = []; den = 0 })
+abbrev pub is_unbounded : Local
+is_unbounded = IsUnboundedOn Up (pos 1 ∷ []) (record { parts = []; den = 0 })
 
 abbrev pub has_tripped : Local
 has_tripped = HasTripped (record { question = asked.Local 2 1; cause = causes.Scale })
@@ -61,26 +61,26 @@ squared = record counting { poly = λ t i. Some (record { coef = pos 1; vars = 0
 -- but not back. It flows by either arm that reads the place before, also by a polynomial, and by no other one; into a
 -- place without arms nothing flows
 pub record FlowsAreWorkedOut : Type 0 where
-  pub onward : value_flows counting all_read (spot 1 1) (spot 2 1) ≡ true
-  pub back : value_flows counting all_read (spot 2 1) (spot 1 1) ≡ false
-  pub into_itself : value_flows counting all_read (spot 2 1) (spot 2 1) ≡ true
-  pub not_into_itself : value_flows counting all_read (spot 1 1) (spot 1 1) ≡ false
-  pub by_up : value_flows counting (after_2 reads_up) (spot 1 1) (spot 2 1) ≡ true
-  pub by_low : value_flows counting (after_2 reads_low) (spot 1 1) (spot 2 1) ≡ true
-  pub by_none : value_flows counting (after_2 reads_none) (spot 1 1) (spot 2 1) ≡ false
-  pub by_poly : value_flows squared (after_2 reads_poly) (spot 1 1) (spot 2 1) ≡ true
-  pub other_place : value_flows counting all_read (spot 1 2) (spot 2 1) ≡ false
-  pub other_place_by_poly : value_flows squared (after_2 reads_poly) (spot 1 2) (spot 2 1) ≡ false
-  pub into_loose : value_flows counting (after_2 is_loose) (spot 1 1) (spot 2 1) ≡ false
-  pub into_tripped : value_flows counting (after_2 has_tripped) (spot 1 1) (spot 2 1) ≡ false
+  pub onward : value_flows counting all_read (result_variable 1 1) (result_variable 2 1) ≡ true
+  pub back : value_flows counting all_read (result_variable 2 1) (result_variable 1 1) ≡ false
+  pub into_itself : value_flows counting all_read (result_variable 2 1) (result_variable 2 1) ≡ true
+  pub not_into_itself : value_flows counting all_read (result_variable 1 1) (result_variable 1 1) ≡ false
+  pub by_up : value_flows counting (after_2 reads_up) (result_variable 1 1) (result_variable 2 1) ≡ true
+  pub by_low : value_flows counting (after_2 reads_low) (result_variable 1 1) (result_variable 2 1) ≡ true
+  pub by_none : value_flows counting (after_2 reads_none) (result_variable 1 1) (result_variable 2 1) ≡ false
+  pub by_poly : value_flows squared (after_2 reads_poly) (result_variable 1 1) (result_variable 2 1) ≡ true
+  pub other_place : value_flows counting all_read (result_variable 1 2) (result_variable 2 1) ≡ false
+  pub other_place_by_poly : value_flows squared (after_2 reads_poly) (result_variable 1 2) (result_variable 2 1) ≡ false
+  pub into_unbounded : value_flows counting (after_2 is_unbounded) (result_variable 1 1) (result_variable 2 1) ≡ false
+  pub into_tripped : value_flows counting (after_2 has_tripped) (result_variable 1 1) (result_variable 2 1) ≡ false
 
 -- the places of live rules alone, in the order of rules and then of places
 pub record LivePlacesAreWorkedOut : Type 0 where
-  pub all : live_spots counting.program all_live ≡ spot 1 1 ∷ spot 2 1 ∷ []
-  pub first : live_spots counting.program (λ t. t == 1) ≡ spot 1 1 ∷ []
-  pub second : live_spots counting.program (λ t. t == 2) ≡ spot 2 1 ∷ []
-  pub none : live_spots counting.program (λ t. false) ≡ []
-  pub two_places : live_spots countdown all_live ≡ spot 1 1 ∷ spot 1 2 ∷ spot 2 1 ∷ spot 2 2 ∷ []
+  pub all : live_result_variables counting.program all_live ≡ result_variable 1 1 ∷ result_variable 2 1 ∷ []
+  pub first : live_result_variables counting.program (λ t. t == 1) ≡ result_variable 1 1 ∷ []
+  pub second : live_result_variables counting.program (λ t. t == 2) ≡ result_variable 2 1 ∷ []
+  pub none : live_result_variables counting.program (λ t. false) ≡ []
+  pub two_places : live_result_variables countdown all_live ≡ result_variable 1 1 ∷ result_variable 1 2 ∷ result_variable 2 1 ∷ result_variable 2 2 ∷ []
 
 -- k(A) -> l(A), l(A) -> m(A), and m(A) -> l(A): the last two go round
 abbrev pub ring : Setting
@@ -93,12 +93,12 @@ ring = record counting {
 -- arms; of those that go round none does alone, and both do together
 pub record LoopsAreWorkedOut : Type 0 where
   pub none : loops counting all_read [] ≡ false
-  pub first : loops counting all_read (spot 1 1 ∷ []) ≡ false
-  pub second : loops counting all_read (spot 2 1 ∷ []) ≡ true
-  pub loose : loops counting (after_2 is_loose) (spot 2 1 ∷ []) ≡ false
-  pub one_of_two : loops ring all_read (spot 2 1 ∷ []) ≡ false
-  pub other_of_two : loops ring all_read (spot 3 1 ∷ []) ≡ false
-  pub two : loops ring all_read (spot 2 1 ∷ spot 3 1 ∷ []) ≡ true
+  pub first : loops counting all_read (result_variable 1 1 ∷ []) ≡ false
+  pub second : loops counting all_read (result_variable 2 1 ∷ []) ≡ true
+  pub unbounded : loops counting (after_2 is_unbounded) (result_variable 2 1 ∷ []) ≡ false
+  pub one_of_two : loops ring all_read (result_variable 2 1 ∷ []) ≡ false
+  pub other_of_two : loops ring all_read (result_variable 3 1 ∷ []) ≡ false
+  pub two : loops ring all_read (result_variable 2 1 ∷ result_variable 3 1 ∷ []) ≡ true
 
 -- l(A) -> m(A), k(A) -> m(A), and k(A) -> l(A): a value flows from the last place into the first, and else nowhere
 abbrev pub last_first : Setting
@@ -110,16 +110,16 @@ last_first = record counting {
 -- the components of the first: the place that comes in, and then the two that go round together; in no other order, nor
 -- taken apart, nor without one of them. Those of the second: each place for itself, but the first one last
 pub record FlowComponentsAreWorkedOut : Type 0 where
-  pub round : AreComponents ring all_live all_read ((spot 1 1 ∷ []) ∷ (spot 2 1 ∷ spot 3 1 ∷ []) ∷ [])
-  pub turned : ¬ (AreComponents ring all_live all_read ((spot 2 1 ∷ spot 3 1 ∷ []) ∷ (spot 1 1 ∷ []) ∷ []))
-  pub descending : ¬ (AreComponents ring all_live all_read ((spot 1 1 ∷ []) ∷ (spot 3 1 ∷ spot 2 1 ∷ []) ∷ []))
+  pub round : AreComponents ring all_live all_read ((result_variable 1 1 ∷ []) ∷ (result_variable 2 1 ∷ result_variable 3 1 ∷ []) ∷ [])
+  pub turned : ¬ (AreComponents ring all_live all_read ((result_variable 2 1 ∷ result_variable 3 1 ∷ []) ∷ (result_variable 1 1 ∷ []) ∷ []))
+  pub descending : ¬ (AreComponents ring all_live all_read ((result_variable 1 1 ∷ []) ∷ (result_variable 3 1 ∷ result_variable 2 1 ∷ []) ∷ []))
   pub taken_apart : ¬ (AreComponents ring all_live all_read
-      ((spot 1 1 ∷ []) ∷ (spot 2 1 ∷ []) ∷ (spot 3 1 ∷ []) ∷ []))
-  pub together : ¬ (AreComponents ring all_live all_read ((spot 1 1 ∷ spot 2 1 ∷ spot 3 1 ∷ []) ∷ []))
-  pub lacking : ¬ (AreComponents ring all_live all_read ((spot 1 1 ∷ []) ∷ []))
+      ((result_variable 1 1 ∷ []) ∷ (result_variable 2 1 ∷ []) ∷ (result_variable 3 1 ∷ []) ∷ []))
+  pub together : ¬ (AreComponents ring all_live all_read ((result_variable 1 1 ∷ result_variable 2 1 ∷ result_variable 3 1 ∷ []) ∷ []))
+  pub lacking : ¬ (AreComponents ring all_live all_read ((result_variable 1 1 ∷ []) ∷ []))
   pub each_alone : AreComponents last_first all_live all_read
-      ((spot 2 1 ∷ []) ∷ (spot 3 1 ∷ []) ∷ (spot 1 1 ∷ []) ∷ [])
+      ((result_variable 2 1 ∷ []) ∷ (result_variable 3 1 ∷ []) ∷ (result_variable 1 1 ∷ []) ∷ [])
   pub by_rules : ¬ (AreComponents last_first all_live all_read
-      ((spot 1 1 ∷ []) ∷ (spot 2 1 ∷ []) ∷ (spot 3 1 ∷ []) ∷ []))
+      ((result_variable 1 1 ∷ []) ∷ (result_variable 2 1 ∷ []) ∷ (result_variable 3 1 ∷ []) ∷ []))
   pub ends_first : ¬ (AreComponents last_first all_live all_read
-      ((spot 3 1 ∷ []) ∷ (spot 1 1 ∷ []) ∷ (spot 2 1 ∷ []) ∷ []))
+      ((result_variable 3 1 ∷ []) ∷ (result_variable 1 1 ∷ []) ∷ (result_variable 2 1 ∷ []) ∷ []))

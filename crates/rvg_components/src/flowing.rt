@@ -11,11 +11,11 @@ ghost use Rattle.rvg_components.specs.Edges.{live_edges_at, edges_below};
 ghost use Rattle.rvg_components.specs.Fitting.{flow_inputs_of, IsFitting};
 
 use crate::reading::answer_places;
+use cert_types::nonlinear_update;
 use guard_prep::RuleRows;
 use its_graph::Graph;
 use local_size::LocalAnswer;
 use model::Memory;
-use proof_tree::bent_update;
 use std::alloc::Global;
 
 // Appends the edges to a place from a place of each rule with one of these first places.
@@ -30,7 +30,7 @@ fn push_from(edges: &mut Vec<(u32, u32)>, place: u32, to: u32, before: &[u32]) -
     Ok(())
 }
 
-// So from each of the places that are read.
+// The same from each of the places that are read.
 fn push_to(
     edges: &mut Vec<(u32, u32)>,
     to: u32,
@@ -51,20 +51,20 @@ fn push_to(
 fn push_into(
     alloc: Global,
     edges: &mut Vec<(u32, u32)>,
-    prep: &RuleRows,
+    prepared_rule: &RuleRows,
     before: &[u32],
     first: u32,
     answers: &[LocalAnswer],
 ) -> Result<(), Memory>
-    requires left_few { prep.now.left < 2 ^ 31 }
+    requires left_few { prepared_rule.now.left < 2 ^ 31 }
     requires first_few { first + length answers.now < 2 ^ 31 }
     requires before_few { All (λ first. first < 2 ^ 31) before.now }
     ensures { OnOk result (edges.new.items
-        ≡ edges.old.items ++ edges_into (prepared_of prep.now) before.now first 0 answers.now) }
+        ≡ edges.old.items ++ edges_into (prepared_of prepared_rule.now) before.now first 0 answers.now) }
 {
     for (position, answer) in answers.iter().enumerate() {
-        let poly = bent_update(prep, position);
-        let places = answer_places(alloc, answer, poly, prep.left)?;
+        let poly = nonlinear_update(prepared_rule, position);
+        let places = answer_places(alloc, answer, poly, prepared_rule.left)?;
         push_to(edges, first + position as u32, before, &places)?;
     }
     Ok(())
@@ -109,17 +109,17 @@ fn push_rule(
     alloc: Global,
     edges: &mut Vec<(u32, u32)>,
     g: &Graph,
-    preps: &[RuleRows],
+    prepared_rules: &[RuleRows],
     locals: &[Vec<LocalAnswer>],
     live: &[bool],
     firsts: &[u32],
     position: usize,
 ) -> Result<(), Memory>
     requires graph { (p : Program) × IsGraphOf g.now p }
-    requires fitting { IsFitting (flow_inputs_of preps.now locals.now live.now firsts.now) (length g.now.links.items) }
+    requires fitting { IsFitting (flow_inputs_of prepared_rules.now locals.now live.now firsts.now) (length g.now.links.items) }
     requires within { position < length live.now }
     ensures { OnOk result ((p : Program) → IsGraphOf g.now p → edges.new.items ≡ edges.old.items
-        ++ live_edges_at p (flow_inputs_of preps.now locals.now live.now firsts.now) position) }
+        ++ live_edges_at p (flow_inputs_of prepared_rules.now locals.now live.now firsts.now) position) }
 {
     if !live[position] {
         return Ok(());
@@ -128,7 +128,7 @@ fn push_rule(
     push_into(
         alloc,
         edges,
-        &preps[position],
+        &prepared_rules[position],
         &before,
         firsts[position],
         &locals[position],
@@ -136,23 +136,32 @@ fn push_rule(
 }
 
 /// The edges along which values flow, between the numbers of places: from each place of a rule that can come just
-/// before another to each place of that one whose answer reads it, where both are live.
+/// before another to each place of that one whose answer reads it, where both rules are live.
 pub(crate) fn edges_of(
     alloc: Global,
     g: &Graph,
-    preps: &[RuleRows],
+    prepared_rules: &[RuleRows],
     locals: &[Vec<LocalAnswer>],
     live: &[bool],
     firsts: &[u32],
 ) -> Result<Vec<(u32, u32)>, Memory>
     requires graph { (p : Program) × IsGraphOf g.now p }
-    requires fitting { IsFitting (flow_inputs_of preps.now locals.now live.now firsts.now) (length g.now.links.items) }
+    requires fitting { IsFitting (flow_inputs_of prepared_rules.now locals.now live.now firsts.now) (length g.now.links.items) }
     ensures { IfOk result (λ edges. (p : Program) → IsGraphOf g.now p → edges.items
-        ≡ edges_below p (flow_inputs_of preps.now locals.now live.now firsts.now) (length live.now)) }
+        ≡ edges_below p (flow_inputs_of prepared_rules.now locals.now live.now firsts.now) (length live.now)) }
 {
     let mut edges = Vec::new(alloc);
     for position in 0..live.len() {
-        push_rule(alloc, &mut edges, g, preps, locals, live, firsts, position)?;
+        push_rule(
+            alloc,
+            &mut edges,
+            g,
+            prepared_rules,
+            locals,
+            live,
+            firsts,
+            position,
+        )?;
     }
     Ok(edges)
 }

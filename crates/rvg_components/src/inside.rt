@@ -1,14 +1,14 @@
 //! Which components have an edge inside.
 
 ghost use Rattle.std.specs.Prelude.{◌≡◌, ℕ, ◌<◌, map, length, All, IfOk, replicate, false};
-ghost use Rattle.proof_tree.specs.Views.{spot_of};
+ghost use Rattle.cert_types.specs.Views.{result_variable_of};
 ghost use Rattle.its_graph.specs.Groups.{items_of};
-ghost use Rattle.rvg_components.specs.Listing.{members_of, spot_at};
+ghost use Rattle.rvg_components.specs.Listing.{members_of, result_variable_at};
 ghost use Rattle.rvg_components.specs.Inside.{marked, has_inside};
 
 use crate::component::Component;
+use cert_types::ResultVariable;
 use model::Memory;
-use proof_tree::Spot;
 use std::alloc::Global;
 
 // Sets the flags of nodes with an edge to themselves.
@@ -50,13 +50,17 @@ fn is_looping(own: &[bool], nodes: &[u32]) -> bool
 }
 
 // The places with these numbers.
-fn places_at(alloc: Global, spots: &[Spot], nodes: &[u32]) -> Result<Vec<Spot>, Memory>
-    requires { All (λ a. a < length spots.now) nodes.now }
-    ensures { IfOk result (λ places. map spot_of places.items ≡ map (spot_at (map spot_of spots.now)) nodes.now) }
+fn places_at(
+    alloc: Global,
+    result_variables: &[ResultVariable],
+    nodes: &[u32],
+) -> Result<Vec<ResultVariable>, Memory>
+    requires { All (λ a. a < length result_variables.now) nodes.now }
+    ensures { IfOk result (λ places. map result_variable_of places.items ≡ map (result_variable_at (map result_variable_of result_variables.now)) nodes.now) }
 {
     let mut places = Vec::with_capacity(alloc, nodes.len())?;
     for node in nodes {
-        places.push(spots[*node as usize])?;
+        places.push(result_variables[*node as usize])?;
     }
     Ok(places)
 }
@@ -64,20 +68,20 @@ fn places_at(alloc: Global, spots: &[Spot], nodes: &[u32]) -> Result<Vec<Spot>, 
 /// The components as places, each with whether it loops.
 pub(crate) fn placed(
     alloc: Global,
-    spots: &[Spot],
+    result_variables: &[ResultVariable],
     own: &[bool],
     components: &[Vec<u32>],
 ) -> Result<Vec<Component>, Memory>
-    requires one_each { length own.now ≡ length spots.now }
-    requires within { All (λ c. All (λ a. a < length spots.now) c.items) components.now }
+    requires one_each { length own.now ≡ length result_variables.now }
+    requires within { All (λ c. All (λ a. a < length result_variables.now) c.items) components.now }
     ensures members { IfOk result (λ found. map members_of found.items
-        ≡ map (map (spot_at (map spot_of spots.now))) (map items_of components.now)) }
+        ≡ map (map (result_variable_at (map result_variable_of result_variables.now))) (map items_of components.now)) }
     ensures looping { IfOk result (λ found. map (λ c. c.looping) found.items
         ≡ map (has_inside own.now) (map items_of components.now)) }
 {
     let mut found = Vec::with_capacity(alloc, components.len())?;
     for nodes in components {
-        let members = places_at(alloc, spots, nodes)?;
+        let members = places_at(alloc, result_variables, nodes)?;
         let looping = is_looping(own, nodes);
         found.push(Component { members, looping })?;
     }

@@ -1,6 +1,8 @@
-//! The graph of the places of live rules, along which values flow, and its components in the order in which their sizes
-//! can be found.
-//! Contract to the layer above: the components are the strongly connected ones, each after all that it depends on.
+//! The result-variable graph: its nodes are the places of live rules, its edges the flow of values given by local
+//! bounds; and its strongly connected components in the order in which their sizes can be found.
+//!
+//! Builds on `its_graph` and `local_size`. Main guarantee: the components are exactly the strongly connected ones, each
+//! after all those that it depends on.
 #![tactic(auto)]
 
 mod component;

@@ -4,8 +4,8 @@ ghost use Rattle.std.specs.Prelude.{map, All, IfOk};
 ghost use Rattle.model.specs.Programs.{Program};
 ghost use Rattle.guard_prep.specs.its_model.Valid.{IsValid};
 ghost use Rattle.its_graph.specs.Graphs.{IsGraphOf};
-ghost use Rattle.proof_tree.specs.proof_setting.Setting.{setting_of};
-ghost use Rattle.proof_tree.specs.Composing.{AreRowsOf};
+ghost use Rattle.cert_types.specs.cert_program.Setting.{setting_of};
+ghost use Rattle.cert_types.specs.Composing.{AreRowsOf};
 ghost use Rattle.rvg_components.specs.Listing.{AreComponents, AreLocalsFor, SaysWhetherItLoops, is_flagged, local_from};
 ghost use Rattle.rvg_components.specs.Listing.{members_of, answer_lists, AreAnswersOfProgram};
 
@@ -29,22 +29,22 @@ use std::alloc::Global;
 pub fn components(
     alloc: Global,
     g: &Graph,
-    preps: &[RuleRows],
+    prepared_rules: &[RuleRows],
     locals: &[Vec<LocalAnswer>],
     live: &[bool],
 ) -> Result<Vec<Component>, Memory>
-    requires { (p : Program) × AreAnswersOfProgram p g.now preps.now (answer_lists locals.now) live.now }
+    requires { (p : Program) × AreAnswersOfProgram p g.now prepared_rules.now (answer_lists locals.now) live.now }
     ensures components { IfOk result (λ found. (p : Program)
-        → AreAnswersOfProgram p g.now preps.now (answer_lists locals.now) live.now
+        → AreAnswersOfProgram p g.now prepared_rules.now (answer_lists locals.now) live.now
         → AreComponents (setting_of p) (is_flagged live.now) (local_from (answer_lists locals.now))
         (map members_of found.items)) }
     ensures looping { IfOk result (λ found. (p : Program)
-        → AreAnswersOfProgram p g.now preps.now (answer_lists locals.now) live.now
+        → AreAnswersOfProgram p g.now prepared_rules.now (answer_lists locals.now) live.now
         → All (SaysWhetherItLoops (setting_of p) (local_from (answer_lists locals.now))) found.items) }
 {
-    let graph = flow_graph(alloc, g, preps, locals, live)?;
-    let nodes = graph.spots.len();
+    let graph = flow_graph(alloc, g, prepared_rules, locals, live)?;
+    let nodes = graph.result_variables.len();
     let components = its_graph::components(alloc, nodes as u32, &graph.edges)?;
     let own = own_edges(alloc, nodes, &graph.edges)?;
-    placed(alloc, &graph.spots, &own, &components)
+    placed(alloc, &graph.result_variables, &own, &components)
 }

@@ -2,16 +2,16 @@
 
 ghost use Rattle.std.specs.Prelude.{◌≡◌, ℕ, ◌++◌, ◌<◌, ◌^◌, cond, map, length, IfOk, OnOk};
 ghost use Rattle.std.specs.List.{sum};
-ghost use Rattle.proof_tree.specs.Views.{spot_of};
+ghost use Rattle.cert_types.specs.Views.{result_variable_of};
 ghost use Rattle.rvg_components.specs.Listing.{answer_lists};
-ghost use Rattle.rvg_components.specs.Numbering.{widths, firsts_from, places_of, spots_by_width};
+ghost use Rattle.rvg_components.specs.Numbering.{widths, firsts_from, places_of, result_variables_by_width};
 
+use cert_types::ResultVariable;
 use local_size::LocalAnswer;
 use model::Memory;
-use proof_tree::Spot;
 use std::alloc::Global;
 
-// So many places, if the rule is live, and else none.
+// This many places, if the rule is live, and else none.
 fn width_of(is_live: bool, count: usize) -> usize
     ensures { result ≡ cond is_live count 0 }
 {
@@ -48,27 +48,34 @@ pub(crate) fn first_places(alloc: Global, widths: &[usize]) -> Result<Vec<u32>, 
     Ok(firsts)
 }
 
-// So many places of a rule, from the first on.
-fn push_places(spots: &mut Vec<Spot>, rule: u32, count: usize) -> Result<(), Memory>
+// This many places of a rule, from the first on.
+fn push_places(
+    result_variables: &mut Vec<ResultVariable>,
+    rule: u32,
+    count: usize,
+) -> Result<(), Memory>
     requires { count < 2 ^ 31 }
-    ensures { OnOk result (map spot_of spots.new.items ≡ map spot_of spots.old.items ++ places_of rule 1 count) }
+    ensures { OnOk result (map result_variable_of result_variables.new.items ≡ map result_variable_of result_variables.old.items ++ places_of rule 1 count) }
 {
     for position in 0..count {
         let place = position as u32 + 1;
-        spots.push(Spot { rule, place })?;
+        result_variables.push(ResultVariable { rule, place })?;
     }
     Ok(())
 }
 
 /// The place with each number.
-pub(crate) fn numbered_places(alloc: Global, widths: &[usize]) -> Result<Vec<Spot>, Memory>
+pub(crate) fn numbered_places(
+    alloc: Global,
+    widths: &[usize],
+) -> Result<Vec<ResultVariable>, Memory>
     requires few { length widths.now < 2 ^ 31 }
     requires sum { sum widths.now < 2 ^ 31 }
-    ensures { IfOk result (λ spots. map spot_of spots.items ≡ spots_by_width 1 widths.now) }
+    ensures { IfOk result (λ result_variables. map result_variable_of result_variables.items ≡ result_variables_by_width 1 widths.now) }
 {
-    let mut spots = Vec::new(alloc);
+    let mut result_variables = Vec::new(alloc);
     for (position, width) in widths.iter().enumerate() {
-        push_places(&mut spots, position as u32 + 1, *width)?;
+        push_places(&mut result_variables, position as u32 + 1, *width)?;
     }
-    Ok(spots)
+    Ok(result_variables)
 }

@@ -1,35 +1,35 @@
 //! Which places an answer reads.
 
 ghost use Rattle.std.specs.Prelude.{◌≡◌, ◌++◌, IfOk, OnOk};
-ghost use Rattle.proof_tree.specs.Composing.{optional_poly};
-ghost use Rattle.proof_tree.specs.Reading.{places_read as places_of};
-ghost use Rattle.proof_tree.specs.Views.{arm_of};
+ghost use Rattle.cert_types.specs.Composing.{optional_poly};
+ghost use Rattle.cert_types.specs.Reading.{places_read as places_of};
+ghost use Rattle.cert_types.specs.Views.{side_bound_of};
 ghost use Rattle.local_size.specs.LocalAnswers.{local_answer_of};
 ghost use Rattle.rvg_components.specs.Reading.{answer_reads};
 
+use cert_types::{SideBound, places_read};
 use local_size::LocalAnswer;
 use model::Memory;
 use poly_terms::Poly;
-use proof_tree::{Arm, places_read};
 use std::alloc::Global;
 
-// Appends the places that an arm reads, of so many.
+// Appends the places that an arm reads, of this many.
 fn push_read(
     alloc: Global,
     places: &mut Vec<u32>,
-    arm: &Arm,
+    side_bound: &SideBound,
     poly: Option<&Poly>,
     left: u32,
 ) -> Result<(), Memory>
     ensures { OnOk result (places.new.items
-        ≡ places.old.items ++ places_of (optional_poly poly.entry) (arm_of arm.now) left) }
+        ≡ places.old.items ++ places_of (optional_poly poly.entry) (side_bound_of side_bound.now) left) }
 {
-    let read = places_read(alloc, arm, poly, left)?;
+    let read = places_read(alloc, side_bound, poly, left)?;
     places.extend_from_slice(&read)
 }
 
-/// The places that an answer reads, of so many, numbered from 0: those of the up arm and then those of the low arm.
-/// What is loose or tripped has no arms. `poly` is the update, where it has degree 2 or more.
+/// The places that an answer reads, of this many, numbered from 0: those of the up arm and then those of the low arm.
+/// An answer that is loose or tripped has no arms. `poly` is the update, if it has degree 2 or more.
 pub(crate) fn answer_places(
     alloc: Global,
     answer: &LocalAnswer,

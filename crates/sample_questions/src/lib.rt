@@ -1,6 +1,8 @@
-//! Questions for tests and for measuring: any parts, which are looked at before they are written, the rank questions of
-//! rings and chains of rules, and whether a problem made elsewhere may be handed in. Contract to the layer above: a
-//! problem that is given, or found proper, meets the condition of `solve`.
+//! Sample questions for tests and benchmarks: questions with given parts, which are checked before they are written,
+//! the rank questions of rings and chains of rules, and a check whether a problem made elsewhere is valid.
+//!
+//! Builds on `lp_builder`. Main guarantee: a problem that is made here, or found valid, meets the precondition of
+//! `solve`.
 #![tactic(auto)]
 
 mod parts;

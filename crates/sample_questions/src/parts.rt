@@ -15,7 +15,7 @@ use std::alloc::Global;
 pub struct Part {
     /// The number of its unknowns.
     pub unknowns: u32,
-    /// The rows from which its goal is to follow.
+    /// The rows from which its goal has to follow.
     pub rows: Vec<Row>,
     /// The goal forms, in the order of their parameters.
     pub goals: Vec<Goal>,
@@ -23,7 +23,7 @@ pub struct Part {
     pub fixed: Row,
 }
 
-/// Whether a part can be written for so many parameters.
+/// Whether a part can be written for this many parameters.
 fn is_part(parameters: u32, part: &Part) -> bool
     ensures writable { IsTrue result
         → AreWritable parameters part.now.unknowns part.now.rows.items part.now.goals.items part.now.fixed }

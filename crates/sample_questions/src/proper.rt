@@ -1,4 +1,4 @@
-//! Whether a problem may be handed in, clause by clause.
+//! Checks whether a problem is valid, clause by clause.
 
 ghost use Rattle.std.specs.Prelude.{◌≡◌, ◌≢◌, ℕ, ◌+◌, ◌*◌, ◌^◌, ◌<◌, pos, ◌≤ℤ◌, IsTrue, length, slice_get};
 ghost use Rattle.std.specs.Prelude.{slice_index_or, Some};
@@ -19,7 +19,7 @@ fn are_inside(entries: &[Entry], rows: u32, cols: u32) -> bool
     true
 }
 
-// Whether none of the first numbers stands in the cell of this one.
+// Whether none of the first numbers is in the cell of this one.
 fn is_new(entries: &[Entry], before: usize, entry: Entry) -> bool
     requires { before < length entries.now }
     ensures { IsTrue result → (k : ℕ) (d : Entry) → k < before → slice_get entries.now k ≡ Some d → d.row ≡ entry.row
@@ -33,7 +33,7 @@ fn is_new(entries: &[Entry], before: usize, entry: Entry) -> bool
     true
 }
 
-// Where an entry stands among all cells, row by row.
+// The number of an entry's cell, row by row.
 fn cell_of(entry: Entry) -> u64
     ensures { result ≡ entry.row * 2 ^ 32 + entry.col }
 {
@@ -92,7 +92,7 @@ fn has_lengths(problem: &Problem) -> bool
         && problem.second.len() == problem.cols as usize
 }
 
-/// Whether a problem may be handed to `solve`.
+/// Whether a problem meets the precondition of `solve`.
 pub fn is_proper(problem: &Problem) -> bool
     ensures { IsTrue result → IsProper problem.now }
 {

@@ -10,18 +10,18 @@ use model::Memory;
 use simplex_core::Problem;
 use std::alloc::Global;
 
-/// How rules lead from symbol to symbol.
+/// The shape of a graph of rules.
 #[derive(Clone, Copy, Debug)]
 pub enum Shape {
-    /// From each of so many symbols to the next, and from the last to the first; each rule takes 1.
+    /// A rule from each of this many symbols to the next, and from the last to the first; each rule takes 1.
     Ring,
-    /// So many rules, each from a symbol to the next; none takes 1.
+    /// This many rules, each from a symbol to the next; none takes 1.
     Chain,
     /// A chain of one rule more, where each symbol between two of its rules has a rule of its own, which takes 1.
     Loops,
 }
 
-/// A rule from a symbol to one, which takes 1 or doesn't.
+/// A rule from one symbol to another, which takes 1 or doesn't.
 #[derive(Clone, Copy, Debug)]
 struct Link {
     source: u16,
@@ -46,14 +46,14 @@ fn push_goal(goals: &mut Vec<Goal>, symbol: u16, place: u8, form: Row) -> Result
     Ok(())
 }
 
-/// Adds what the function at a symbol is before a rule.
+/// Adds the function's value at a symbol before a rule.
 fn push_before(alloc: Global, goals: &mut Vec<Goal>, symbol: u16) -> Result<(), Memory> {
     push_goal(goals, symbol, 0, form(alloc, 1, 0, 0)?)?;
     push_goal(goals, symbol, 1, form(alloc, 0, 1, 0)?)?;
     push_goal(goals, symbol, 2, form(alloc, 0, 0, 1)?)
 }
 
-/// Adds less what the function at the target is after a rule.
+/// Subtracts the function's value at the target after a rule.
 fn push_after(alloc: Global, goals: &mut Vec<Goal>, link: Link) -> Result<(), Memory> {
     let taken = if link.takes { 1 } else { 0 };
     push_goal(goals, link.target, 0, form(alloc, -1, 0, taken)?)?;
@@ -61,7 +61,7 @@ fn push_after(alloc: Global, goals: &mut Vec<Goal>, link: Link) -> Result<(), Me
     push_goal(goals, link.target, 2, form(alloc, 0, 0, -1)?)
 }
 
-/// The goals of a move: what the function is before the rule, less what it is after it.
+/// The goals of a move: the function's value before the rule, minus that after it.
 fn move_goals(alloc: Global, link: Link) -> Result<Vec<Goal>, Memory> {
     let mut goals = Vec::new(alloc);
     if link.source < link.target {
@@ -86,7 +86,7 @@ fn rows_of(alloc: Global, link: Link) -> Result<Vec<Row>, Memory> {
     Ok(rows)
 }
 
-/// The part of a rule's move, by which the function falls by at least so much.
+/// The part of a rule's move, by which the function falls by at least this much.
 fn move_part(alloc: Global, link: Link, fall: u8) -> Result<Part, Memory> {
     Ok(Part {
         unknowns: 2,
@@ -141,7 +141,7 @@ fn chain(alloc: Global, size: u16, has_loops: bool) -> Result<Vec<Link>, Memory>
     Ok(links)
 }
 
-/// What each coefficient costs: the first symbol is entered, so its places have the size 1 and its constant the height
+/// The cost of each coefficient: the first symbol is entered, so its places have the size 1 and its constant the height
 /// 1.
 fn costs(alloc: Global, symbols: u16) -> Result<Vec<Cost>, Memory> {
     let mut costs = Vec::new(alloc);
@@ -161,7 +161,7 @@ fn costs(alloc: Global, symbols: u16) -> Result<Vec<Cost>, Memory> {
     Ok(costs)
 }
 
-/// The parts of the question that asks for a function over the rules, by which one of them decreases.
+/// The parts of the question for a function over the rules, by one of which it decreases.
 fn rank_parts(alloc: Global, links: &[Link], strict: usize) -> Result<Vec<Part>, Memory> {
     let mut parts = Vec::new(alloc);
     for position in 0..links.len() {

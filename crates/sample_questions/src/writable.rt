@@ -52,7 +52,7 @@ pub(crate) fn are_goals_writable(unknowns: u32, goals: &[Goal]) -> bool
     true
 }
 
-/// Whether the parameters of the goals ascend, and there are so many.
+/// Whether the parameters of the goals ascend, and there are this many.
 pub(crate) fn are_parameters(count: u32, goals: &[Goal]) -> bool
     ensures { IsTrue result → AreParameters count goals.now }
 {

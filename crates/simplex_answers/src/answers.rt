@@ -6,7 +6,8 @@ use sample_questions::is_proper;
 use simplex_core::{SolveError, Solved, solve};
 use std::alloc::{AllocError, Global};
 
-/// The answer to a line: the kind of the end with its pivots, the numbers and, behind a bar, the basis; or what trips.
+/// The answer to a line: the kind of the end with its pivots, the numbers and, behind a bar, the basis; or the limit
+/// that was exceeded.
 pub(crate) fn answer(alloc: Global, line: &str) -> Result<String, AllocError> {
     if line.starts_with("#") {
         return String::from_str(alloc, line);
@@ -19,7 +20,7 @@ pub(crate) fn answer(alloc: Global, line: &str) -> Result<String, AllocError> {
     }
     match solve(alloc, &task.problem, task.pivots) {
         Ok(solved) => solved_text(alloc, &solved),
-        Err(error) => trip_text(alloc, error),
+        Err(error) => limit_hit_text(alloc, error),
     }
 }
 
@@ -56,8 +57,8 @@ fn push_fractions(alloc: Global, text: &mut String, fractions: &[Frac]) -> Resul
     Ok(())
 }
 
-// What trips, as text.
-fn trip_text(alloc: Global, error: SolveError) -> Result<String, AllocError> {
+// The limit that was exceeded, as text.
+fn limit_hit_text(alloc: Global, error: SolveError) -> Result<String, AllocError> {
     match error {
         SolveError::Range { pivot } => format!(in alloc; "range {pivot}"),
         SolveError::Budget { pivots } => format!(in alloc; "budget {pivots}"),

@@ -10,8 +10,8 @@ pub(crate) struct Task {
     pub(crate) pivots: u32,
 }
 
-/// The task of a line of whole numbers with blanks between them: how many rows, how many columns, the allowed pivots;
-/// the right sides, the first costs, the second costs; and for each entry its row, its column and its number. None for
+/// The task of a line of integers with blanks between them: how many rows, how many columns, the allowed pivots; the
+/// right sides, the first costs, the second costs; and for each entry its row, its column and its number. None for
 /// another line.
 pub(crate) fn task_of(alloc: Global, line: &str) -> Result<Option<Task>, AllocError> {
     let mut numbers = Vec::new(alloc);

@@ -11,7 +11,7 @@ use Rattle.simplex_core.specs.declared.problem.Solved.TheVariants.{Optimal, Infe
 use Rattle.simplex_core.specs.declared.problem.SolveError.{SolveError}
 use Rattle.simplex_core.specs.declared.problem.SolveError.TheVariants.{Range, Budget, Wide, Memory}
 use Rattle.simplex_core.specs.declared.answers.Answer.{Answer}
-use Rattle.simplex_core.specs.declared.answers.Answer.TheVariants.{Solution, Dual, Tripped}
+use Rattle.simplex_core.specs.declared.answers.Answer.TheVariants.{Solution, Dual, OutOfLimits}
 use Rattle.frac128.specs.declared.frac.Frac.{Frac}
 use Rattle.frac128.specs.Fraction.{IsFraction}
 use Rattle.linear_forms.specs.Forms.{at}
@@ -174,17 +174,17 @@ module _ (p : LinearProgram) (e : ℕ → ℕ → ℤ) (r f s : ℕ → ℤ) (a 
   answer-same allowed (Err Memory) h = tt
 
   -- what trips is the same
-  trip-same : (allowed : ℕ) (c : Cause) → Trips p allowed c → Trips other allowed c
-  trip-same allowed (range k) h = (h.0, range-same allowed k h.1)
-  trip-same allowed (budget n) h = (h.0, h.1, budget-same allowed h.2)
-  trip-same allowed (wide n) h = h
-  trip-same allowed scale h = (h.0, go h.1)
+  limit_hit-same : (allowed : ℕ) (c : Cause) → Trips p allowed c → Trips other allowed c
+  limit_hit-same allowed (range k) h = (h.0, range-same allowed k h.1)
+  limit_hit-same allowed (budget n) h = (h.0, h.1, budget-same allowed h.2)
+  limit_hit-same allowed (wide n) h = h
+  limit_hit-same allowed scale h = (h.0, go h.1)
     where
       go : TripsSolution p allowed ⊎ TripsDual p allowed → TripsSolution other allowed ⊎ TripsDual other allowed
       go (inl t) = inl (record { at = t.at; basis = t.basis; k = t.k; ends = optimal-same allowed t.k t.at t.basis t.ends; exceeds = t.exceeds })
       go (inr t) = inr (record { dual = t.dual; k = t.k; ends = infeasible-same allowed t.k t.dual t.ends; exceeds = t.exceeds })
 
-  -- the answer in whole numbers is the same
+  -- the answer in integers is the same
   whole-answer-same : (allowed : ℕ) (x : Answer) → IsWholeAnswer p allowed x → IsWholeAnswer other allowed x
   whole-answer-same allowed (Solution s) h = record {
     fits = h.fits;
@@ -209,7 +209,7 @@ module _ (p : LinearProgram) (e : ℕ → ℕ → ℤ) (r f s : ℕ → ℤ) (a 
     rows = h.rows;
     certified = agree-duals p other (at s.numbers.items) a h.certified;
   }
-  whole-answer-same allowed (Tripped c) h = trip-same allowed (cause_of c) h
+  whole-answer-same allowed (OutOfLimits c) h = limit_hit-same allowed (cause_of c) h
 
 -- what holds of a program with the numbers of another that agrees holds of that one
 of-agreeing : (P : LinearProgram → Type 0) (p q : LinearProgram) → Agree p q → (Agree p (with_numbers p q.entry q.right q.first q.second) → P (with_numbers p q.entry q.right q.first q.second)) → P q
@@ -226,8 +226,8 @@ answers-agree p q allowed x a h = of-agreeing (λ r. IsAnswer r allowed x) p q a
 
 -- they trip by the same cause
 pub trips-agree : (p q : LinearProgram) (allowed : ℕ) (c : Cause) → Agree p q → Trips p allowed c → Trips q allowed c
-trips-agree p q allowed c a h = of-agreeing (λ r. Trips r allowed c) p q a (λ b. trip-same p q.entry q.right q.first q.second b allowed c h)
+trips-agree p q allowed c a h = of-agreeing (λ r. Trips r allowed c) p q a (λ b. limit_hit-same p q.entry q.right q.first q.second b allowed c h)
 
--- they have the same answers in whole numbers
+-- they have the same answers in integers
 pub whole-answers-agree : (p q : LinearProgram) (allowed : ℕ) (x : Answer) → Agree p q → IsWholeAnswer p allowed x → IsWholeAnswer q allowed x
 whole-answers-agree p q allowed x a h = of-agreeing (λ r. IsWholeAnswer r allowed x) p q a (λ b. whole-answer-same p q.entry q.right q.first q.second b allowed x h)

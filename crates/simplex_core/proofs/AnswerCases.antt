@@ -6,7 +6,7 @@ use Rattle.simplex_core.specs.declared.problem.SolveError.{SolveError}
 use Rattle.simplex_core.specs.declared.problem.SolveError.TheVariants.{Range, Budget, Wide, Memory}
 use Rattle.linear_forms.specs.LinearProgram.{LinearProgram}
 use Rattle.simplex_core.specs.Problem.{table_size, widest}
-use Rattle.simplex_core.specs.Outcome.{IsEnd, IsTrip, IsAnswer}
+use Rattle.simplex_core.specs.Outcome.{IsEnd, IsLimitHit, IsAnswer}
 
 -- what follows in each case of a test
 pub match-map : (b : Bool) (P Q R S : Type 0) → (P → R) → (Q → S) → MatchBool b P Q → MatchBool b R S
@@ -15,7 +15,7 @@ match-map false P Q R S f g h = g h
 
 -- the sequence's answer, where the table isn't too wide
 pub answer : (p : LinearProgram) (allowed : ℕ) (result : Result Solved SolveError) → table_size p ≤ widest
-    → MatchResult result (IsEnd p allowed) (IsTrip p allowed) → IsAnswer p allowed result
+    → MatchResult result (IsEnd p allowed) (IsLimitHit p allowed) → IsAnswer p allowed result
 answer p allowed (Ok s) fits h = (fits, h)
 answer p allowed (Err (Range k)) fits h = (fits, h)
 answer p allowed (Err (Budget k)) fits h = (fits, h)

@@ -1,4 +1,4 @@
--- The artificial unknowns of a basic solution add up to more than 0 exactly where one of them is over 0.
+-- The artificial unknowns of a basic solution add up to more than 0 exactly where one of them is above 0.
 use Rattle.std.proofs.Common.{◌≡◌, ◌≢◌, ℕ, ◌-◌, ◌<◌, ◌≤◌, arith, refl, sym, ◌∙◌, subst, ◌⊎◌, inl, inr, Bool, true}
 use Rattle.std.proofs.Common.{false}
 use Rattle.std.specs.Prelude.{ℤ, pos, ◌*ℤ◌, ◌≤ℤ◌, ◌<ℤ◌, int_lt, nat_eq, nat_le, ◌&&◌}
@@ -37,7 +37,7 @@ nonneg-of x s b d e ps pd pb =
     at_least : (z v w : ℤ) → z ≡ pos 0 → v ≡ w → pos 0 ≤ℤ w → z ≤ℤ v
     at_least z v w f g l = omega (arith, ints)
 
--- and over 0, where b is
+-- and above 0, where b is
 positive-of : (x s b d : ℤ) → x *ℤ s ≡ b *ℤ d → pos 0 <ℤ s → pos 0 <ℤ d → pos 0 <ℤ b → pos 0 <ℤ x
 positive-of x s b d e ps pd pb =
     lt-of-mul_ℤ s (pos 0) x ps

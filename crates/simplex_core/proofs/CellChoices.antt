@@ -28,7 +28,7 @@ cells-more cells m e Q at before here k x l is = go (last_or_before m k (omega a
         subst Q same here
     go (inr b) = before k x b is
 
--- a cell with a number over 0 is in a row with an entry over 0
+-- a cell with a number above 0 is in a row with an entry above 0
 pub cell-candidate : (p : LinearProgram) (a : ColumnTable) (t : Tableau) (j : ℕ) (e : Cell) → ShowsColumns p a t → j < a.width → IsCellOf a j e → pos 0 <ℤ e.number
     → is_candidate t j e.row ≡ true
 cell-candidate p a t j e shows l own positive =
@@ -48,14 +48,14 @@ cell-no_candidate p a t j e shows l own below =
     sym (positive-shows e.number there.0.den (t.entry e.row j) (t.scale e.row) there.0.positive (shows.positive e.row (omega arith)) (shown-cell p a t j e there.0 shows own there.1))
     ∙ le-int_lt (pos 0) e.number below
 
--- the best cell stays so where the next one is in a row without an entry over 0
+-- the best cell stays so where the next one is in a row without an entry above 0
 pub best_cell-keeps : (p : LinearProgram) (t : Tableau) (c : ℕ) (cells : List Cell) (m : ℕ) (e : Cell) (best : Option Cell) → slice_get cells m ≡ Some e
     → is_candidate t c e.row ≡ false → IsBestCell p t c cells m best → IsBestCell p t c cells (m + 1) best
 best_cell-keeps p t c cells m e None at fails best = cells-more cells m e (λ x. is_candidate t c x.row ≡ false) at best fails
 best_cell-keeps p t c cells m e (Some d) at fails best =
     (best.0, cells-more cells m e (λ x. is_candidate t c x.row ≡ true → goes_before p t c x.row d.row ≡ false) at best.1 (λ f. cc))
 
--- the first cell with an entry over 0 is the best
+-- the first cell with an entry above 0 is the best
 pub best_cell-first : (p : LinearProgram) (t : Tableau) (c : ℕ) (cells : List Cell) (m : ℕ) (e : Cell) → slice_get cells m ≡ Some e
     → is_candidate t c e.row ≡ true → IsBestCell p t c cells m None → IsBestCell p t c cells (m + 1) (Some e)
 best_cell-first p t c cells m e at passes none = (
@@ -87,7 +87,7 @@ best_cell-changes p t c cells m e d at passes goes best = (
         (before_trans (ratio p t c x.row) (ratio p t c e.row) (ratio p t c d.row) (candidate-positive t c x.row f) (candidate-positive t c e.row passes) (candidate-positive t c d.row best.0)
         (goes_before-true p t c x.row e.row h) (goes_before-true p t c e.row d.row goes)))
 
--- the best of all cells of a column is in the best row, and where there is none no row has an entry over 0
+-- the best of all cells of a column is in the best row, and where there is none no row has an entry above 0
 pub best_cell-all : (p : LinearProgram) (a : ColumnTable) (t : Tableau) (c : ℕ) (x : Column) (cells : List Cell) (f : ℕ → ℤ) (best : Option Cell) → ShowsColumns p a t
     → slice_get a.columns.items c ≡ Some x → AreNumbers cells f a.rows → ((i : ℕ) → f i ≡ numerator x i) → IfSome best (λ d. IsCellOf a c d × (pos 0 <ℤ d.number))
     → IsBestCell p t c cells (length cells) best

@@ -39,7 +39,7 @@ le-int_lt a b h = go (int_lt a b) refl
     go true e = absurd (omega (arith, ints, h, int_lt-true a b e))
     go false e = e
 
--- a row with the right side b, the entry e over 0 and the basic column n
+-- a row with the right side b, the entry e above 0 and the basic column n
 pub record Ratio : Type 0 where
   pub b : ℤ
   pub e : ℤ
@@ -148,7 +148,7 @@ columns-decide true v w e f = cc
 columns-decide false true w e f = cc
 columns-decide false false w e f = refl
 
--- a candidate's entry is over 0
+-- a candidate's entry is above 0
 pub candidate-positive : (t : Tableau) (c i : ℕ) → is_candidate t c i ≡ true → pos 0 <ℤ t.entry i c
 candidate-positive t c i h = int_lt-true _ _ h
 

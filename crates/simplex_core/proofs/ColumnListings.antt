@@ -122,7 +122,7 @@ no-mark zero j e = cc
 no-mark (suc n) zero e = cc
 no-mark (suc n) (suc j) e = no-mark n j e
 
--- there are so many marks
+-- there are this many marks
 length-marks : (n : ℕ) → length (replicate n false) ≡ n
 length-marks zero = refl
 length-marks (suc n) = ap suc (length-marks n)
@@ -301,7 +301,7 @@ stays n g x u s o positive made e f =
 nothing-over : (w o x u : ℤ) → pos 0 <ℤ w → w *ℤ o ≡ x *ℤ u → x ≡ pos 0 → o ≡ pos 0
 nothing-over w o x u positive ratio e = mul-cancel_ℤ w o (pos 0) positive (ratio ∙ (zero-mul_ℤ x u e ∙ sym (mul-zero_ℤ w (pos 0) refl)))
 
--- after a pivot, with the list of its row made anew, the lists still name each column with a number
+-- after a pivot, with the list of its row rebuilt, the lists still name each column with a number
 pub pivoted-listed : (xs ys : List Column) (mid : List RowColumns) (n m r : ℕ) (w : ℤ) (shifted : List Cell) (touched : List ℕ) (list : RowColumns) → AreListed xs mid n m → length xs ≡ m
     → pos 0 <ℤ w → r < length mid → list.columns.items ≡ touched → AreTouched xs r touched
     → ((j : ℕ) (a b : Column) → slice_get xs j ≡ Some a → slice_get ys j ≡ Some b → IsCleared a b r w shifted)

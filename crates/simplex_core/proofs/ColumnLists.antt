@@ -1,4 +1,4 @@
--- Lists of columns of whole numbers, as they are made.
+-- Lists of columns of integers, as they are made.
 use Rattle.std.proofs.Common.{◌≡◌, ◌≢◌, ℕ, ◌+◌, ◌-◌, ◌<◌, ◌≤◌, ap, arith, refl, sym, ◌∙◌, subst, ◌⊎◌, inl, inr, List, [], ◌∷◌, ◌++◌, Some, length-append}
 use Rattle.std.specs.Prelude.{ℤ, pos, ◌+ℤ◌, ◌*ℤ◌, slice_get, slice_set, slice_index_or, nat_lt, if◌then◌else◌}
 use Rattle.std.proofs.lemmas.Int.{ints}

@@ -58,7 +58,7 @@ zero-test_small z fits =
     none : of_z w64 z ≡ 0 → z ≡ pos 0
     none e = omega (arith, ints)
 
--- the order of two numbers is that of their multiples by a number over 0
+-- the order of two numbers is that of their multiples by a number above 0
 order-scaled : (v w k : ℤ) → pos 0 <ℤ k → int_lt v w ≡ int_lt (v *ℤ k) (w *ℤ k)
 order-scaled v w k positive =
     same_test _ _

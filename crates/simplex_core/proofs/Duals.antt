@@ -55,8 +55,8 @@ dual-dot p t a eq h =
     sum_to-same p.rows (λ k. dual_of p t k *ℤ a k) (λ k. (sign_of (p.right k) *ℤ (pos 0 -ℤ weight p t 0 k)) *ℤ a k) (λ k l. ap (λ (z : ℤ). z *ℤ a k) (dual_is p t k l))
     ∙ (signed-dot p.rows (λ k. pos 0 -ℤ weight p t 0 k) (λ k. sign_of (p.right k)) a eq h ∙ negated-dot p.rows (weight p t 0) eq)
 
--- where the sequence ends as infeasible: in the cost row of the artificial unknowns no reduced cost is
--- negative, and an artificial unknown is over 0
+-- where the sequence ends as infeasible: in the cost row of the artificial unknowns no reduced cost is negative, and an
+-- artificial unknown is above 0
 pub record EndsInfeasible (p : LinearProgram) (t : Tableau) : Type 0 where
   reduced : (j : ℕ) → j < p.columns → pos 0 ≤ℤ t.entry (cost_row p 0) j
   row : ℕ

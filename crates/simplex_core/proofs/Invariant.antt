@@ -19,9 +19,9 @@ SolvesRows p t x d = (i : ℕ) → i < p.rows → dot (unknowns p) (t.entry i) x
 abbrev pub SolvesEquations : LinearProgram → (ℕ → ℤ) → ℤ → Type 0
 SolvesEquations p x d = (i : ℕ) → i < p.rows → dot (unknowns p) (equation p i) x ≡ equation p i (unknowns p) *ℤ d
 
--- the tableau is one of the program's: scales over 0; columns of the basis that are units; right
--- sides at least 0; each row a sum of multiples of the equations, which the artificial columns show;
--- each cost row its costs and such a sum; and what solves it solves the equations
+-- the tableau is one of the program's: scales above 0; columns of the basis that are units; right sides at least 0;
+-- each row a sum of multiples of the equations, which the artificial columns show; each cost row its costs and such a
+-- sum; and what solves it solves the equations
 pub record IsTableauOf (p : LinearProgram) (t : Tableau) : Type 0 where
   pub positive : (i : ℕ) → i < p.rows + 3 → pos 0 <ℤ t.scale i
   pub basic : (i : ℕ) → i < p.rows → t.basis i < unknowns p

@@ -52,7 +52,7 @@ none-beyond here by there small over under (inr (p, is, wide)) =
     sum : (a b : ℤ) → unsigned_abs a < 2 ^ 124 → unsigned_abs b < 2 ^ 124 → IsNarrow (a +ℤ b)
     sum a b l m = omega (arith, ints, l, m)
 
--- m/e is 0 plus i/k times n/d, where i/k is c/b: so it is (n/d) / (b/c)
+-- m/e is 0 plus i/k times n/d, where i/k is c/b: hence m/e = (n/d) / (b/c)
 divide-shows : (m e n d b c i k z o : ℤ) → z ≡ pos 0 → o ≡ pos 1 → pos 0 <ℤ k → i *ℤ b ≡ c *ℤ k
     → m *ℤ (o *ℤ (k *ℤ d)) ≡ (z *ℤ (k *ℤ d) +ℤ (i *ℤ n) *ℤ o) *ℤ e → m *ℤ (d *ℤ b) ≡ (n *ℤ c) *ℤ e
 divide-shows m e n d b c i k z o none one positive inverse value =
@@ -99,7 +99,7 @@ inverse-is by inverse one n d is =
         identity_by_one (i ∷ b ∷ c ∷ k ∷ []) (variable 0 ⊗ variable 1) (variable 2 ⊗ variable 3) (constant (pos 1))
         (variable 0 ⊗ (constant (pos 1) ⊗ variable 1)) ((constant (pos 1) ⊗ variable 2) ⊗ variable 3) e refl
 
--- m/e is h/k plus i/j times t/u, where i/j is 0 less f/g: so it is h/k less f/g times t/u
+-- m/e is h/k plus i/j times t/u, where i/j is 0 less f/g: hence m/e = h/k - f/g * t/u
 clear-shows : (m e h k i j t u f g : ℤ) → pos 0 <ℤ j → i *ℤ g ≡ (pos 0 -ℤ f) *ℤ j
     → m *ℤ (k *ℤ (j *ℤ u)) ≡ (h *ℤ (j *ℤ u) +ℤ (i *ℤ t) *ℤ k) *ℤ e
     → m *ℤ ((k *ℤ g) *ℤ u) ≡ ((h *ℤ g) *ℤ u -ℤ (f *ℤ t) *ℤ k) *ℤ e
@@ -144,7 +144,7 @@ opposite-below factor by small is =
     size : (z : ℤ) → unsigned_abs z < 2 ^ 31 → unsigned_abs (pos 0 -ℤ z) < 2 ^ 31
     size z l = omega (arith, ints, l)
 
--- a sum of rows of which no number is beyond 127 bits refuses only for want of memory
+-- a sum of rows of which no number is beyond 127 bits refuses only because memory ran out
 pub no-range : (here : List (ℕ × Frac)) (by : Frac) (there : List (ℕ × Frac)) (sum : Result (List (ℕ × Frac)) SparseError)
     → MatchResult sum (IsRowPlusMultiple here by there) (IsRefusal here by there)
     → ((j : ℕ) → IsBeyond (fraction_at here j) by (fraction_at there j) → ⊥) → IfErr sum (λ e. e ≡ Memory)

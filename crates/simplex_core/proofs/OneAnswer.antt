@@ -183,7 +183,7 @@ budget-apart p allowed k t none s r =
     let f = r.goes_on in
     cc
 
--- an end isn't a trip, but for want of memory
+-- an end isn't a trip, unless memory runs out
 pub end-apart : (p : LinearProgram) (allowed : ℕ) (s : Solved) (e : SolveError) → (table_size p ≤ widest) × IsEnd p allowed s → IsStop p allowed e → IsMemory e
 end-apart p allowed (Optimal at basis k) (Range m) (w, a) (v, b) = range-apart p allowed k m a.last a.in_range (optimal-stops p allowed k at.items basis.items a) b
 end-apart p allowed (Optimal at basis k) (Budget m) (w, a) (v, b) =

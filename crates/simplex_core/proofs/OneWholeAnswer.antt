@@ -1,4 +1,4 @@
--- Of one program within one number of pivots there is one answer in whole numbers.
+-- Of one program within one number of pivots there is one answer in integers.
 use Rattle.std.proofs.Common.{◌≡◌, ℕ, ◌<◌, ◌≤◌, ap, arith, refl, sym, ◌∙◌, subst, inl, inr, List, length}
 use Rattle.std.specs.Prelude.{ℤ, pos, ◌*ℤ◌, ◌<ℤ◌, unsigned_abs}
 use Rattle.std.specs.Int.{◌∣◌}
@@ -11,7 +11,7 @@ use Rattle.linear_forms.specs.Forms.{at}
 use Rattle.linear_forms.specs.Causes.{Cause, range, budget, wide, scale, cause_of}
 use Rattle.linear_forms.specs.LinearProgram.{LinearProgram}
 use Rattle.simplex_core.specs.declared.answers.Answer.{Answer}
-use Rattle.simplex_core.specs.declared.answers.Answer.TheVariants.{Solution, Dual, Tripped}
+use Rattle.simplex_core.specs.declared.answers.Answer.TheVariants.{Solution, Dual, OutOfLimits}
 use Rattle.simplex_core.specs.Problem.{table_size, widest}
 use Rattle.simplex_core.specs.Outcome.{EndsOptimally, EndsInfeasibly}
 use Rattle.simplex_core.specs.Scaling.{IsCommon, AreOver, AreScaled}
@@ -23,7 +23,7 @@ use Rattle.simplex_core.proofs.OneAnswer.{optimal-stops, infeasible-stops, range
 use Rattle.simplex_core.proofs.OneAnswer.{optimal-same, infeasible-same, ends-apart, range-apart, budget-apart}
 use Rattle.simplex_core.proofs.OneAnswer.{optimal-last, infeasible-last}
 
--- whole numbers over a denominator are the same fractions too
+-- integers over a denominator are the same fractions too
 pub over-same : (fs gs : List Frac) (numbers : List ℤ) (den : ℕ) → AreSameFractions fs gs → AreOver fs (length fs) numbers den → AreOver gs (length gs) numbers den
 over-same fs gs numbers den same over = record {
   positive = over.positive;
@@ -67,14 +67,14 @@ scaled-once fs gs xs ys d e same a b = (
     one : (v w f n : ℤ) → pos 0 <ℤ f → v *ℤ f ≡ n *ℤ pos d → w *ℤ f ≡ n *ℤ pos e → v ≡ w
     one v w f n l p q = mul-cancel_ℤ f v w l (mul_comm_ℤ f v ∙ (p ∙ (ap (λ (k : ℕ). n *ℤ pos k) dens ∙ (sym q ∙ mul_comm_ℤ w f))))
 
--- a scaled solution isn't one that has no whole numbers within the limits
+-- a scaled solution isn't one that has no integers within the limits
 solution-trips : (p : LinearProgram) (allowed : ℕ) (numbers : List ℤ) (den : ℕ) → IsScaledSolution p allowed numbers den → TripsSolution p allowed → ⊥
 solution-trips p allowed numbers den s t =
     let same = (optimal-same p allowed s.k t.k s.point t.at s.basis t.basis s.ends t.ends).0 in
     t.exceeds numbers den (over-same s.point t.at numbers den same s.scaled.over)
     (record { each = λ j l. s.within.each j (let a = same.lengths in let b = s.scaled.lengths in omega (arith, l, a, b)) }) s.den_within
 
--- a scaled dual isn't one that has no whole numbers within the limit
+-- a scaled dual isn't one that has no integers within the limit
 dual-trips : (p : LinearProgram) (allowed : ℕ) (numbers : List ℤ) (den : ℕ) → IsScaledDual p allowed numbers den → TripsDual p allowed → ⊥
 dual-trips p allowed numbers den s t =
     let same = (infeasible-same p allowed s.k t.k s.dual t.dual s.ends t.ends).0 in
@@ -115,18 +115,18 @@ causes-same p allowed (wide k) (budget m) t u = absurd (let l = t.0 in let i = u
 causes-same p allowed (range k) (wide m) t u = absurd (let l = t.0 in let i = u.0 in omega arith)
 causes-same p allowed (budget k) (wide m) t u = absurd (let l = t.0 in let i = u.0 in omega arith)
 
--- two answers in whole numbers are the same
+-- two answers in integers are the same
 pub whole-same : (p : LinearProgram) (allowed : ℕ) (a b : Answer) → IsWholeAnswer p allowed a → IsWholeAnswer p allowed b → IsSameWholeAnswer a b
 whole-same p allowed (Solution s) (Solution t) a b =
     scaled-once a.point b.point s.numbers.items t.numbers.items s.den t.den (optimal-same p allowed a.k b.k a.point b.point a.basis b.basis a.ends b.ends).0 a.scaled b.scaled
 whole-same p allowed (Solution s) (Dual t) a b = ends-apart p allowed a.k b.k a.point a.basis b.dual a.ends b.ends
-whole-same p allowed (Solution s) (Tripped c) a b =
+whole-same p allowed (Solution s) (OutOfLimits c) a b =
     solution-trips p allowed s.numbers.items s.den a (optimal-apart p allowed a.k a.point a.basis a.fits a.ends (cause_of c) b).1
 whole-same p allowed (Dual s) (Solution t) a b = ends-apart p allowed b.k a.k b.point b.basis a.dual b.ends a.ends
 whole-same p allowed (Dual s) (Dual t) a b =
     scaled-once a.dual b.dual s.numbers.items t.numbers.items s.den t.den (infeasible-same p allowed a.k b.k a.dual b.dual a.ends b.ends).0 a.scaled b.scaled
-whole-same p allowed (Dual s) (Tripped c) a b = dual-trips p allowed s.numbers.items s.den a (infeasible-apart p allowed a.k a.dual a.fits a.ends (cause_of c) b).1
-whole-same p allowed (Tripped c) (Solution t) a b =
+whole-same p allowed (Dual s) (OutOfLimits c) a b = dual-trips p allowed s.numbers.items s.den a (infeasible-apart p allowed a.k a.dual a.fits a.ends (cause_of c) b).1
+whole-same p allowed (OutOfLimits c) (Solution t) a b =
     solution-trips p allowed t.numbers.items t.den b (optimal-apart p allowed b.k b.point b.basis b.fits b.ends (cause_of c) a).1
-whole-same p allowed (Tripped c) (Dual t) a b = dual-trips p allowed t.numbers.items t.den b (infeasible-apart p allowed b.k b.dual b.fits b.ends (cause_of c) a).1
-whole-same p allowed (Tripped c) (Tripped d) a b = causes-same p allowed (cause_of c) (cause_of d) a b
+whole-same p allowed (OutOfLimits c) (Dual t) a b = dual-trips p allowed t.numbers.items t.den b (infeasible-apart p allowed b.k b.dual b.fits b.ends (cause_of c) a).1
+whole-same p allowed (OutOfLimits c) (OutOfLimits d) a b = causes-same p allowed (cause_of c) (cause_of d) a b

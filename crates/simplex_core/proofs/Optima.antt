@@ -21,7 +21,7 @@ use Rattle.simplex_core.proofs.Points.{CommonScale, point-nonneg, point-zero}
 use Rattle.simplex_core.proofs.Values.{basic_value, basic_point, basic_value-nonneg, basic-solves}
 use Rattle.simplex_core.proofs.Choices.{int_lt-false, not-false}
 
--- no column may enter, and no artificial unknown is over 0
+-- no column may enter, and no artificial unknown is above 0
 pub record EndsOptimal (p : LinearProgram) (t : Tableau) : Type 0 where
   pub none : (j : ℕ) → j < p.columns → pos 0 ≤ℤ t.entry (cost_row p 0) j
   pub first : (j : ℕ) → j < p.columns → t.entry (cost_row p 0) j ≡ pos 0 → pos 0 ≤ℤ t.entry (cost_row p 1) j

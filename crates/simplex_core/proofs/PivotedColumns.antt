@@ -95,7 +95,7 @@ cleared-shows t r c i j e a b w shifted positive is shifts h shown_i shown_r ent
         in_row : number_of shifted i ≡ numerator e i
         in_row = let none = alone-other r i e.den (λ f. d (sym f)) in omega (arith, ints, shifts, none)
 
--- after a pivot at an entry over 0 the table shows the tableau after the pivot
+-- after a pivot at an entry above 0 the table shows the tableau after the pivot
 pub pivoted-shows : (p : LinearProgram) (a d : ColumnTable) (t : Tableau) (r c : ℕ) (w : ℤ) (shifted : List Cell) → ShowsColumns p a t → IsPivotedBy a d r c w shifted → r < p.rows
     → c < a.width → pos 0 <ℤ t.entry r c → ShowsColumns p d (pivot t r c)
 pivoted-shows p a d t r c w shifted shows made lr lc positive = record {

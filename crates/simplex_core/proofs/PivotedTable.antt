@@ -19,7 +19,7 @@ use Rattle.simplex_core.proofs.Regions.{pivot-other_basis}
 use Rattle.simplex_core.proofs.TableLines.{cell-there}
 use Rattle.simplex_core.proofs.CellLaws.{InTable-same}
 
--- f/g is (n/d) / (m/b), where n/d is x/s and m/b is y/s: so it is x/y
+-- f/g is (n/d) / (m/b), where n/d is x/s and m/b is y/s: hence f/g = x/y
 quotient-shows : (f g n d m b s x y : ℤ) → pos 0 <ℤ d → pos 0 <ℤ b → n *ℤ s ≡ x *ℤ d → m *ℤ s ≡ y *ℤ b → f *ℤ (d *ℤ m) ≡ (n *ℤ b) *ℤ g → f *ℤ y ≡ x *ℤ g
 quotient-shows f g n d m b s x y pd pb first second divided =
     mul-cancel_ℤ (d *ℤ b) (f *ℤ y) (x *ℤ g) (mul-positive_ℤ d b pd pb)
@@ -29,7 +29,7 @@ quotient-shows f g n d m b s x y pd pb first second divided =
     ∙ identity_by_one (n ∷ b ∷ g ∷ s ∷ x ∷ d ∷ []) (variable 3 ⊗ ((variable 0 ⊗ variable 1) ⊗ variable 2)) ((variable 5 ⊗ variable 1) ⊗ (variable 4 ⊗ variable 2))
     (variable 1 ⊗ variable 2) (variable 0 ⊗ variable 3) (variable 4 ⊗ variable 5) first refl))
 
--- f/g is n/d less h/k times u/v, where n/d is x/s, h/k is z/s and u/v is w/y: so it is (x y - z w)/(s y)
+-- f/g is n/d less h/k times u/v, where n/d is x/s, h/k is z/s and u/v is w/y: hence f/g = (x y - z w)/(s y)
 difference-shows : (f g n d h k u v s x y z w : ℤ) → pos 0 <ℤ d → pos 0 <ℤ k → pos 0 <ℤ v
     → n *ℤ s ≡ x *ℤ d → h *ℤ s ≡ z *ℤ k → u *ℤ y ≡ w *ℤ v
     → f *ℤ ((d *ℤ k) *ℤ v) ≡ ((n *ℤ k) *ℤ v -ℤ (h *ℤ u) *ℤ d) *ℤ g
@@ -85,7 +85,7 @@ other_row-shows p a e t r c i j f shows pivoted lr lc apart inside is =
     (pivot_row-shows p a e t r c j divided.0 shows pivoted lr lc at_row divided.1)
     (pivoted.cleared i j old.0 factor.0 divided.0 f apart (InTable-same p.rows p.columns a.rows a.columns i j (sym m) (sym n) inside) old.1 factor.1 divided.1 is)
 
--- the scales are over 0 after a pivot at an entry over 0
+-- the scales are above 0 after a pivot at an entry above 0
 pub pivot_scale-positive : (p : LinearProgram) (t : Tableau) (r c i : ℕ) → ((k : ℕ) → k < p.rows + 3 → pos 0 <ℤ t.scale k) → pos 0 <ℤ t.entry r c → i < p.rows + 3
     → (i ≡ r) ⊎ (i ≢ r) → pos 0 <ℤ (pivot t r c).scale i
 pivot_scale-positive p t r c i scales entry l (inl s) =
@@ -93,7 +93,7 @@ pivot_scale-positive p t r c i scales entry l (inl s) =
 pivot_scale-positive p t r c i scales entry l (inr d) =
     subst (λ (z : ℤ). pos 0 <ℤ z) (sym (pivot-other_scale t r c i d)) (mul-positive_ℤ (t.scale i) (t.entry r c) (scales i l) entry)
 
--- after a pivot of the table at an entry over 0 it shows the tableau after the pivot
+-- after a pivot of the table at an entry above 0 it shows the tableau after the pivot
 pub pivot-shows : (p : LinearProgram) (a e : SparseTable) (t : Tableau) (r c : ℕ) → Shows p a t → IsPivoted a e r c → r < p.rows → c < p.columns → pos 0 <ℤ t.entry r c
     → Shows p e (pivot t r c)
 pivot-shows p a e t r c shows pivoted lr lc entry = record {

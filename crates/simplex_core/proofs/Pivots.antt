@@ -14,15 +14,14 @@ use Rattle.simplex_core.proofs.Regions.{pivot-row, pivot-other, pivot-scale, piv
 use Rattle.simplex_core.proofs.Regions.{pivot-other_basis}
 use Rattle.simplex_core.proofs.Invariant.{weight, SolvesRows, IsTableauOf, same_or_other}
 
--- the pivot is in the table, its entry is over 0, and its row has the least quotient of right side
--- by entry
+-- the pivot is in the table, its entry is above 0, and its row has the least quotient of right side by entry
 pub record IsPivot (p : LinearProgram) (t : Tableau) (r c : ℕ) : Type 0 where
   pub row : r < p.rows
   pub column : c < unknowns p
   pub positive : pos 0 <ℤ t.entry r c
   pub least : (i : ℕ) → i < p.rows → pos 0 <ℤ t.entry i c → (t.entry r (unknowns p) *ℤ t.entry i c) ≤ℤ (t.entry i (unknowns p) *ℤ t.entry r c)
 
--- a scale after the pivot is over 0
+-- a scale after the pivot is above 0
 positive_after : (p : LinearProgram) (t : Tableau) (r c i : ℕ) → IsTableauOf p t → IsPivot p t r c → i < p.rows + 3 → (i ≡ r) ⊎ (i ≢ r)
     → pos 0 <ℤ (pivot t r c).scale i
 positive_after p t r c i h k l (inl e) =

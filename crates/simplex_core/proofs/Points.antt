@@ -1,4 +1,4 @@
--- Points whose only numbers that aren't 0 stand at the columns of the basis.
+-- Points that are nonzero at basis columns alone.
 use Rattle.std.proofs.Common.{◌≡◌, ℕ, zero, suc, ◌<◌, ap, arith, refl, sym, ◌∙◌, subst, ◌⊎◌, inl, inr, Bool, true}
 use Rattle.std.proofs.Common.{false}
 use Rattle.std.specs.Prelude.{ℤ, pos, ◌*ℤ◌, ◌≤ℤ◌, ◌<ℤ◌, nat_eq, if◌then◌else◌}
@@ -19,7 +19,7 @@ pub record CommonScale (m : ℕ) (scale : ℕ → ℤ) : Type 0 where
   pub factors : (i : ℕ) → i < m → pos 0 <ℤ q i
   pub times : (i : ℕ) → i < m → q i *ℤ scale i ≡ d
 
--- scales over 0 have a common multiple
+-- scales above 0 have a common multiple
 pub common_scale : (m : ℕ) (scale : ℕ → ℤ) → ((i : ℕ) → i < m → pos 0 <ℤ scale i) → CommonScale m scale
 common_scale zero scale h = record {
   d = pos 1;

@@ -149,7 +149,7 @@ optimal-first p t s h e = record {
         costs a b o n f d z = ap (λ (y : ℤ). a *ℤ y +ℤ pos chosen.0 *ℤ (b *ℤ n)) d ∙ (ap (λ (y : ℤ). a *ℤ f +ℤ pos chosen.0 *ℤ (b *ℤ y)) z
             ∙ identity (a ∷ b ∷ f ∷ pos chosen.0 ∷ []) (variable 0 ⊗ variable 2 ⊕ variable 3 ⊗ (variable 1 ⊗ constant (pos 0))) (variable 0 ⊗ variable 2) refl)
 
--- a natural times the size of a number over 0
+-- a natural times the size of a number above 0
 times_size : (n : ℕ) (s : ℤ) → pos 0 <ℤ s → pos (n * nat_abs s) ≡ pos n *ℤ s
 times_size n (pos k) h = refl
 times_size n (negsuc k) h = absurd (omega (arith, ints, h))

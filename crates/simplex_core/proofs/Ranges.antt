@@ -63,7 +63,7 @@ in_range-small p a t shows range = record {
       record { num = small.0; den = small.1 };
 }
 
--- what a table has noted tells whether the tableaux that it shows are in range
-pub range-told : (a : SparseTable) (v : Bool) → a.is_small ≡ v → MatchBool v (ShowsInRange ShowsTested a) (ShowsOutOfRange ShowsTested a)
-range-told a true e = record { each = λ p t s. small-in_range p a t s.shows (subst (λ (b : Bool). MatchBool b (AreSmall a) (HasLarge a)) e s.range) }
-range-told a false e = record { each = λ p t s. large-out_of_range p a t s.shows (subst (λ (b : Bool). MatchBool b (AreSmall a) (HasLarge a)) e s.range) }
+-- the table's flag decides whether the tableaux that it shows are in range
+pub range-decided : (a : SparseTable) (v : Bool) → a.is_small ≡ v → MatchBool v (ShowsInRange ShowsTested a) (ShowsOutOfRange ShowsTested a)
+range-decided a true e = record { each = λ p t s. small-in_range p a t s.shows (subst (λ (b : Bool). MatchBool b (AreSmall a) (HasLarge a)) e s.range) }
+range-decided a false e = record { each = λ p t s. large-out_of_range p a t s.shows (subst (λ (b : Bool). MatchBool b (AreSmall a) (HasLarge a)) e s.range) }

@@ -1,5 +1,5 @@
--- A column that a cost row makes negative has an entry over 0: else it would be a ray along which
--- costs fall, and no cost is negative.
+-- A column that a cost row makes negative has an entry above 0: else it would be a ray along which costs fall, and no
+-- cost is negative.
 use Rattle.std.proofs.Common.{◌≡◌, ℕ, zero, suc, ◌<◌, ◌≤◌, ap, arith, refl, sym, ◌∙◌, ◌⊎◌, inl, inr, [], ◌∷◌, Bool}
 use Rattle.std.proofs.Common.{true, false}
 use Rattle.std.specs.Prelude.{ℤ, pos, ◌+ℤ◌, ◌-ℤ◌, ◌*ℤ◌, ◌≤ℤ◌, ◌<ℤ◌}
@@ -77,7 +77,7 @@ ray-solves p t s c h l = h.back (ray p t s c) (pos 0) rows
         ∙ (ap (λ (z : ℤ). t.entry i c *ℤ s.d +ℤ z) (own_term p t (ray_value p t s c) i h m)
         ∙ (cancels (t.entry i c) (t.scale i) (s.q i) (s.times i m) ∙ times_zero (t.entry i (unknowns p))))
 
--- a column that a cost row makes negative has an entry over 0
+-- a column that a cost row makes negative has an entry above 0
 pub has_candidate : (p : LinearProgram) (t : Tableau) (q c : ℕ) → HasNonnegativeCosts p → IsTableauOf p t → q < 3 → c < unknowns p
     → t.entry (cost_row p q) c <ℤ pos 0 → (i : ℕ) × (i < p.rows) × (pos 0 <ℤ t.entry i c)
 has_candidate p t q c costs h ql l negative = go (some p.rows (λ i. is_candidate t c i)) refl

@@ -19,7 +19,7 @@ next-some p t c r feasible enters leaves =
     ap (λ (b : Bool). if b then None else step_in p t (entering p t)) feasible
     ∙ (ap (λ (o : Option ℕ). step_in p t o) enters ∙ ap (λ (o : Option ℕ). pivot_at t c o) leaves)
 
--- a row with an entry over 0 in a column
+-- a row with an entry above 0 in a column
 pub record Candidate (p : LinearProgram) (t : Tableau) (c : ℕ) : Type 0 where
   pub column : c < p.columns
   pub row : ℕ

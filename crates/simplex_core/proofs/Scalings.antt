@@ -60,7 +60,7 @@ none-more fs m n limit f l is h none = record {
 pub times-of : (f : Frac) (den : ℕ) → unsigned_abs f.den ∣ den → (den / unsigned_abs f.den) * unsigned_abs f.den ≡ den
 times-of f den h = div-mul_cancel (unsigned_abs f.den) h
 
--- a denominator goes into a multiple over 0 at least once
+-- a denominator goes into a multiple above 0 at least once
 pub times-positive : (f : Frac) (den : ℕ) → 0 < den → unsigned_abs f.den ∣ den → 0 < den / unsigned_abs f.den
 times-positive f den positive h = over (den / unsigned_abs f.den) (unsigned_abs f.den) (times-of f den h)
   where
@@ -138,7 +138,7 @@ within-more limit m numbers n long h l = record { each = λ j k. go j (last_or_b
     go j (inl s) = subst (λ (z : ℤ). unsigned_abs z ≤ limit) (sym (at-last numbers n j (s ∙ sym long))) l
     go j (inr k) = subst (λ (z : ℤ). unsigned_abs z ≤ limit) (sym (get_or_append_left numbers (n ∷ []) (pos 0) j (omega (arith, k, long)))) (h.each j k)
 
--- the denominator over which whole numbers are fractions is a common one
+-- the denominator over which integers are fractions is a common one
 pub over-common : (fs : List Frac) (m : ℕ) (numbers : List ℤ) (den : ℕ) → AreOver fs m numbers den → IsCommon fs m den
 over-common fs m numbers den h = record { each = λ j f l i. divides_other f.num f.den (at numbers j) (pos den) f.lowest (sym (h.each j f l i)) }
 

@@ -30,7 +30,7 @@ below_zero n d e s pd ps same h =
     from : (v w : ℤ) → v ≡ e *ℤ d → w ≡ n *ℤ s → w <ℤ (s *ℤ pos 0) → v <ℤ (d *ℤ pos 0)
     from v w a b l = omega (arith, ints)
 
--- with positive factors, where n is over 0 so is e
+-- with positive factors, where n is above 0 so is e
 over_zero : (n d e s : ℤ) → pos 0 <ℤ d → pos 0 <ℤ s → n *ℤ s ≡ e *ℤ d → pos 0 <ℤ n → pos 0 <ℤ e
 over_zero n d e s pd ps same h =
     lt-of-mul_ℤ d (pos 0) e pd (from _ _ (mul_comm_ℤ d e) (mul_comm_ℤ s n) (mul-lt-mul_ℤ s (pos 0) n ps h))
@@ -53,7 +53,7 @@ negative-shows n d e s pd ps same =
     (λ h. lt-int_lt e (pos 0) (below_zero n d e s pd ps same (int_lt-true n (pos 0) h)))
     (λ h. lt-int_lt n (pos 0) (below_zero e s n d ps pd (sym same) (int_lt-true e (pos 0) h)))
 
--- the test for a number over 0
+-- the test for a number above 0
 pub positive-shows : (n d e s : ℤ) → pos 0 <ℤ d → pos 0 <ℤ s → n *ℤ s ≡ e *ℤ d → int_lt (pos 0) n ≡ int_lt (pos 0) e
 positive-shows n d e s pd ps same =
     same_test _ _

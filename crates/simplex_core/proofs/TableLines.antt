@@ -144,7 +144,7 @@ put-bounded lines row old new col m f result bounded read within below put kept 
         subst (λ (l : List (ℕ × Frac)). IsBounded l m) is (one result put kept)
     go i line at (inr d) = bounded.each i line (sym (slice_get-set_other lines row i new d) ∙ at)
 
--- where an entry is put into a row's line, a whole number is written
+-- where an entry is put into a row's line, an integer is written
 pub put-writes : (a b : SparseTable) (row col : ℕ) (number : ℤ) (old new : List (ℕ × Frac)) (f : Frac) → SetsLine a b row new
     → slice_get a.lines.items row ≡ Some old → col < a.columns + a.rows → f.num ≡ number → f.den ≡ pos 1 → IsPut old col f new
     → WritesWhole a b row col number
@@ -208,7 +208,7 @@ pub when-ok : (P Q : Type 0) (r : Result (Unit {0}) AllocError) → (P → Q) �
 when-ok P Q (Ok u) follows h = follows h
 when-ok P Q (Err e) follows h = tt
 
--- a written right side that is a whole number
+-- a written right side that is an integer
 pub side-writes : (a b : SparseTable) (row col : ℕ) (f : Frac) (number : ℤ) → ChangesCell a b row col → cell b row col ≡ Some f → f.num ≡ number → f.den ≡ pos 1
     → WritesWhole a b row col number
 side-writes a b row col f number changes written num den = record {

@@ -1,4 +1,4 @@
--- The answer in whole numbers: what is scaled, and when it can't be.
+-- The answer in integers: what is scaled, and when it can't be.
 use Rattle.std.proofs.Common.{◌≡◌, ℕ, zero, suc, ◌+◌, ◌-◌, ◌*◌, ◌<◌, ◌≤◌, ◌^◌, ap, arith, refl, sym, ◌∙◌, subst, ◌⊎◌}
 use Rattle.std.proofs.Common.{inl, inr, List, [], ◌∷◌, length, Some, Bool, true, false}
 use Rattle.std.specs.Prelude.{ℤ, pos, negsuc, ◌-ℤ◌, ◌*ℤ◌, ◌<ℤ◌, unsigned_abs, slice_get, int_lt, if◌then◌else◌}
@@ -29,7 +29,7 @@ use Rattle.simplex_core.proofs.Regions.{sign_of-square}
 use Rattle.simplex_core.proofs.Positions.{slice_get-there}
 use Rattle.simplex_core.proofs.Scalings.{over-common, passes-above}
 
--- the whole numbers and the point that the fractions hold are the same
+-- the integers and the point that the fractions hold are the same
 same-point : (n : ℕ) (fs : List Frac) (x : ℕ → ℤ) (d : ℤ) (numbers : List ℤ) (den : ℕ) → pos 0 <ℤ d → HoldsPoint n fs x d → AreOver fs (length fs) numbers den
     → AreSame n x d (at numbers) (pos den)
 same-point n fs x d numbers den positive holds over = record {
@@ -94,7 +94,7 @@ least-exceeds fs den limit least above numbers other over within =
     clash : (a b : ℕ) → a ≤ b → b < a → ⊥
     clash a b l m = omega arith
 
--- a solution that has no whole numbers within the limits
+-- a solution that has no integers within the limits
 pub solution-exceeds : (fs : List Frac) → HasNoneScaled fs certificate_limit certificate_limit → ExceedsSolution fs
 solution-exceeds fs h numbers den over within small = go h.each
   where
@@ -122,7 +122,7 @@ small-number f n den e small low large = from_size f.num (zero_size (unsigned_ab
     from_size : (z : ℤ) → unsigned_abs z ≡ 0 → z ≡ pos 0
     from_size z e = omega (arith, ints, e)
 
--- a dual with small denominators that has no whole numbers within the limit
+-- a dual with small denominators that has no integers within the limit
 pub dual-exceeds : (fs : List Frac) → ((j : ℕ) (f : Frac) → slice_get fs j ≡ Some f → unsigned_abs f.den < 2 ^ 31) → HasNoneScaled fs (2 ^ 76) point_limit → ExceedsDual fs
 dual-exceeds fs low h numbers den over within = go h.each
   where

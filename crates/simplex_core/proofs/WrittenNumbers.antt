@@ -1,4 +1,4 @@
--- A table of whole numbers while it is being filled.
+-- A table of integers while it is being filled.
 use Rattle.std.proofs.Common.{◌≡◌, ◌≢◌, ℕ, zero, suc, ◌+◌, ◌-◌, ◌<◌, ◌≤◌, ap, arith, refl, sym, ◌∙◌, ◌⊎◌, inl, inr}
 use Rattle.std.proofs.Common.{List, [], ◌∷◌, ◌++◌, take, Some, Bool, true, false, add-one}
 use Rattle.std.specs.Prelude.{ℤ, pos, ◌*ℤ◌, slice_get, slice_index_or, nat_eq, nat_lt, ◌&&◌, if◌then◌else◌}
@@ -17,7 +17,7 @@ use Rattle.std.proofs.lemmas.Bool.{cases_lt}
 use Rattle.simplex_core.proofs.Invariant.{same_or_other}
 use Rattle.simplex_core.proofs.Regions.{choose-below, choose-above, choose-same, choose-other}
 
--- the whole numbers of a table after one more is written
+-- the integers of a table after one more is written
 pub HoldsWhole-written_within : (a b : SparseTable) (r c : ℕ) (z : ℤ) (g h : ℕ → ℕ → ℤ) → HoldsWhole a g → WritesWhole a b r c z → h r c ≡ z
     → ((i j : ℕ) → i < a.rows + 3 → (i ≡ r → j ≡ c → ⊥) → h i j ≡ g i j) → HoldsWhole b h
 HoldsWhole-written_within a b r c z g h holds writes here others = record {
@@ -49,7 +49,7 @@ HoldsWhole-written_within a b r c z g h holds writes here others = record {
     den i j f l m is (inl e) (inr d) = holds.den i j f (old_row i l) (old_column j m) (before i j f (λ _ k. d k) m is)
     den i j f l m is (inr d) w = holds.den i j f (old_row i l) (old_column j m) (before i j f (λ e _. d e) m is)
 
--- the whole numbers after one more is written
+-- the integers after one more is written
 pub HoldsWhole-written : (a b : SparseTable) (r c : ℕ) (z : ℤ) (g h : ℕ → ℕ → ℤ) → HoldsWhole a g → WritesWhole a b r c z → h r c ≡ z
     → ((i j : ℕ) → (i ≡ r → j ≡ c → ⊥) → h i j ≡ g i j) → HoldsWhole b h
 HoldsWhole-written a b r c z g h holds writes here others =

@@ -1,4 +1,4 @@
--- When two answers are the same, and what trips a linear program.
+-- When two answers to a linear program are the same, and which limit it exceeds.
 use Rattle.std.specs.Prelude.{◌≡◌, ℕ, List, length, slice_get, Some, Result, Ok, Err, ◌⊎◌}
 use Rattle.frac128.specs.declared.frac.Frac.{Frac}
 use Rattle.linear_forms.specs.Causes.{Cause}
@@ -40,12 +40,12 @@ IsSameAnswer (Ok s) (Err e) = IsMemory e
 IsSameAnswer (Err e) (Ok s) = IsMemory e
 IsSameAnswer (Err e) (Err e') = (e ≡ e') ⊎ (IsMemory e ⊎ IsMemory e')
 
--- of one program within one number of pivots there is one answer, but for want of memory
+-- of one program within one number of pivots there is one answer, unless memory runs out
 pub record AnswersAreOne : Type 0 where
   pub each : (p : LinearProgram) (allowed : ℕ) (a b : Result Solved SolveError) → IsAnswer p allowed a
       → IsAnswer p allowed b → IsSameAnswer a b
 
--- programs that agree have the same answers, trip by the same causes, and have the same answers in whole numbers
+-- programs that agree have the same answers, trip by the same causes, and have the same answers in integers
 pub record AgreeingProgramsAnswerTheSame : Type 0 where
   pub each : (p q : LinearProgram) (allowed : ℕ) (a : Result Solved SolveError) → Agree p q → IsAnswer p allowed a
       → IsAnswer q allowed a

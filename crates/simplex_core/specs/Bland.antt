@@ -1,4 +1,4 @@
--- Bland's choice of the pivot, and the sequence of tableaux.
+-- Bland's rule for choosing the pivot, and the sequence of tableaux.
 use Rattle.std.specs.Prelude.{◌≡◌, ◌<◌, ℕ, zero, suc, ℤ, pos, ◌-ℤ◌, ◌*ℤ◌, int_lt, nat_lt, nat_le, Bool, true, false}
 use Rattle.std.specs.Prelude.{not, ◌&&◌, ◌||◌, if◌then◌else◌, Option, Some, None}
 use Rattle.int_laws.specs.NormalForm.{is_zero}
@@ -25,24 +25,24 @@ goes_before p t c i r =
     let right = t.entry r (unknowns p) *ℤ t.entry i c in
     int_lt left right || (not (int_lt right left) && nat_lt (t.basis i) (t.basis r))
 
--- whether row i has an entry over 0 in column c
+-- whether row i has an entry above 0 in column c
 abbrev pub is_candidate : Tableau → ℕ → ℕ → Bool
 is_candidate t c i = int_lt (pos 0) (t.entry i c)
 
--- of the first m rows, row r has an entry over 0 in column c, and none that has goes before it; of all rows of a
+-- of the first m rows, row r has an entry above 0 in column c, and none that has goes before it; of all rows of a
 -- tableau of the program this is the leaving row
 pub record IsBest (p : LinearProgram) (t : Tableau) (c m r : ℕ) : Type 0 where
   pub row : r < m
   pub candidate : is_candidate t c r ≡ true
   pub best : (i : ℕ) → i < m → is_candidate t c i ≡ true → goes_before p t c i r ≡ false
 
--- the leaving row: of the rows with an entry over 0 in column c, the one that none goes before
+-- the leaving row: of the rows with an entry above 0 in column c, the one that none goes before
 abbrev pub leaving : LinearProgram → Tableau → ℕ → Option ℕ
 leaving p t c =
     least p.rows (λ r. is_candidate t c r && every p.rows (λ i. not (is_candidate t c i && goes_before p t c i r)))
 
--- whether the artificial unknowns of the basic solution add up to more than 0: as none of them is below 0, this
--- is that a row is solved for one with a right side over 0 (`ArtificialSumsAreTold` says that the two are the same)
+-- whether the artificial unknowns of the basic solution add up to more than 0: as none of them is below 0, this is that
+-- a row is solved for one with a right side above 0 (`ArtificialSumsAreTold` says that the two are the same)
 abbrev pub has_artificial : LinearProgram → Tableau → Bool
 has_artificial p t = some p.rows (λ i. nat_le p.columns (t.basis i) && int_lt (pos 0) (t.entry i (unknowns p)))
 

@@ -1,4 +1,4 @@
--- The table while it is being filled: whole numbers that are known.
+-- The table while it is being filled with integers.
 use Rattle.std.specs.Prelude.{◌≡◌, ℕ, zero, suc, ◌+◌, ◌-◌, ◌^◌, ◌<◌, ◌≤◌, ℤ, pos, ◌-ℤ◌, ◌*ℤ◌, unsigned_abs, nat_lt}
 use Rattle.std.specs.Prelude.{nat_eq}
 use Rattle.std.specs.Prelude.{if◌then◌else◌, List, Some, slice_index_or}
@@ -10,7 +10,7 @@ use Rattle.simplex_core.specs.Tableau.{sign_of}
 use Rattle.simplex_core.specs.Problem.{entry_value}
 use Rattle.simplex_core.specs.Cells.{width, cell, ChangesCell}
 
--- each number of the table is the whole number g i j
+-- each number of the table is the integer g i j
 pub record HoldsWhole (table : SparseTable) (g : ℕ → ℕ → ℤ) : Type 0 where
   pub num : (i j : ℕ) (f : Frac) → i < table.rows + 3 → j < width table → cell table i j ≡ Some f → f.num ≡ g i j
   pub den : (i j : ℕ) (f : Frac) → i < table.rows + 3 → j < width table → cell table i j ≡ Some f → f.den ≡ pos 1
@@ -61,7 +61,7 @@ pub record AreSumsOf (g : ℕ → ℕ → ℤ) (m n : ℕ) (sums : List ℤ) : T
 pub record AreNarrowNumbers (numbers : List ℤ) : Type 0 where
   pub each : (k : ℕ) → unsigned_abs (slice_index_or numbers k (pos 0)) < 2 ^ 127
 
--- a whole number is written in a row and a column, and the table is else as before
+-- an integer is written in a row and a column, and the table is else as before
 pub record WritesWhole (old new : SparseTable) (row column : ℕ) (number : ℤ) : Type 0 where
   pub changes : ChangesCell old new row column
   pub num : (f : Frac) → cell new row column ≡ Some f → f.num ≡ number

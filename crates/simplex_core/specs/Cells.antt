@@ -1,4 +1,4 @@
--- How the code's table of fractions shows a tableau.
+-- How a sparse table of fractions represents a tableau.
 use Rattle.std.specs.Prelude.{◌≡◌, ◌≢◌, ℕ, ◌+◌, ◌<◌, ℤ, pos, ◌-ℤ◌, ◌*ℤ◌, ◌<ℤ◌, List, Option, Some, None, false, nat_eq}
 use Rattle.std.specs.Prelude.{if◌then◌else◌}
 use Rattle.std.specs.Prelude.{slice_get, slice_index, slice_index_or, slice_set, length, ◌⊎◌, MatchBool}
@@ -97,14 +97,14 @@ pub record HasLargeIn (table : SparseTable) (r : ℕ) : Type 0 where
 pub record IsCellBelow (bits : ℕ) (table : SparseTable) (i j : ℕ) : Type 0 where
   pub each : (f : Frac) → cell table i j ≡ Some f → IsBelow bits f
 
--- a number of the first m rows, but for row r, isn't below 2^31
+-- a number of the first m rows, except for row r, isn't below 2^31
 pub record HasLargeBut (table : SparseTable) (r m : ℕ) : Type 0 where
   pub row : ℕ
   pub within : row < m
   pub apart : row ≢ r
   pub large : HasLargeIn table row
 
--- each number of the first m rows, but for row r, is below 2^31
+-- each number of the first m rows, except for row r, is below 2^31
 pub record AreSmallBut (table : SparseTable) (r m : ℕ) : Type 0 where
   pub each : (i : ℕ) → i ≢ r → i < m → IsRowBelow 31 table i
 
@@ -144,7 +144,7 @@ pub record IsPivoted (old new : SparseTable) (r c : ℕ) : Type 0 where
       → cell old i c ≡ Some factor
       → cell new r j ≡ Some b → cell new i j ≡ Some g → IsLessMultiple f factor b g
 
--- the table shows the tableau: its fractions are the tableau's, over scales over 0, and its basis is
+-- the table shows the tableau: its fractions are the tableau's, over scales above 0, and its basis is
 pub record Shows (p : LinearProgram) (table : SparseTable) (t : Tableau) : Type 0 where
   pub rows : table.rows ≡ p.rows
   pub columns : table.columns ≡ p.columns
@@ -153,7 +153,7 @@ pub record Shows (p : LinearProgram) (table : SparseTable) (t : Tableau) : Type 
       → IsFraction f (t.entry i j) (t.scale i)
   pub basis : (i : ℕ) → i < p.rows → slice_index table.basis.items i ≡ t.basis i
 
--- the table shows the tableau, and has noted whether all its numbers are below 2^31
+-- the table shows the tableau, and its flag says whether all its numbers are below 2^31
 pub record ShowsTested (p : LinearProgram) (table : SparseTable) (t : Tableau) : Type 0 where
   pub shows : Shows p table t
   pub range : MatchBool table.is_small (AreSmall table) (HasLarge table)
@@ -178,7 +178,7 @@ pub record HoldsDual (table : SparseTable) (right : List ℤ) (m : ℕ) (dual : 
       → cell table table.rows (table.columns + k) ≡ Some x
       → IsFraction y (sign_of (slice_index_or right k (pos 0)) *ℤ (x.den -ℤ x.num)) x.den
 
--- the row is the best of the first m; no row, where none has an entry over 0
+-- the row is the best of the first m; no row, where none has an entry above 0
 abbrev pub IsBestOf : LinearProgram → Tableau → ℕ → ℕ → Option ℕ → Type 0
 IsBestOf p t c m None = (i : ℕ) → i < m → is_candidate t c i ≡ false
 IsBestOf p t c m (Some r) = IsBest p t c m r

@@ -1,4 +1,4 @@
--- The columns while the first table is made of them.
+-- The columns while the first table is built from them.
 use Rattle.std.specs.Prelude.{◌≡◌, ℕ, ◌+◌, ◌-◌, ◌<◌, ◌≤◌, ℤ, pos, ◌+ℤ◌, ◌-ℤ◌, ◌*ℤ◌, nat_lt, nat_eq, if◌then◌else◌, List}
 use Rattle.std.specs.Prelude.{[], ◌∷◌, Some}
 use Rattle.std.specs.Prelude.{length, slice_get, slice_index_or}
@@ -9,7 +9,7 @@ use Rattle.sparse_columns.specs.Columns.{numerator}
 use Rattle.simplex_core.specs.declared.problem.Entry.{Entry}
 use Rattle.simplex_core.specs.Tableau.{sign_of}
 
--- there are n columns, of the whole numbers g i j
+-- there are n columns, of the integers g i j
 pub record AreColumns (columns : List Column) (n : ℕ) (g : ℕ → ℕ → ℤ) : Type 0 where
   pub length_is : length columns ≡ n
   pub numbers : (i j : ℕ) (x : Column) → slice_get columns j ≡ Some x → numerator x i ≡ g i j

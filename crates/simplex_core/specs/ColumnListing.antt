@@ -1,4 +1,4 @@
--- For each row the columns that may have a number there, and how these lists are kept.
+-- For each row the columns that may have a nonzero number there, and how these lists are maintained.
 use Rattle.std.specs.Prelude.{◌≡◌, ◌≢◌, ℕ, ◌<◌, pos, Bool, true, List, Some, length, slice_get}
 use Rattle.sparse_columns.specs.declared.cell.Cell.{Cell}
 use Rattle.sparse_columns.specs.declared.column.Column.{Column}
@@ -50,7 +50,7 @@ pub record UnmarksAt (old new : List Bool) (j : ℕ) : Type 0 where
   pub length_is : length new ≡ length old
   pub each : (k : ℕ) → slice_get new k ≡ Some true → (slice_get old k ≡ Some true) × (k ≢ j)
 
--- so it is of the first m of these columns
+-- the same for the first m of these columns
 pub record Unmarks (old new : List Bool) (touched : List ℕ) (m : ℕ) : Type 0 where
   pub length_is : length new ≡ length old
   pub each : (k : ℕ) → slice_get new k ≡ Some true

@@ -1,4 +1,4 @@
--- What is read off a table of columns.
+-- The solution and the dual that are read off a table of columns.
 use Rattle.std.specs.Prelude.{◌≡◌, ◌≢◌, ℕ, ◌+◌, ◌<◌, ℤ, pos, ◌-ℤ◌, ◌*ℤ◌, List, Some, slice_get, slice_index}
 use Rattle.std.specs.Prelude.{slice_index_or}
 use Rattle.std.specs.Prelude.{length, ◌⊎◌}

@@ -1,4 +1,4 @@
--- How a table of columns shows a tableau.
+-- How a table of columns represents a tableau.
 use Rattle.std.specs.Prelude.{◌≡◌, ◌≢◌, ℕ, ◌+◌, ◌<◌, ℤ, pos, ◌-ℤ◌, ◌*ℤ◌, ◌<ℤ◌, ◌≤ℤ◌, List, Option, Some, None, false}
 use Rattle.std.specs.Prelude.{true, slice_get}
 use Rattle.std.specs.Prelude.{slice_index, slice_set}
@@ -34,8 +34,8 @@ pub record IsKept (table : ColumnTable) : Type 0 where
   pub first : IsFirst table
   pub blank : AreBlank table.marks.items (table.width + table.rows)
 
--- the table shows the tableau: its columns' numbers are the tableau's, over scales over 0, and its basis is; and what it
--- keeps beside them is right
+-- the table shows the tableau: its columns' numbers are the tableau's, over scales above 0, and its basis is; and what
+-- it keeps beside them is right
 pub record ShowsColumns (p : LinearProgram) (table : ColumnTable) (t : Tableau) : Type 0 where
   pub rows : table.rows ≡ p.rows
   pub columns : table.width ≡ p.columns
@@ -51,8 +51,8 @@ pub record IsCellOf (table : ColumnTable) (j : ℕ) (cell : Cell) : Type 0 where
   pub row : cell.row < table.rows
   pub number : (c : Column) → slice_get table.columns.items j ≡ Some c → numerator c cell.row ≡ cell.number
 
--- of the first m cells, the cell is in a row with an entry over 0 in column c, and none that is goes before it;
--- no cell, where none is
+-- of the first m cells, the cell is in a row with an entry above 0 in column c, and none that is goes before it; no
+-- cell, where none is
 abbrev pub IsBestCell : LinearProgram → Tableau → ℕ → List Cell → ℕ → Option Cell → Type 0
 IsBestCell p t c cells m None =
     (k : ℕ) (e : Cell) → k < m → slice_get cells k ≡ Some e → is_candidate t c e.row ≡ false
@@ -106,7 +106,7 @@ pub record ClearsTouched (old new : ColumnTable) (r : ℕ) (pivot : ℤ) (shifte
   pub marks : new.marks.items ≡ old.marks.items
   pub first : IsFirst old → IsFirst new
 
--- so is one column
+-- the same for one column
 pub record ClearsColumn (old new : ColumnTable) (position r : ℕ) (pivot : ℤ) (shifted : List Cell) : Type 0 where
   pub rows : new.rows ≡ old.rows
   pub columns : new.width ≡ old.width

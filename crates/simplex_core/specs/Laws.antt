@@ -30,8 +30,8 @@ abbrev pub SaysInfeasible : Solved → Type 0
 SaysInfeasible (Optimal at basis k) = ⊥
 SaysInfeasible (Infeasible dual k) = Unit {0}
 
--- an answer that is `Optimal` says that there is a solution, and one that is `Infeasible` that there is
--- none; so where there is none and nothing trips, the answer is `Infeasible`
+-- an answer `Optimal` means that there is a solution, and an answer `Infeasible` that there is none; so where there is
+-- none and nothing trips, the answer is `Infeasible`
 pub record OutcomeTellsSolutions : Type 0 where
   pub optimal : (p : LinearProgram) (allowed : ℕ) (at : Vec Frac Global) (basis : Vec ℕ Global) (k : ℕ)
       → IsAnswer p allowed (Ok (Optimal at basis k)) → HasSolution p
@@ -47,8 +47,8 @@ pub record IsBasicPoint (p : LinearProgram) (t : Tableau) (x : ℕ → ℤ) (d :
   pub basic : (i : ℕ) → i < p.rows → x (t.basis i) *ℤ t.scale i ≡ t.entry i (unknowns p) *ℤ d
   pub other : (j : ℕ) → ((i : ℕ) → i < p.rows → t.basis i ≢ j) → x j ≡ pos 0
 
--- at each tableau of the sequence the test of the artificial unknowns says whether their sum is over 0
-pub record ArtificialSumsAreTold : Type 0 where
+-- at each tableau of the sequence the test of the artificial unknowns says whether their sum is above 0
+pub record ArtificialSumsAreWorkedOut : Type 0 where
   pub over : (p : LinearProgram) (k : ℕ) (t : Tableau) (x : ℕ → ℤ) (d : ℤ) → tableau_at p k ≡ Some t
       → IsBasicPoint p t x d → has_artificial p t ≡ true
       → pos 0 <ℤ sum_to p.rows (λ i. x (artificial p i))

@@ -1,4 +1,4 @@
--- What `solve` answers: the end of the sequence of tableaux, or the limit that it trips.
+-- The answer of `solve`: the end of the sequence of tableaux, or the limit that it exceeds.
 use Rattle.std.specs.Prelude.{◌≡◌, ℕ, ◌<◌, ◌≤◌, ℤ, pos, ◌*ℤ◌, ◌<ℤ◌, unsigned_abs, List, length, slice_get}
 use Rattle.std.specs.Prelude.{slice_index, Some, None, false, true, Result, MatchResult, ◌≢◌, ◌⊎◌}
 use Rattle.frac128.specs.declared.frac.Frac.{Frac}
@@ -60,7 +60,7 @@ pub record EndsOptimally (p : LinearProgram) (allowed : ℕ) (at : List Frac) (b
   pub basic : (j : ℕ) (f : Frac) → slice_get at j ≡ Some f → IsBasicValue p last j f
 
 -- the sequence ends as infeasible within the allowed pivots: the list is the last tableau's dual, and holds a dual of
--- the program over a scale over 0
+-- the program over a scale above 0
 pub record EndsInfeasibly (p : LinearProgram) (allowed : ℕ) (dual : List Frac) (k : ℕ) : Type 0 where
   pub within : k ≤ allowed
   pub last : Tableau
@@ -94,17 +94,17 @@ abbrev pub IsEnd : LinearProgram → ℕ → Solved → Type 0
 IsEnd p allowed (Optimal at basis k) = EndsOptimally p allowed at.items basis.items k
 IsEnd p allowed (Infeasible dual k) = EndsInfeasibly p allowed dual.items k
 
--- what the sequence within the allowed pivots trips; want of memory may come at any time
-abbrev pub IsTrip : LinearProgram → ℕ → SolveError → Type 0
-IsTrip p allowed (Range k) = TripsRange p allowed k
-IsTrip p allowed (Budget k) = (k ≡ allowed) × TripsBudget p allowed
-IsTrip p allowed (Wide n) = ⊥
-IsTrip p allowed Memory = Unit {0}
+-- what the sequence within the allowed pivots trips; running out of memory may come at any time
+abbrev pub IsLimitHit : LinearProgram → ℕ → SolveError → Type 0
+IsLimitHit p allowed (Range k) = TripsRange p allowed k
+IsLimitHit p allowed (Budget k) = (k ≡ allowed) × TripsBudget p allowed
+IsLimitHit p allowed (Wide n) = ⊥
+IsLimitHit p allowed Memory = Unit {0}
 
 -- the answer that isn't an end: the table would be too wide, or it isn't and the sequence trips
 abbrev pub IsStop : LinearProgram → ℕ → SolveError → Type 0
-IsStop p allowed (Range k) = (table_size p ≤ widest) × IsTrip p allowed (Range k)
-IsStop p allowed (Budget k) = (table_size p ≤ widest) × IsTrip p allowed (Budget k)
+IsStop p allowed (Range k) = (table_size p ≤ widest) × IsLimitHit p allowed (Range k)
+IsStop p allowed (Budget k) = (table_size p ≤ widest) × IsLimitHit p allowed (Budget k)
 IsStop p allowed (Wide n) = (widest < table_size p) × (n ≡ table_size p)
 IsStop p allowed Memory = Unit {0}
 

@@ -1,4 +1,4 @@
--- The positions of a tableau.
+-- The positions of numbers in a tableau.
 use Rattle.std.specs.Prelude.{ℕ, ◌+◌, ◌<◌, ◌≤◌}
 
 -- row i and column j are in the tableau: a cost row has no right side

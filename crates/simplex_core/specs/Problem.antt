@@ -1,4 +1,4 @@
--- The linear program that a problem as handed in stands for.
+-- The linear program of a problem as it is handed in.
 use Rattle.std.specs.Prelude.{◌≡◌, ◌≢◌, ℕ, ◌^◌, ◌<◌, ◌*◌, ◌+◌, ℤ, pos, nat_eq, ◌&&◌, if◌then◌else◌, List, [], ◌∷◌}
 use Rattle.std.specs.Prelude.{length, slice_get, slice_index_or, Some}
 use Rattle.simplex_core.specs.declared.problem.Problem.{Problem}

@@ -9,17 +9,17 @@ use Rattle.linear_forms.specs.Limits.{certificate_limit, point_limit}
 pub record IsCommon (fs : List Frac) (m n : ℕ) : Type 0 where
   pub each : (j : ℕ) (f : Frac) → j < m → slice_get fs j ≡ Some f → unsigned_abs f.den ∣ n
 
--- n is the least common denominator of the first m fractions: it is over 0, and divides each other one
+-- n is the least common denominator of the first m fractions: it is above 0, and divides each other one
 pub record IsLeastCommon (fs : List Frac) (m n : ℕ) : Type 0 where
   pub positive : 0 < n
   pub common : IsCommon fs m n
   pub least : (k : ℕ) → IsCommon fs m k → n ∣ k
 
--- no common denominator over 0 of the first m fractions is within the limit
+-- no common denominator above 0 of the first m fractions is within the limit
 pub record HasNoCommonWithin (fs : List Frac) (m limit : ℕ) : Type 0 where
   pub each : (n : ℕ) → 0 < n → IsCommon fs m n → limit < n
 
--- the first m of the whole numbers, over a denominator, are the first m fractions
+-- the first m of the integers, over a denominator, are the first m fractions
 pub record AreOver (fs : List Frac) (m : ℕ) (numbers : List ℤ) (den : ℕ) : Type 0 where
   pub positive : 0 < den
   pub each : (j : ℕ) (f : Frac) → j < m → slice_get fs j ≡ Some f → at numbers j *ℤ f.den ≡ f.num *ℤ pos den
@@ -28,7 +28,7 @@ pub record AreOver (fs : List Frac) (m : ℕ) (numbers : List ℤ) (den : ℕ) :
 pub record AreWithin (limit m : ℕ) (numbers : List ℤ) : Type 0 where
   pub each : (j : ℕ) → j < m → unsigned_abs (at numbers j) ≤ limit
 
--- the whole numbers over the denominator are the fractions, and the denominator is their least common one
+-- the integers over the denominator are the fractions, and the denominator is their least common one
 pub record AreScaled (fs : List Frac) (numbers : List ℤ) (den : ℕ) : Type 0 where
   pub lengths : length numbers ≡ length fs
   pub over : AreOver fs (length fs) numbers den

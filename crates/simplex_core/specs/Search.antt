@@ -11,7 +11,7 @@ abbrev pub some : ℕ → (ℕ → Bool) → Bool
 some zero passes = false
 some (suc n) passes = some n passes || passes n
 
--- the first of two that is there
+-- the first of two numbers that may be absent
 abbrev pub or_else : Option ℕ → Option ℕ → Option ℕ
 or_else (Some j) other = Some j
 or_else None other = other

@@ -1,4 +1,4 @@
--- What a table that shows a tableau is asked, and what it gives, in the tableau's words alone.
+-- The preconditions and results of the operations on a table that shows a tableau, in terms of the tableau alone.
 use Rattle.std.specs.Prelude.{◌≡◌, ℕ, ◌<◌, ℤ, pos, List, Some, true, length, slice_get, slice_index, slice_index_or}
 use Rattle.frac128.specs.declared.frac.Frac.{Frac}
 use Rattle.linear_forms.specs.LinearProgram.{LinearProgram}
@@ -31,7 +31,7 @@ pub record ShowsOutOfRange {Table : Type 0} (shows : LinearProgram → Table →
     (table : Table) : Type 0 where
   pub each : (p : LinearProgram) (t : Tableau) → shows p table t → ¬ IsInRange p t
 
--- the table shows a tableau in range, in which an equation has an entry over 0 in column c
+-- the table shows a tableau in range, in which an equation has an entry above 0 in column c
 pub record MayPivot {Table : Type 0} (shows : LinearProgram → Table → Tableau → Type 0) (table : Table)
     (c : ℕ) : Type 0 where
   pub p : LinearProgram

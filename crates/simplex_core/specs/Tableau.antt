@@ -1,4 +1,4 @@
--- The tableaux of the simplex method with artificial unknowns, in whole numbers.
+-- The tableaux of the simplex method with artificial unknowns, in integers.
 use Rattle.std.specs.Prelude.{ℕ, zero, suc, ◌+◌, ◌-◌, ℤ, pos, negsuc, ◌-ℤ◌, ◌*ℤ◌, int_lt, nat_lt, nat_eq, if◌then◌else◌}
 use Rattle.int_laws.specs.Sums.{sum_to}
 use Rattle.linear_forms.specs.LinearProgram.{LinearProgram}

@@ -1,4 +1,4 @@
--- What trips a linear program, and the answer in whole numbers where nothing does.
+-- Which limit a linear program exceeds, and the answer in integers if it exceeds none.
 use Rattle.std.specs.Prelude.{◌≡◌, ℕ, ◌<◌, ◌≤◌, List, length, ◌⊎◌, ℤ, pos}
 use Rattle.frac128.specs.declared.frac.Frac.{Frac}
 use Rattle.linear_forms.specs.Forms.{at}
@@ -6,12 +6,12 @@ use Rattle.linear_forms.specs.Causes.{Cause, range, budget, wide, scale, cause_o
 use Rattle.linear_forms.specs.Limits.{certificate_limit, point_limit}
 use Rattle.linear_forms.specs.LinearProgram.{LinearProgram, IsSolution, IsLeast, IsDual}
 use Rattle.simplex_core.specs.declared.answers.Answer.{Answer}
-use Rattle.simplex_core.specs.declared.answers.Answer.TheVariants.{Solution, Dual, Tripped}
+use Rattle.simplex_core.specs.declared.answers.Answer.TheVariants.{Solution, Dual, OutOfLimits}
 use Rattle.simplex_core.specs.Problem.{table_size, widest}
 use Rattle.simplex_core.specs.Outcome.{EndsOptimally, EndsInfeasibly, TripsRange, TripsBudget}
 use Rattle.simplex_core.specs.Scaling.{AreScaled, AreWithin, ExceedsSolution, ExceedsDual}
 
--- the sequence ends as optimal, and the solution has no whole numbers small enough
+-- the sequence ends as optimal, and the solution has no integers small enough
 pub record TripsSolution (p : LinearProgram) (allowed : ℕ) : Type 0 where
   pub at : List Frac
   pub basis : List ℕ
@@ -19,16 +19,16 @@ pub record TripsSolution (p : LinearProgram) (allowed : ℕ) : Type 0 where
   pub ends : EndsOptimally p allowed at basis k
   pub exceeds : ExceedsSolution at
 
--- the sequence ends as infeasible, and the dual has no whole numbers small enough
+-- the sequence ends as infeasible, and the dual has no integers small enough
 pub record TripsDual (p : LinearProgram) (allowed : ℕ) : Type 0 where
   pub dual : List Frac
   pub k : ℕ
   pub ends : EndsInfeasibly p allowed dual k
   pub exceeds : ExceedsDual dual
 
--- a linear program, within a number of pivots, trips by a cause: its table is too wide, and has so many numbers; or it
--- isn't, and after so many pivots a number is out of range; or the allowed pivots don't suffice; or the answer has no
--- whole numbers small enough
+-- a linear program, within a number of pivots, trips by a cause: its table is too wide, and has this many numbers; or
+-- it isn't, and after this many pivots a number is out of range; or the allowed pivots don't suffice; or the answer has
+-- no integers small enough
 abbrev pub Trips : LinearProgram → ℕ → Cause → Type 0
 Trips p allowed (wide n) = (widest < table_size p) × (n ≡ table_size p)
 Trips p allowed (range k) = (table_size p ≤ widest) × TripsRange p allowed k
@@ -62,27 +62,27 @@ pub record IsScaledDual (p : LinearProgram) (allowed : ℕ) (numbers : List ℤ)
   pub rows : length numbers ≡ p.rows
   pub certified : IsDual p (at numbers)
 
--- the answer in whole numbers, within a number of pivots
+-- the answer in integers, within a number of pivots
 abbrev pub IsWholeAnswer : LinearProgram → ℕ → Answer → Type 0
 IsWholeAnswer p allowed (Solution s) = IsScaledSolution p allowed s.numbers.items s.den
 IsWholeAnswer p allowed (Dual s) = IsScaledDual p allowed s.numbers.items s.den
-IsWholeAnswer p allowed (Tripped cause) = Trips p allowed (cause_of cause)
+IsWholeAnswer p allowed (OutOfLimits cause) = Trips p allowed (cause_of cause)
 
 -- the answers are the same
 abbrev pub IsSameWholeAnswer : Answer → Answer → Type 0
 IsSameWholeAnswer (Solution s) (Solution t) = (s.numbers.items ≡ t.numbers.items) × (s.den ≡ t.den)
 IsSameWholeAnswer (Solution s) (Dual t) = ⊥
-IsSameWholeAnswer (Solution s) (Tripped c) = ⊥
+IsSameWholeAnswer (Solution s) (OutOfLimits c) = ⊥
 IsSameWholeAnswer (Dual s) (Solution t) = ⊥
 IsSameWholeAnswer (Dual s) (Dual t) = (s.numbers.items ≡ t.numbers.items) × (s.den ≡ t.den)
-IsSameWholeAnswer (Dual s) (Tripped c) = ⊥
-IsSameWholeAnswer (Tripped c) (Solution t) = ⊥
-IsSameWholeAnswer (Tripped c) (Dual t) = ⊥
-IsSameWholeAnswer (Tripped c) (Tripped d) = cause_of c ≡ cause_of d
+IsSameWholeAnswer (Dual s) (OutOfLimits c) = ⊥
+IsSameWholeAnswer (OutOfLimits c) (Solution t) = ⊥
+IsSameWholeAnswer (OutOfLimits c) (Dual t) = ⊥
+IsSameWholeAnswer (OutOfLimits c) (OutOfLimits d) = cause_of c ≡ cause_of d
 
--- of one program within one number of pivots there is one answer in whole numbers: so it trips, and by which cause, or
--- has a solution, or has none; and where one finds numbers for fractions over their least common denominator that
--- aren't within the limits, no other common denominator helps
+-- of one program within one number of pivots there is one answer in integers: so it trips, and by which cause, or has a
+-- solution, or has none; and where one finds numbers for fractions over their least common denominator that aren't
+-- within the limits, no other common denominator helps
 pub record WholeAnswersAreOne : Type 0 where
   pub each : (p : LinearProgram) (allowed : ℕ) (a b : Answer) → IsWholeAnswer p allowed a → IsWholeAnswer p allowed b
       → IsSameWholeAnswer a b

@@ -1,4 +1,4 @@
-//! The answer in whole numbers, or what trips.
+//! The answer in integers, or the limit that was exceeded.
 
 ghost use Rattle.std.specs.Prelude.{ℕ, IfOk};
 ghost use Rattle.simplex_core.specs.Problem.{program_of, IsProper};
@@ -7,13 +7,13 @@ ghost use Rattle.simplex_core.specs.Trips.{IsWholeAnswer};
 use crate::problem::{Problem, SolveError, Solved};
 use crate::scaling::{Numerators, scale_by_least};
 use crate::solving::solve;
-use linear_forms::{CERTIFICATE_LIMIT, POINT_LIMIT, TripCause};
+use linear_forms::{CERTIFICATE_LIMIT, LimitCause, POINT_LIMIT};
 use std::alloc::{AllocError, Global};
 
-/// What no denominator of a dual whose numbers are within their limit passes.
+/// A limit that no denominator of a dual exceeds, if the dual's numbers are within their own limit.
 const DUAL_DENOMINATOR_LIMIT: u128 = 1 << 76;
 
-/// The end of the sequence of tableaux in whole numbers, or what trips.
+/// The end of the sequence of tableaux in integers, or the limit that was exceeded.
 #[derive(Debug, Drop, PartialEq, Eq)]
 pub enum Answer {
     /// A solution of least cost, one number for each column.
@@ -21,12 +21,12 @@ pub enum Answer {
     /// A dual, which shows that there is no solution, one number for each row.
     Dual(Numerators),
     /// The linear program trips.
-    Tripped(TripCause),
+    OutOfLimits(LimitCause),
 }
 
 /// Solves a linear program, and scales what it finds by the least common denominator. The condition is that of `solve`.
 /// `Scale` comes exactly where over no common denominator the numbers are small enough: within the limit of
-/// certificates, 2^55, for those of a solution and its denominator, and within that of points, 2^45, for those of a
+/// certificates, 2^56, for those of a solution and its denominator, and within that of points, 2^45, for those of a
 /// dual.
 ///
 /// # Errors
@@ -45,18 +45,20 @@ pub fn solve_scaled(alloc: Global, problem: &Problem, pivots: u32) -> Result<Ans
                 CERTIFICATE_LIMIT,
             )? {
                 Some(solution) => Ok(Answer::Solution(solution)),
-                None => Ok(Answer::Tripped(TripCause::Scale)),
+                None => Ok(Answer::OutOfLimits(LimitCause::Scale)),
             }
         }
         Ok(Solved::Infeasible { dual, .. }) => {
             match scale_by_least(alloc, dual.as_slice(), DUAL_DENOMINATOR_LIMIT, POINT_LIMIT)? {
                 Some(dual) => Ok(Answer::Dual(dual)),
-                None => Ok(Answer::Tripped(TripCause::Scale)),
+                None => Ok(Answer::OutOfLimits(LimitCause::Scale)),
             }
         }
-        Err(SolveError::Range { pivot }) => Ok(Answer::Tripped(TripCause::Range { pivot })),
-        Err(SolveError::Budget { pivots }) => Ok(Answer::Tripped(TripCause::Budget { pivots })),
-        Err(SolveError::Wide { entries }) => Ok(Answer::Tripped(TripCause::Wide { entries })),
+        Err(SolveError::Range { pivot }) => Ok(Answer::OutOfLimits(LimitCause::Range { pivot })),
+        Err(SolveError::Budget { pivots }) => Ok(Answer::OutOfLimits(LimitCause::Budget {
+            pivots,
+        })),
+        Err(SolveError::Wide { entries }) => Ok(Answer::OutOfLimits(LimitCause::Wide { entries })),
         Err(SolveError::Memory) => Err(AllocError),
     }
 }

@@ -1,5 +1,5 @@
-//! The arithmetic of a pivot. The fractions of a tableau within the limit are below 2^31, so no
-//! number of a formula is beyond 127 bits.
+//! The arithmetic of a pivot. The fractions of a tableau within the limit are below 2^31, so no number in a formula
+//! exceeds 127 bits.
 
 ghost use Rattle.std.specs.Prelude.{◌≡◌, ◌≢◌, ℕ, ◌^◌, ◌<◌, ℤ, pos, ◌-ℤ◌, ◌*ℤ◌, ◌<ℤ◌, negsuc, if◌then◌else◌};
 ghost use Rattle.std.specs.Prelude.{unsigned_abs, MatchBool};
@@ -9,7 +9,8 @@ ghost use Rattle.simplex_core.specs.Sizes.{number_limit, IsBelow};
 
 use frac128::Frac;
 
-/// What the numbers of a problem, and the numerators and denominators of a tableau, are below in absolute value: 2^31.
+/// The strict limit on the absolute values of a problem's numbers, and of numerators and denominators of a tableau:
+/// 2^31.
 pub(crate) const NUMBER_LIMIT: u128 = 1 << 31;
 
 /// Whether numerator and denominator are below 2^31.
@@ -82,7 +83,7 @@ pub(crate) fn less_multiple(a: Frac, factor: Frac, b: Frac) -> Frac
     lowest(large_difference(left, right), under)
 }
 
-/// A whole number less a multiple of one.
+/// An integer less a multiple of one.
 fn less_whole_multiple(a: i128, factor: i128, b: i128) -> Frac
     requires a_small { unsigned_abs a < number_limit }
     requires factor_small { unsigned_abs factor < number_limit }

@@ -1,4 +1,4 @@
-//! Whether the numbers of a problem are below 2^31, before any sum is made of them.
+//! Checks that the numbers of a problem are below 2^31, before any sum is computed from them.
 
 ghost use Rattle.std.specs.Prelude.{ℕ, MatchBool};
 ghost use Rattle.simplex_core.specs.Numbers.{AreNumbersSmall, IsOneAbove, AreEntriesBelow, IsOneEntryAbove};

@@ -1,4 +1,4 @@
-//! A table that keeps the columns of the tableau: whole numbers over one denominator a column, without zeros.
+//! A table that stores the columns of the tableau: the nonzero integers of each, over one denominator.
 
 mod entering;
 mod first;
@@ -19,7 +19,7 @@ use sparse_columns::Column;
 /// cost rows are rows behind the equations'; the right sides have none. Each number and each denominator is below 2^31
 /// by its type, so such a table is in range. For each equation's row the columns that may have a number there are
 /// listed, so that a pivot looks at no others. The lists may name other columns too, and some twice; where the room for
-/// that is used up, they are made anew. Before the first column none has a number below 0 in the first cost row, so the
+/// that is used up, they are rebuilt. Before the first column none has a number below 0 in the first cost row, so the
 /// search for the entering column begins there. The marks, one a column, are not set but while a list is gone through.
 #[derive(Debug, Drop)]
 pub(crate) struct ColumnTable {

@@ -1,4 +1,9 @@
-//! Bland's simplex method over exact fractions.
+//! The simplex method with Bland's rule, over exact fractions.
+//!
+//! Builds on `sparse_columns` (the fast table, of integers over one denominator) and `sparse_rows` (the table of
+//! fractions used where an integer doesn't fit), for linear programs as `linear_forms` defines them. Main guarantee:
+//! `solve` returns a solution of least cost, or a dual exactly where there is no solution, or the first limit that
+//! Bland's sequence of tableaux exceeds. Source: R. G. Bland, New finite pivoting rules for the simplex method, 1977.
 #![tactic(auto)]
 
 mod answers;
@@ -15,7 +20,7 @@ mod sparse_table;
 
 pub use answers::{Answer, solve_scaled};
 pub use laws::{
-    agreeing_programs_answer_the_same, answers_are_one, artificial_sums_are_told,
+    agreeing_programs_answer_the_same, answers_are_one, artificial_sums_hold,
     dual_excludes_solutions, least_costs_least, outcome_tells_solutions, whole_answers_are_one,
 };
 pub use problem::{Entry, Problem, SolveError, Solved};

@@ -1,4 +1,4 @@
-//! Linear programs as they are handed in, and what comes back.
+//! Linear programs as they are handed in, and the answers.
 
 use frac128::Frac;
 use std::alloc::AllocError;
@@ -50,7 +50,7 @@ pub enum Solved {
     },
 }
 
-/// Why the sequence of tableaux has no end here.
+/// Why the sequence of tableaux isn't followed to an end.
 #[derive(Debug, Drop, Error, PartialEq, Eq)]
 pub enum SolveError {
     /// After this many pivots a number has a numerator or a denominator of 2^31 or more.

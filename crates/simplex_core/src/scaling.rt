@@ -10,7 +10,7 @@ use frac128::Frac;
 use int_laws::least_common_multiple;
 use std::alloc::{AllocError, Global};
 
-/// Whole numerators over their least common denominator.
+/// Integer numerators over their least common denominator.
 #[derive(Debug, Drop, PartialEq, Eq)]
 pub struct Numerators {
     /// The numerators.

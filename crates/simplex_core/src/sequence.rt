@@ -14,25 +14,25 @@ use std::alloc::{AllocError, Global};
 /// Why the sequence isn't followed to an end.
 #[derive(Debug, Drop, PartialEq, Eq)]
 pub(crate) enum Halt {
-    /// It trips.
-    Trip(SolveError),
-    /// A number has no room in the table; this says nothing of the sequence.
+    /// It exceeds a limit.
+    LimitHit(SolveError),
+    /// A number doesn't fit in the table; this says nothing of the sequence.
     Beyond,
 }
 
 impl From<AllocError> for Halt {
     ghost use Rattle.std.specs.Prelude.{◌≡◌};
     ghost use Rattle.simplex_core.specs.declared.problem.SolveError.TheVariants.{Memory};
-    ghost use Rattle.simplex_core.specs.declared.sequence.Halt.TheVariants.{Trip};
+    ghost use Rattle.simplex_core.specs.declared.sequence.Halt.TheVariants.{LimitHit};
 
-    ghost from_gives = { λ _ e. e ≡ Trip Memory };
+    ghost from_gives = { λ _ e. e ≡ LimitHit Memory };
 
     fn from(_: AllocError) -> Halt {
-        Halt::Trip(SolveError::Memory)
+        Halt::LimitHit(SolveError::Memory)
     }
 }
 
-/// Follows the sequence from the first tableau.
+/// Follows the sequence from the first tableau to its end.
 pub(crate) fn run<T: SimplexTable + Drop>(
     alloc: Global,
     problem: &Problem,
@@ -49,7 +49,7 @@ pub(crate) fn run<T: SimplexTable + Drop>(
     let mut made = 0;
     'pivoting: loop {
         if !table.is_in_range() {
-            return Err(Halt::Trip(SolveError::Range { pivot: made }));
+            return Err(Halt::LimitHit(SolveError::Range { pivot: made }));
         }
         if table.is_infeasible() {
             let dual = table.dual(alloc, problem.right.as_slice())?;
@@ -65,12 +65,12 @@ pub(crate) fn run<T: SimplexTable + Drop>(
             });
         };
         if made == pivots {
-            return Err(Halt::Trip(SolveError::Budget { pivots }));
+            return Err(Halt::LimitHit(SolveError::Budget { pivots }));
         }
         match table.advance(alloc, column) {
             Ok(()) => made += 1,
             Err(Unmade::Beyond) => return Err(Halt::Beyond),
-            Err(Unmade::Memory) => return Err(Halt::Trip(SolveError::Memory)),
+            Err(Unmade::Memory) => return Err(Halt::LimitHit(SolveError::Memory)),
         }
     }
 }

@@ -1,4 +1,4 @@
-//! What the method sees of its table.
+//! The operations that the simplex loop needs of its table, as a trait.
 
 ghost use Rattle.std.specs.Prelude.{◌≡◌, ℕ, MatchBool, MatchResult, IfOk};
 ghost use Rattle.linear_forms.specs.LinearProgram.{LinearProgram};
@@ -11,10 +11,10 @@ ghost use Rattle.simplex_core.specs.Halts.{IsUnmade};
 use frac128::Frac;
 use std::alloc::{AllocError, Global};
 
-/// Why a table makes no pivot.
+/// Why a table can't execute a pivot.
 #[derive(Debug, Drop, PartialEq, Eq)]
 pub(crate) enum Unmade {
-    /// A number has no room in the table; this says nothing of the tableau.
+    /// A number doesn't fit in the table; this says nothing of the tableau.
     Beyond,
     /// Memory ran out.
     Memory,
@@ -31,19 +31,19 @@ impl From<AllocError> for Unmade {
     }
 }
 
-/// A table of numbers that shows a tableau: its tests, Bland's choice and pivot, and what is read off it
-/// at an end. The method is written over it and rests on its clauses alone, so they leave open how the
-/// numbers are kept.
+/// A table of numbers that represents a simplex tableau: its tests, Bland's choice and pivot, and the values that are
+/// read off it at an end. The simplex loop is written over this trait and uses its clauses alone, so the clauses leave
+/// open how the numbers are stored.
 ///
-/// Its meaning is `shows`: the numbers and the basis are those of this tableau, and the sizes those of this
-/// linear program. A tableau is told up to the scales of its rows, so it is a relation. `gives_up` is what
-/// follows where a number has no room: a table that has room for all has ⊥ there.
+/// `shows` gives its meaning: the numbers and the basis are those of this tableau, and the sizes are those of this
+/// linear program. The table determines a tableau only up to the scales of its rows, so `shows` is a relation.
+/// `gives_up` is what holds where a number doesn't fit: ⊥ for a table in which every number fits.
 pub(crate) trait SimplexTable {
     ghost shows: { LinearProgram → Self → Tableau → Type 0 };
 
     ghost gives_up: { Type 0 };
 
-    /// Whether each number is in range: in lowest terms its numerator and denominator are below 2^31.
+    /// Whether each number is in range: its numerator and denominator, in lowest terms, are below 2^31.
     fn is_in_range(&self) -> bool
         ensures { MatchBool result (ShowsInRange shows self.now) (ShowsOutOfRange shows self.now) };
 
@@ -55,8 +55,8 @@ pub(crate) trait SimplexTable {
     fn entering(&self) -> Option<usize>
         ensures { (p : LinearProgram) (t : Tableau) → shows p self.now t → result ≡ entering p t };
 
-    /// Pivots at the leaving row of the entering column. Error: memory ran out, or a number has no room; the table is
-    /// then open.
+    /// Executes a pivot at the leaving row of the entering column. Error: memory ran out, or a number doesn't fit; the
+    /// table's contents are then unspecified.
     fn advance(&mut self, alloc: Global, column: usize) -> Result<(), Unmade>
         requires { MayPivot shows self.old column }
         ensures { MatchResult result (λ _. IsAdvanced shows self.old self.new column) (IsUnmade gives_up) };

@@ -1,10 +1,10 @@
-//! The public call.
+//! `solve`: the public call.
 
 ghost use Rattle.std.specs.Prelude.{MatchBool, MatchResult, IfSome};
 ghost use Rattle.simplex_core.specs.Tableau.{first_tableau};
 ghost use Rattle.simplex_core.specs.Problem.{program_of, IsProper};
 ghost use Rattle.simplex_core.specs.Numbers.{HasSmallNumbers};
-ghost use Rattle.simplex_core.specs.Outcome.{IsInRange, IsAnswer, IsEnd, IsTrip};
+ghost use Rattle.simplex_core.specs.Outcome.{IsInRange, IsAnswer, IsEnd, IsLimitHit};
 
 use crate::checking::{are_below, are_entries_below};
 use crate::column_table::first_columns;
@@ -34,22 +34,21 @@ fn has_small_numbers(problem: &Problem) -> bool
     are_below(problem.second.as_slice())
 }
 
-/// Condition: rows and columns are below 2^31, entries lie inside the table and no cell has two, and there is a right
-/// side for each row and two costs at least 0 for each column.
+/// Solves a linear program by the simplex method with Bland's rule. Precondition: rows and columns are below 2^31,
+/// entries lie inside the table and no cell has two, and there is a right side for each row and two costs at least 0
+/// for each column.
 ///
-/// Follows Bland's sequence of tableaux, which starts with artificial unknowns, for at most `pivots`
-/// pivots. `Optimal` is a solution of least cost, first by the first costs and then by the second
-/// (`least_costs_least` says what that is): the last basic solution, with 0 for each unknown that no row
-/// is solved for. `Infeasible` comes exactly where there is no solution and nothing trips
-/// (`outcome_tells_solutions`), with a dual that shows it (`dual_excludes_solutions`).
-/// `Wide` comes before all where the equations of the table would have more than 40,000,000,000 numbers;
-/// `Range` at the first tableau with a number out of range; `Budget` where the allowed pivots are made and
-/// another is needed; `Memory` where memory runs out. Source: R. G. Bland, New finite pivoting rules for
-/// the simplex method, 1977.
+/// It follows Bland's sequence of tableaux, which starts with artificial unknowns, for at most `pivots` pivots.
+/// `Optimal` is a solution of least cost, first by the first costs and then by the second (`least_costs_least` defines
+/// it): the last basic solution, with 0 for each unknown that isn't basic. `Infeasible` comes exactly where there is no
+/// solution and no limit is exceeded (`outcome_tells_solutions`), with a dual that proves it
+/// (`dual_excludes_solutions`). Source: R. G. Bland, New finite pivoting rules for the simplex method, 1977.
 ///
 /// # Errors
 ///
-/// `Wide` before all else, `Range`, `Budget` and `Memory`, each where it is said above.
+/// `Wide`, before all else, where the equations of the table would have more than 40,000,000,000 numbers; `Range` at
+/// the first tableau with a number out of range; `Budget` where the allowed pivots are made and another is needed;
+/// `Memory` where memory runs out.
 pub fn solve(alloc: Global, problem: &Problem, pivots: u32) -> Result<Solved, SolveError>
     requires { IsProper problem.now }
     ensures { IsAnswer (program_of problem.now) pivots result }
@@ -65,11 +64,12 @@ pub fn solve(alloc: Global, problem: &Problem, pivots: u32) -> Result<Solved, So
     follow(alloc, problem, pivots)
 }
 
-/// Follows the sequence with a table of columns, and where a number has no room there, anew with one of fractions.
+/// Follows the sequence with a table of columns, and where a number doesn't fit there, again from the beginning with a
+/// table of fractions.
 fn follow(alloc: Global, problem: &Problem, pivots: u32) -> Result<Solved, SolveError>
     requires proper { IsProper problem.now }
     requires small { HasSmallNumbers problem.now }
-    ensures { MatchResult result (IsEnd (program_of problem.now) pivots) (IsTrip (program_of problem.now) pivots) }
+    ensures { MatchResult result (IsEnd (program_of problem.now) pivots) (IsLimitHit (program_of problem.now) pivots) }
 {
     match follow_by_columns(alloc, problem, pivots) {
         Ok(Some(solved)) => Ok(solved),
@@ -78,7 +78,7 @@ fn follow(alloc: Global, problem: &Problem, pivots: u32) -> Result<Solved, Solve
     }
 }
 
-/// Follows the sequence with a table of columns. None where a number has no room there.
+/// Follows the sequence with a table of columns. None where a number doesn't fit there.
 fn follow_by_columns(
     alloc: Global,
     problem: &Problem,
@@ -87,28 +87,28 @@ fn follow_by_columns(
     requires proper { IsProper problem.now }
     requires small { HasSmallNumbers problem.now }
     ensures { MatchResult result (λ found. IfSome found (IsEnd (program_of problem.now) pivots))
-        (IsTrip (program_of problem.now) pivots) }
+        (IsLimitHit (program_of problem.now) pivots) }
 {
     let Some(table) = first_columns(alloc, problem)? else {
         return Ok(None);
     };
     match run(alloc, problem, table, pivots) {
         Ok(solved) => Ok(Some(solved)),
-        Err(Halt::Trip(error)) => Err(error),
+        Err(Halt::LimitHit(error)) => Err(error),
         Err(Halt::Beyond) => Ok(None),
     }
 }
 
-/// Follows the sequence with a table of fractions, which has room for each number of a tableau in range.
+/// Follows the sequence with a table of fractions, in which every number of a tableau in range fits.
 fn follow_by_fractions(alloc: Global, problem: &Problem, pivots: u32) -> Result<Solved, SolveError>
     requires proper { IsProper problem.now }
     requires small { HasSmallNumbers problem.now }
-    ensures { MatchResult result (IsEnd (program_of problem.now) pivots) (IsTrip (program_of problem.now) pivots) }
+    ensures { MatchResult result (IsEnd (program_of problem.now) pivots) (IsLimitHit (program_of problem.now) pivots) }
 {
     let table = first_table(alloc, problem)?;
     match run(alloc, problem, tested(table), pivots) {
         Ok(solved) => Ok(solved),
-        Err(Halt::Trip(error)) => Err(error),
+        Err(Halt::LimitHit(error)) => Err(error),
         Err(Halt::Beyond) => unreachable!(),
     }
 }

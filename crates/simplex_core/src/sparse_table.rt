@@ -1,4 +1,4 @@
-//! A table that lists the numbers of the tableau that aren't 0: its fractions row by row.
+//! A table that stores the nonzero fractions of the tableau, row by row.
 
 mod entering;
 mod first;

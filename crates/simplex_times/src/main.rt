@@ -1,5 +1,5 @@
-//! Solves the rank problem of a shape so often, as its words tell, and writes its rows, its columns and the pivots; for
-//! measuring. The words are the shape, its size and how often.
+//! A benchmark: solves the rank problem of a shape a number of times, and writes its rows, its columns and the pivots.
+//! The words are the shape, its size and the number of times.
 #![tactic(auto)]
 
 ghost use Rattle.simplex_core.specs.Problem.{IsProper};
@@ -13,7 +13,7 @@ use std::process::ExitCode;
 // More pivots than any of the shapes takes.
 const PIVOTS: u32 = 1_000_000;
 
-// What is told of a problem.
+// What is written about a problem.
 #[derive(Clone, Copy)]
 struct Measures {
     rows: u32,

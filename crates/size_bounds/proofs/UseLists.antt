@@ -3,11 +3,11 @@ use Rattle.std.proofs.Common.{◌≡◌, ℕ, ◌==◌, ◌||◌, Bool, not, tru
 use Rattle.std.proofs.Common.{sym, ◌∙◌, ap}
 use Rattle.std.proofs.lemmas.List.{append-nil}
 use Rattle.model.specs.Entries.{is_in}
-use Rattle.proof_tree.specs.proof_nodes.Nodes.{Proofs, Cite, AndProof}
-use Rattle.proof_tree.specs.Views.{uses_of}
-use Rattle.proof_tree.proofs.NumberSets.{bool_same}
-use Rattle.bound_rounds.specs.Needs.{once, cites}
-use Rattle.bound_rounds.proofs.CitedFacts.{in-once, once-in}
+use Rattle.cert_types.specs.cert_rules.Nodes.{Proofs, Cite, AndProof}
+use Rattle.cert_types.specs.Views.{uses_of}
+use Rattle.cert_types.proofs.NumberSets.{bool_same}
+use Rattle.bound_fixpoint.specs.Needs.{once, cites}
+use Rattle.bound_fixpoint.proofs.CitedFacts.{in-once, once-in}
 use Rattle.size_bounds.specs.Lemmas.{with_other}
 
 -- citations as uses

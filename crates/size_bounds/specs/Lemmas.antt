@@ -1,11 +1,11 @@
 -- The lemmas that a node cites, as plain data.
 use Rattle.std.specs.Prelude.{ℕ, ◌==◌, cond, List, [], ◌∷◌, ◌++◌, map}
 use Rattle.model.specs.Entries.{is_in}
-use Rattle.proof_tree.specs.proof_nodes.Nodes.{Proofs}
-use Rattle.proof_tree.specs.declared.proof.Proof.{Proof}
-use Rattle.proof_tree.specs.Views.{proof_of, uses_of}
+use Rattle.cert_types.specs.cert_rules.Nodes.{Proofs}
+use Rattle.cert_types.specs.declared.proof.Proof.{Proof}
+use Rattle.cert_types.specs.Views.{proof_of, uses_of}
 
--- what a node rests on, as plain data
+-- the premises of a node, as plain data
 abbrev pub uses_of_proofs : List Proof → Proofs
 uses_of_proofs uses = uses_of (map proof_of uses)
 

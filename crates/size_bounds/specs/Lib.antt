@@ -4,3 +4,5 @@ pub mod Tables
 pub mod SizeAnswers
 -- the lemmas that a node cites
 pub mod Lemmas
+-- what is found is accepted
+pub mod Laws

@@ -1,14 +1,15 @@
--- Tables of bounds as the code keeps them, and as plain data.
+-- Tables of bounds as the code stores them, and as plain data.
 use Rattle.std.specs.Prelude.{ℕ, zero, suc, Bool, true, false, List, [], ◌∷◌, map, Option, Some, None}
 use Rattle.std.specs.Option.{option_map}
 use denote.Ref.{Bor}
 use Rattle.model.specs.Bounds.{Bound}
 use Rattle.bound_expr.specs.Views.{bound_of}
-use Rattle.proof_tree.specs.proof_nodes.Known as nodes
+use Rattle.cert_types.specs.cert_rules.Known as nodes
+use Rattle.bound_fixpoint.specs.Keys.{Bounds}
 use Rattle.outcome.specs.declared.entry.Stored.{Stored}
 use Rattle.size_bounds.specs.declared.table.Table.{Table}
 
--- what stands at a position, where something does
+-- the element at a position, if there is one
 abbrev pub entry_at : {A : Type 0} → List (Option A) → ℕ → Option A
 entry_at [] n = None
 entry_at (o ∷ os) zero = o
@@ -20,7 +21,7 @@ row_at [] n = []
 row_at (r ∷ rows) zero = r
 row_at (r ∷ rows) (suc n) = row_at rows n
 
--- what a reference that is there points to
+-- what a reference points to, if there is one
 abbrev pub optional_stored : Option (Bor Stored) → Option Stored
 optional_stored o = option_map (λ s. s.now) o
 
@@ -56,6 +57,10 @@ table_of tab = record {
 abbrev pub stored_in : Table → ℕ → ℕ → Option Stored
 stored_in tab t zero = stored_time tab t
 stored_in tab t (suc i) = stored_size tab t (suc i)
+
+-- the bounds of a table by key
+abbrev pub bounds_in : Table → Bounds
+bounds_in tab t i = bound_stored (stored_in tab t i)
 
 -- the numbers of the lemmas by key; where no bound is known, 0
 abbrev pub number_at : Table → ℕ → ℕ → ℕ

@@ -1,16 +1,16 @@
-//! What is answered of a size.
+//! The answers on a size.
 
-use proof_tree::{Fact, Proof, Spot};
+use cert_types::{Fact, Proof, ResultVariable};
 
-/// A size, or why there is none.
+/// The answer on a size: the node that states it, or why there is none.
 #[derive(Debug, PartialEq, Eq, Drop)]
 pub enum SizeAnswer {
-    /// This node states it, with what it rests on; and these are its facts.
+    /// This node states it, with its premises; and these are its facts.
     Found { node: Proof, facts: Vec<Fact> },
     /// This size, which is needed from outside, is missing.
-    Missing(Spot),
+    Missing(ResultVariable),
     /// A polynomial arm of this member reads a member.
-    Bent(Spot),
+    Nonlinear(ResultVariable),
     /// The time of this rule, which is needed, is missing.
     Untimed { rule: u32 },
     /// The composed bound has this many nodes.

@@ -1,10 +1,10 @@
 //! Copies of members.
 
 ghost use Rattle.std.specs.Prelude.{◌≡◌, map, IfOk};
-ghost use Rattle.proof_tree.specs.Views.{member_of};
+ghost use Rattle.cert_types.specs.Views.{member_of};
 
 use bound_expr::Memory;
-use proof_tree::{Member, copied_local};
+use cert_types::{Member, copied_local};
 use std::alloc::Global;
 
 /// The same member.
@@ -17,7 +17,7 @@ pub fn copied_member(alloc: Global, member: &Member) -> Result<Member, Memory>
 {
     let local = copied_local(alloc, &member.local)?;
     Ok(Member {
-        spot: member.spot,
+        result_variable: member.result_variable,
         local,
     })
 }

@@ -1,13 +1,13 @@
-//! Tables of bounds as the rounds keep them.
+//! The table of bounds that the rounds keep.
 
 ghost use Rattle.std.specs.Prelude.{◌≡◌, ℕ};
-ghost use Rattle.proof_tree.specs.Lookups.{optional_bound};
+ghost use Rattle.cert_types.specs.Lookups.{optional_bound};
 ghost use Rattle.size_bounds.specs.Tables.{entry_at, optional_stored, bound_stored, lemma_stored, stored_time};
 ghost use Rattle.size_bounds.specs.Tables.{stored_size, stored_in, number_at, table_of};
 
 use bound_expr::Bound;
+use cert_types::{Known, ResultVariable};
 use outcome::Stored;
-use proof_tree::{Known, Spot};
 
 /// What is known: a time of each rule or none, and a size of each place after each rule or none, each with the number
 /// of the lemma that states it. The virtual entry has the index 0.
@@ -38,8 +38,8 @@ impl Table {
         stored_at(&self.sizes[rule as usize], place as usize - 1)
     }
 
-    /// What is stored of a key, where something is: of the time of a rule at place 0, and of its sizes.
-    pub fn stored(&self, key: Spot) -> Option<&Stored>
+    /// The bound stored for a key, if there is one: the time of a rule at place 0, and its sizes.
+    pub fn stored(&self, key: ResultVariable) -> Option<&Stored>
         ensures { optional_stored result ≡ stored_in self.now key.rule key.place }
     {
         if key.place == 0 {
@@ -49,7 +49,7 @@ impl Table {
     }
 
     /// The number of the lemma that states the bound of a key; 0 for the virtual entry, and where no bound is known.
-    pub fn lemma(&self, key: Spot) -> u32
+    pub fn lemma(&self, key: ResultVariable) -> u32
         ensures { result ≡ number_at self.now key.rule key.place }
     {
         lemma_in(self.stored(key))

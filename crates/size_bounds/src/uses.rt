@@ -1,47 +1,51 @@
-//! What a node rests on: the lemmas of the bounds that it needs.
+//! The uses of a node: citations of the lemmas of its premises.
 
 ghost use Rattle.std.specs.Prelude.{◌≡◌, ◌==◌, ◌∷◌, ◌++◌, not, map, filter, IfOk, OnOk};
 ghost use Rattle.model.specs.Entries.{is_in};
-ghost use Rattle.proof_tree.specs.proof_nodes.Nodes.{Start, Cite};
-ghost use Rattle.proof_tree.specs.NumberSets.{HasJust};
-ghost use Rattle.proof_tree.specs.Views.{proof_of, spot_of};
-ghost use Rattle.bound_rounds.specs.Needs.{once, uses_from, uses_for};
+ghost use Rattle.cert_types.specs.cert_rules.Nodes.{Start, Cite};
+ghost use Rattle.cert_types.specs.NumberSets.{HasJust};
+ghost use Rattle.cert_types.specs.Views.{proof_of, result_variable_of};
+ghost use Rattle.bound_fixpoint.specs.Needs.{once, uses_from, uses_for};
 ghost use Rattle.size_bounds.specs.Tables.{number_at};
 ghost use Rattle.size_bounds.specs.Lemmas.{uses_of_proofs, with_other};
 
 use crate::table::Table;
+use cert_types::{Proof, ResultVariable, cite};
 use model::Memory;
-use proof_tree::{Proof, Spot, cite};
 use std::alloc::Global;
 use std::collections::BTreeSet;
 
-/// The lemmas of needed bounds, as what a node rests on: by the numbers of the table, the virtual entry first, where it
-/// is needed, and then each other lemma once, in the order in which the needed bounds come.
+/// The uses of a node with these premises: citations of their lemmas by the numbers of the table, the virtual entry
+/// first, if it is needed, and then each other lemma once, in the order of the premises.
 ///
 /// # Errors
 ///
 /// `Memory` where an allocation fails.
-pub fn uses_of_needs(alloc: Global, t: &Table, needs: &[Spot]) -> Result<Vec<Proof>, Memory>
-    ensures { IfOk result (λ uses. uses_of_proofs uses.items ≡ uses_for (number_at t.now) (map spot_of needs.now)) }
+pub fn uses_of_premises(
+    alloc: Global,
+    t: &Table,
+    premises: &[ResultVariable],
+) -> Result<Vec<Proof>, Memory>
+    ensures { IfOk result (λ uses. uses_of_proofs uses.items ≡ uses_for (number_at t.now) (map result_variable_of premises.now)) }
 {
-    let numbers = numbers_of(alloc, t, needs)?;
+    let numbers = numbers_of(alloc, t, premises)?;
     uses_of_lemmas(alloc, &numbers)
 }
 
 // The numbers of the lemmas of needed bounds, in order.
-fn numbers_of(alloc: Global, t: &Table, needs: &[Spot]) -> Result<Vec<u32>, Memory>
+fn numbers_of(alloc: Global, t: &Table, premises: &[ResultVariable]) -> Result<Vec<u32>, Memory>
     ensures { IfOk result (λ numbers. numbers.items
-        ≡ map (λ k. number_at t.now k.rule k.place) (map spot_of needs.now)) }
+        ≡ map (λ k. number_at t.now k.rule k.place) (map result_variable_of premises.now)) }
 {
     let mut numbers = Vec::new(alloc);
-    for need in needs {
+    for need in premises {
         numbers.push(t.lemma(*need))?;
     }
     Ok(numbers)
 }
 
-/// What a node rests on that needs these lemmas: the virtual entry first, where it is among them, and then each other
-/// one once, in the order in which they come first.
+/// The uses of a node that needs these lemmas: the virtual entry first, if it is among them, and then each other one
+/// once, in the order of their first occurrences.
 ///
 /// # Errors
 ///

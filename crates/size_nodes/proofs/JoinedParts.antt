@@ -6,11 +6,11 @@ use Rattle.model.specs.Bounds as plain
 use Rattle.model.specs.Bounds.{Parts, NoParts, Part}
 use Rattle.bound_expr.specs.declared.bound.Bound.{Bound}
 use Rattle.bound_expr.specs.Views.{bound_of, bounds_of, parts_of}
-use Rattle.proof_tree.specs.proof_nodes.ComposedSizes.{Flow, offsets, factor_of}
-use Rattle.proof_tree.specs.Sizes.{joined}
-use Rattle.proof_tree.proofs.Parts.{joined-nothing, joined_assoc, parts_of-more}
+use Rattle.cert_types.specs.cert_rules.ComposedSizes.{Flow, offsets, factor_of}
+use Rattle.cert_types.specs.Sizes.{joined}
+use Rattle.cert_types.proofs.Parts.{joined-nothing, joined_assoc, parts_of-more}
 use Rattle.size_nodes.specs.Growths.{offset_part, all_joined}
-use Rattle.proof_tree.proofs.proof_nodes.Flows.{factor-least}
+use Rattle.cert_types.proofs.cert_rules.Flows.{factor-least}
 pub use Rattle.std.proofs.lemmas.Bool.{lt-ltb as less_told, le-ltb as not_less_told}
 
 module _ {A : Type 0} (f : A → Parts) (xs : List A) (i : ℕ) where
@@ -56,7 +56,7 @@ one_pushed xs new x b en ex =
 pub none_pushed : (ps : Parts) → ps ≡ joined ps NoParts
 none_pushed ps = sym (joined-nothing ps)
 
--- so it is by a test
+-- the same, by a test
 pub pushed_where : (v : Bool) (xs new : List Bound) (x : Bound) (b : plain.Bound) → v ≡ true → new ≡ xs ++ x ∷ []
     → bound_of x ≡ b → parts_of (bounds_of new) ≡ joined (parts_of (bounds_of xs)) (cond v (Part b NoParts) NoParts)
 pushed_where v xs new x b h en ex =
@@ -67,6 +67,6 @@ pushed_where v xs new x b h en ex =
 pub kept_where : (v : Bool) (ps : Parts) (b : plain.Bound) → v ≡ false → ps ≡ joined ps (cond v (Part b NoParts) NoParts)
 kept_where v ps b h = none_pushed ps ∙ ap (λ (w : Bool). joined ps (cond w (Part b NoParts) NoParts)) (sym h)
 
--- a maximum that begins at 1 comes to the factor itself
+-- a maximum that begins at 1 is the factor itself
 pub factor-begun : (fs : List Flow) (t : ℕ) → max 1 (factor_of fs t) ≡ factor_of fs t
 factor-begun fs t = omega (arith, factor-least fs t)

@@ -1,7 +1,7 @@
 -- loops over lists
 pub mod ListSteps
 -- the sizes that arms need
-pub mod NeededSpots
+pub mod NeededResultVariables
 -- the first of them that isn't known
 pub mod FirstMissing
 -- the rows and arms of members
@@ -26,6 +26,6 @@ pub mod RuleFlows
 -- the rules of members
 pub mod MemberRules
 -- the members of which an arm reads a member
-pub mod BentMembers
+pub mod NonlinearMembers
 -- what is answered of a loop
 pub mod LoopAnswers

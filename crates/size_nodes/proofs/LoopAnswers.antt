@@ -7,30 +7,30 @@ use Rattle.model.specs.Programs.{Program}
 use Rattle.its_graph.specs.declared.graph.Graph.{Graph}
 use Rattle.guard_prep.specs.declared.rule_rows.RuleRows.{RuleRows}
 use Rattle.bound_table.specs.InForce.{rewritten}
-use Rattle.proof_tree.specs.proof_nodes.Nodes.{Spot, Member}
-use Rattle.proof_tree.specs.proof_nodes.Known.{IsKnown, Table}
-use Rattle.proof_tree.specs.proof_nodes.Limits.{IsSmallComposed}
-use Rattle.proof_tree.specs.proof_nodes.ComposedSizes.{Flow, flows, base_of, rules_of}
-use Rattle.proof_tree.specs.proof_nodes.AcceptsSizes.{AcceptsUp, AcceptsLow, AcceptsCycle, cycle_size}
-use Rattle.proof_tree.specs.proof_nodes.Reasons.{Reason, MissingTime, MissingSize, Bent, Large, Check, for_each}
-use Rattle.proof_tree.specs.proof_nodes.Reasons.{IsFirstAmong}
-use Rattle.proof_tree.specs.proof_nodes.Checks.{large_nodes, check_up, check_low, check_size, check_time, check_small}
-use Rattle.proof_tree.specs.proof_nodes.Checks.{needed_into}
-use Rattle.proof_tree.specs.proof_nodes.Checks.{needed_times, straight_into, cycle_checks}
-use Rattle.proof_tree.proofs.proof_nodes.CheckLists.{passes_each}
-use Rattle.proof_tree.proofs.proof_nodes.SizeReasons.{passes-cycle}
-use Rattle.proof_tree.specs.proof_setting.Setting.{setting_of}
+use Rattle.cert_types.specs.cert_rules.Nodes.{ResultVariable, Member}
+use Rattle.cert_types.specs.cert_rules.Known.{IsKnown, Table}
+use Rattle.cert_types.specs.cert_rules.Limits.{IsSmallComposed}
+use Rattle.cert_types.specs.cert_rules.ComposedSizes.{Flow, flows, base_of, rules_of}
+use Rattle.cert_types.specs.cert_rules.AcceptsSizes.{AcceptsUp, AcceptsLow, AcceptsCycle, cycle_size}
+use Rattle.cert_types.specs.cert_rules.Reasons.{Reason, MissingTime, MissingSize, Nonlinear, Large, Check, for_each}
+use Rattle.cert_types.specs.cert_rules.Reasons.{IsFirstAmong}
+use Rattle.cert_types.specs.cert_rules.Checks.{large_nodes, check_up, check_low, check_size, check_time, check_small}
+use Rattle.cert_types.specs.cert_rules.Checks.{needed_into}
+use Rattle.cert_types.specs.cert_rules.Checks.{needed_times, straight_into, cycle_checks}
+use Rattle.cert_types.proofs.cert_rules.CheckLists.{passes_each}
+use Rattle.cert_types.proofs.cert_rules.SizeReasons.{passes-cycle}
+use Rattle.cert_types.specs.cert_program.Setting.{setting_of}
 use Rattle.size_nodes.specs.Needs.{lacks}
 use Rattle.size_nodes.specs.Sizings.{time_key}
 use Rattle.size_nodes.specs.Needs.{first_missing, first_unknown}
 use Rattle.size_nodes.specs.Growths.{growth_by_flows, growing_rule_numbers, composed}
-use Rattle.size_nodes.specs.BentArms.{first_bent}
+use Rattle.size_nodes.specs.NonlinearSideBounds.{first_nonlinear}
 use Rattle.size_nodes.specs.Members.{AreMembersOfProgram}
 use Rattle.size_nodes.specs.declared.sizing.Sizing.{Sizing}
 use Rattle.size_nodes.specs.declared.sizing.Sizing.TheVariants as sizings
 use Rattle.size_nodes.specs.Sizings.{IsTimedSizing, IsSizingWhere, IsLoopSizing, IsCycleSizing}
 use Rattle.size_nodes.proofs.FirstMissing.{all-known, first-missing, behind-each}
-use Rattle.size_nodes.proofs.BentMembers.{straight-first, straight-passes, bent-first}
+use Rattle.size_nodes.proofs.NonlinearMembers.{straight-first, straight-passes, nonlinear-first}
 use Rattle.size_nodes.proofs.LoopParts.{composed-is, growing-are}
 use Rattle.model.proofs.Cases.{some_same as some-same, none_some as no-bound}
 
@@ -62,10 +62,10 @@ module _ (tab : Table) where
           inl ((λ known. no-bound known.0 (sym e ∙ known.1)), ap MissingTime (some-same u t k))
       go (Some b) e k later = inr ((b, e), later k)
 
-module _ (p : Program) (g : Graph) (preps : List RuleRows) (tab : Table) (ms : List Member)
-    (given : AreMembersOfProgram p g preps ms) where
+module _ (p : Program) (g : Graph) (prepared_rules : List RuleRows) (tab : Table) (ms : List Member)
+    (given : AreMembersOfProgram p g prepared_rules ms) where
   -- what the loop needs
-  abbrev needed : List Spot
+  abbrev needed : List ResultVariable
   needed = needed_into (setting_of p) ms ms
 
   abbrev timed : List ℕ
@@ -87,14 +87,14 @@ module _ (p : Program) (g : Graph) (preps : List RuleRows) (tab : Table) (ms : L
   abbrev time_checks : List Check
   time_checks = for_each (check_time tab) timed small_checks
 
-  abbrev bent_checks : List Check
-  bent_checks = straight_into (setting_of p) ms ms time_checks
+  abbrev nonlinear_checks : List Check
+  nonlinear_checks = straight_into (setting_of p) ms ms time_checks
 
   abbrev size_checks : List Check
-  size_checks = for_each (check_size tab) needed bent_checks
+  size_checks = for_each (check_size tab) needed nonlinear_checks
 
-  behind-arms : (r : Reason) → IsFirstAmong size_checks r → IsFirstAmong (cycle_checks (setting_of p) tab ms) r
-  behind-arms r h =
+  behind-side_bounds : (r : Reason) → IsFirstAmong size_checks r → IsFirstAmong (cycle_checks (setting_of p) tab ms) r
+  behind-side_bounds r h =
       inr (
         given.shape,
         behind-each (check_up (setting_of p)) ms (for_each (check_low (setting_of p)) ms size_checks) r ups
@@ -102,21 +102,21 @@ module _ (p : Program) (g : Graph) (preps : List RuleRows) (tab : Table) (ms : L
       )
 
   -- the first size that is missing
-  pub is-missing : (spot : Spot) → first_missing tab needed ≡ Some spot
-      → IsFirstAmong (cycle_checks (setting_of p) tab ms) (MissingSize spot.rule spot.place)
-  is-missing spot e = behind-arms (MissingSize spot.rule spot.place) (first-missing tab needed bent_checks spot e)
+  pub is-missing : (result_variable : ResultVariable) → first_missing tab needed ≡ Some result_variable
+      → IsFirstAmong (cycle_checks (setting_of p) tab ms) (MissingSize result_variable.rule result_variable.place)
+  is-missing result_variable e = behind-side_bounds (MissingSize result_variable.rule result_variable.place) (first-missing tab needed nonlinear_checks result_variable e)
 
   module _ (none : first_missing tab needed ≡ None) where
-    behind-sizes : (r : Reason) → IsFirstAmong bent_checks r → IsFirstAmong (cycle_checks (setting_of p) tab ms) r
-    behind-sizes r h = behind-arms r (behind-each (check_size tab) needed bent_checks r (all-known tab needed none) h)
+    behind-sizes : (r : Reason) → IsFirstAmong nonlinear_checks r → IsFirstAmong (cycle_checks (setting_of p) tab ms) r
+    behind-sizes r h = behind-side_bounds r (behind-each (check_size tab) needed nonlinear_checks r (all-known tab needed none) h)
 
     -- where none is, the first member that is bent
-    pub is-bent : (spot : Spot) → first_bent (setting_of p) ms ms ≡ Some spot
-        → IsFirstAmong (cycle_checks (setting_of p) tab ms) (Bent spot.rule spot.place)
-    is-bent spot e =
-        behind-sizes (Bent spot.rule spot.place) (bent-first (setting_of p) ms time_checks ms spot e)
+    pub is-nonlinear : (result_variable : ResultVariable) → first_nonlinear (setting_of p) ms ms ≡ Some result_variable
+        → IsFirstAmong (cycle_checks (setting_of p) tab ms) (Nonlinear result_variable.rule result_variable.place)
+    is-nonlinear result_variable e =
+        behind-sizes (Nonlinear result_variable.rule result_variable.place) (nonlinear-first (setting_of p) ms time_checks ms result_variable e)
 
-    module _ (straight : first_bent (setting_of p) ms ms ≡ None) where
+    module _ (straight : first_nonlinear (setting_of p) ms ms ≡ None) where
       behind-straight : (r : Reason) → IsFirstAmong time_checks r → IsFirstAmong (cycle_checks (setting_of p) tab ms) r
       behind-straight r h = behind-sizes r (straight-first (setting_of p) ms time_checks ms straight r h)
 
@@ -140,16 +140,16 @@ module _ (p : Program) (g : Graph) (preps : List RuleRows) (tab : Table) (ms : L
         given.shape,
         passes_each (check_up (setting_of p)) (for_each (check_low (setting_of p)) ms size_checks) ms ups
             (passes_each (check_low (setting_of p)) size_checks ms lows
-            (passes_each (check_size tab) bent_checks needed (all-known tab needed none)
+            (passes_each (check_size tab) nonlinear_checks needed (all-known tab needed none)
             (straight-passes (setting_of p) ms time_checks ms straight
             (passes_each (check_time tab) small_checks timed (times-known tab timed e) (h, tt))))),
       )
 
       timed-sizing : (a : Sizing) → first_unknown tab.time timed ≡ None
           → IsTimedSizing (needed ++ map time_key timed) whole a → IsCycleSizing (setting_of p) tab ms a
-      timed-sizing (sizings.Found needs bound) e h = (is-accepted e h.0, h.1, h.2)
-      timed-sizing (sizings.Missing spot) e h = absurd h
-      timed-sizing (sizings.Bent spot) e h = absurd h
+      timed-sizing (sizings.Found premises bound) e h = (is-accepted e h.0, h.1, h.2)
+      timed-sizing (sizings.Missing result_variable) e h = absurd h
+      timed-sizing (sizings.Nonlinear result_variable) e h = absurd h
       timed-sizing (sizings.Untimed rule) e h = absurd h
       timed-sizing (sizings.Large nodes) e h = is-large nodes e h.0 h.1
 
@@ -159,15 +159,15 @@ module _ (p : Program) (g : Graph) (preps : List RuleRows) (tab : Table) (ms : L
       sizing-where a (Some t) e h = subst (IsCycleSizing (setting_of p) tab ms) (sym h) (is-untimed t e)
 
       -- what is answered over the flows and the rules of the loop is answered of it
-      pub is-sized : (a : Sizing) (spots : List Spot) (fs : List Flow) (ts : List ℕ)
-          → spots ≡ needed → fs ≡ flows (setting_of p) ms tab.size → ts ≡ rules_of (setting_of p) ms
-          → IsLoopSizing tab spots (base_of fs) (map (growth_by_flows fs) ts) a → IsCycleSizing (setting_of p) tab ms a
-      is-sized a spots fs ts es ef et h =
+      pub is-sized : (a : Sizing) (result_variables : List ResultVariable) (fs : List Flow) (ts : List ℕ)
+          → result_variables ≡ needed → fs ≡ flows (setting_of p) ms tab.size → ts ≡ rules_of (setting_of p) ms
+          → IsLoopSizing tab result_variables (base_of fs) (map (growth_by_flows fs) ts) a → IsCycleSizing (setting_of p) tab ms a
+      is-sized a result_variables fs ts es ef et h =
           sizing-where a (first_unknown tab.time timed) refl
-          (subst (λ (ss : List Spot). IsSizingWhere (first_unknown tab.time timed) (ss ++ map time_key timed) whole a) es
-          (subst (λ (us : List ℕ). IsSizingWhere (first_unknown tab.time us) (spots ++ map time_key us) whole a) times-are
+          (subst (λ (ss : List ResultVariable). IsSizingWhere (first_unknown tab.time timed) (ss ++ map time_key timed) whole a) es
+          (subst (λ (us : List ℕ). IsSizingWhere (first_unknown tab.time us) (result_variables ++ map time_key us) whole a) times-are
           (subst (λ (b : Bound). IsSizingWhere (first_unknown tab.time (growing_rule_numbers (map (growth_by_flows fs) ts)))
-          (spots ++ map time_key (growing_rule_numbers (map (growth_by_flows fs) ts))) b a) bound-is h)))
+          (result_variables ++ map time_key (growing_rule_numbers (map (growth_by_flows fs) ts))) b a) bound-is h)))
         where
           times-are : growing_rule_numbers (map (growth_by_flows fs) ts) ≡ timed
           times-are = (λ i. growing_rule_numbers (map (growth_by_flows (ef i)) (et i))) ∙ growing-are p (flows (setting_of p) ms tab.size) (rules_of (setting_of p) ms)

@@ -3,28 +3,28 @@ use Rattle.std.proofs.Common.{◌≡◌, ℕ, List, [], ◌∷◌, Option, refl,
 use Rattle.std.proofs.lemmas.List.{drop_more, append_assoc}
 use Rattle.model.specs.Bounds.{Bound}
 use Rattle.model.specs.Polynomials.{Polynomial}
-use Rattle.proof_tree.specs.proof_nodes.Nodes.{Member, Arm}
-use Rattle.proof_tree.specs.proof_nodes.Composed.{sizes_after}
-use Rattle.proof_tree.specs.proof_nodes.Setting.{Setting}
-use Rattle.proof_tree.specs.proof_nodes.ComposedSizes.{Flow, is_member, slope_of, offset_of, poly_at, flows_from}
+use Rattle.cert_types.specs.cert_rules.Nodes.{Member, SideBound}
+use Rattle.cert_types.specs.cert_rules.Composed.{sizes_after}
+use Rattle.cert_types.specs.cert_rules.Setting.{Setting}
+use Rattle.cert_types.specs.cert_rules.ComposedSizes.{Flow, is_member, slope_of, offset_of, poly_at, flows_from}
 use Rattle.size_nodes.specs.Flows.{flow_over, flows_over}
 
 -- what flows in from these rules
 pub flows-over : (s : Setting) (members : List Member) (size : ℕ → ℕ → Option Bound) (m : Member) (es : List ℕ)
-    → flows_over (poly_at s m.spot) members size m es ≡ flows_from s members size m es
+    → flows_over (poly_at s m.result_variable) members size m es ≡ flows_from s members size m es
 flows-over s members size m [] = refl
 flows-over s members size m (e ∷ es) =
-    ap (λ (fs : List Flow). flow_over (poly_at s m.spot) members size m m.local.up e
-    ∷ flow_over (poly_at s m.spot) members size m m.local.low e ∷ fs) (flows-over s members size m es)
+    ap (λ (fs : List Flow). flow_over (poly_at s m.result_variable) members size m m.local.up e
+    ∷ flow_over (poly_at s m.result_variable) members size m m.local.low e ∷ fs) (flows-over s members size m es)
 
 module _ (q : Option Polynomial) (size : ℕ → ℕ → Option Bound) (m : Member) where
   -- what flows in from a rule is the same where the same places after it are members
-  same-flow : (xs ys : List Member) (arm : Arm) (e : ℕ) → is_member xs e ≡ is_member ys e
-      → flow_over q xs size m arm e ≡ flow_over q ys size m arm e
-  same-flow xs ys arm e h = λ i. record {
-    rule = m.spot.rule;
-    slope = slope_of arm (h i);
-    offset = offset_of q arm (h i) (sizes_after size e);
+  same-flow : (xs ys : List Member) (side_bound : SideBound) (e : ℕ) → is_member xs e ≡ is_member ys e
+      → flow_over q xs size m side_bound e ≡ flow_over q ys size m side_bound e
+  same-flow xs ys side_bound e h = λ i. record {
+    rule = m.result_variable.rule;
+    slope = slope_of side_bound (h i);
+    offset = offset_of q side_bound (h i) (sizes_after size e);
   }
 
   -- what flows in by both arms from a rule is the same where the same places after it are members

@@ -2,13 +2,13 @@
 use Rattle.std.proofs.Common.{◌≡◌, ℕ, ◌||◌, Bool, true, false, List, [], ◌∷◌, map, filter, Option, refl, ap, ◌∙◌}
 use Rattle.model.specs.Bounds.{Bound, SumOf, ProductOf, PowerOf, Parts, NoParts, Part}
 use Rattle.model.specs.Programs.{Program}
-use Rattle.proof_tree.specs.proof_nodes.Known.{known}
-use Rattle.proof_tree.specs.proof_nodes.Composed.{both_parts}
-use Rattle.proof_tree.specs.proof_nodes.ComposedSizes.{Flow, base_of, factor_of, addition_of, multiplies, adds}
-use Rattle.proof_tree.specs.proof_nodes.ComposedSizes.{growth_parts}
-use Rattle.proof_tree.specs.proof_nodes.ComposedSizes.{addition_parts, loop_bound}
-use Rattle.proof_tree.specs.proof_setting.Setting.{setting_of}
-use Rattle.proof_tree.specs.Sizes.{joined}
+use Rattle.cert_types.specs.cert_rules.Known.{known}
+use Rattle.cert_types.specs.cert_rules.Composed.{both_parts}
+use Rattle.cert_types.specs.cert_rules.ComposedSizes.{Flow, base_of, factor_of, addition_of, multiplies, adds}
+use Rattle.cert_types.specs.cert_rules.ComposedSizes.{growth_parts}
+use Rattle.cert_types.specs.cert_rules.ComposedSizes.{addition_parts, loop_bound}
+use Rattle.cert_types.specs.cert_program.Setting.{setting_of}
+use Rattle.cert_types.specs.Sizes.{joined}
 use Rattle.size_nodes.specs.Growths.{growth_by_flows, growing_rule_numbers, power_part, addition_part, all_joined}
 use Rattle.size_nodes.specs.Growths.{composed}
 

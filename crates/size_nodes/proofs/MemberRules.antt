@@ -8,11 +8,11 @@ use Rattle.std.proofs.lemmas.List.Elements.{recursion_from_All}
 use Rattle.model.specs.Programs.{Program, rule_at}
 use Rattle.model.specs.Entries.{is_in}
 use Rattle.model.specs.Paths.{entry_and_rules}
-use Rattle.model.proofs.Membership.{told_same, no_is_not_yes, is_in-cases, is_in-filter, filter-in, rule_is_numbered}
-use Rattle.proof_tree.specs.proof_nodes.Nodes.{Member}
-use Rattle.proof_tree.specs.proof_nodes.AcceptsSizes.{ComesBefore, AreAscending, HasMemberShape, HasCycleShape}
-use Rattle.proof_tree.specs.proof_nodes.ComposedSizes.{rules_of}
-use Rattle.proof_tree.specs.proof_setting.Setting.{setting_of}
+use Rattle.model.proofs.Membership.{same_number-sound, no_is_not_yes, is_in-cases, is_in-filter, filter-in, rule_is_numbered}
+use Rattle.cert_types.specs.cert_rules.Nodes.{Member}
+use Rattle.cert_types.specs.cert_rules.AcceptsSizes.{ComesBefore, AreAscending, HasMemberShape, HasCycleShape}
+use Rattle.cert_types.specs.cert_rules.ComposedSizes.{rules_of}
+use Rattle.cert_types.specs.cert_program.Setting.{setting_of}
 use Rattle.size_nodes.specs.Flows.{rules_after}
 
 -- numbers that rise, the first from a number on
@@ -34,7 +34,7 @@ not_below b (x ∷ xs) h z k = go (is_in-cases z x xs k) (λ l. not_below (suc x
     go (inl e) later = omega (arith, h.0, e)
     go (inr l) later = omega (arith, h.0, later l)
 
--- a number is the first, or is told of the rest alone
+-- a number is the first of a list, or in the rest
 first-in : (x : ℕ) (xs : List ℕ) → is_in x (x ∷ xs) ≡ true
 first-in x xs = go (eqb_tells x x)
   where
@@ -45,7 +45,7 @@ first-in x xs = go (eqb_tells x x)
 later-in : (z x : ℕ) (xs : List ℕ) → is_in z xs ≡ true → is_in z (x ∷ xs) ≡ true
 later-in z x xs h = or_right (z == x) (is_in z xs) h
 
--- numbers that rise are told by what is among them
+-- ascending lists with the same elements are equal
 rises-same : (a b : ℕ) (xs ys : List ℕ) → Rises a xs → Rises b ys → ((z : ℕ) → is_in z xs ≡ true → is_in z ys ≡ true)
     → ((z : ℕ) → is_in z ys ≡ true → is_in z xs ≡ true) → xs ≡ ys
 rises-same a b [] [] hx hy f g = refl
@@ -92,34 +92,34 @@ filter-rises test (suc n) a = go (test a) refl (filter-rises test n (a + 1))
 -- the members ascend, and their rules are no less than a number
 abbrev Ascend : ℕ → List Member → Type 0
 Ascend t [] = Unit {0}
-Ascend t (m ∷ ms) = (t ≤ m.spot.rule) × Ascend m.spot.rule ms
+Ascend t (m ∷ ms) = (t ≤ m.result_variable.rule) × Ascend m.result_variable.rule ms
 
-ascend : (m : Member) (ms : List Member) → AreAscending (m ∷ ms) → Ascend m.spot.rule ms
+ascend : (m : Member) (ms : List Member) → AreAscending (m ∷ ms) → Ascend m.result_variable.rule ms
 ascend m [] h = tt
 ascend m (n ∷ ms) h = (go h.0, ascend n ms h.1)
   where
-    go : ComesBefore m.spot n.spot → m.spot.rule ≤ n.spot.rule
+    go : ComesBefore m.result_variable n.result_variable → m.result_variable.rule ≤ n.result_variable.rule
     go (inl k) = omega (arith, k)
     go (inr k) = omega (arith, k.0)
 
 -- so their rules, each once, rise
 rules-rise : (t : ℕ) (ms : List Member) → Ascend t ms → Rises (suc t) (rules_after t ms)
 rules-rise t [] h = tt
-rules-rise t (m ∷ ms) h = go (eqb_tells m.spot.rule t) (rules-rise m.spot.rule ms h.1)
+rules-rise t (m ∷ ms) h = go (eqb_tells m.result_variable.rule t) (rules-rise m.result_variable.rule ms h.1)
   where
-    go : ((m.spot.rule == t) ≡ true) × (m.spot.rule ≡ t) ⊎ ((m.spot.rule == t) ≡ false) × (m.spot.rule ≢ t)
-        → Rises (suc m.spot.rule) (rules_after m.spot.rule ms) → Rises (suc t) (rules_after t (m ∷ ms))
+    go : ((m.result_variable.rule == t) ≡ true) × (m.result_variable.rule ≡ t) ⊎ ((m.result_variable.rule == t) ≡ false) × (m.result_variable.rule ≢ t)
+        → Rises (suc m.result_variable.rule) (rules_after m.result_variable.rule ms) → Rises (suc t) (rules_after t (m ∷ ms))
     go (inl k) later = rw k.0 (subst (λ u. Rises (suc u) (rules_after u ms)) k.1 later)
     go (inr k) later = rw k.0 (omega (arith, h.0, k.1), later)
 
 -- a rule that is listed is that of a member
 listed-rule : (t : ℕ) (ms : List Member) (z : ℕ) → is_in z (rules_after t ms) ≡ true
-    → list_any (λ m. m.spot.rule == z) ms ≡ true
+    → list_any (λ m. m.result_variable.rule == z) ms ≡ true
 listed-rule t [] z h = absurd (no_is_not_yes false refl h)
-listed-rule t (m ∷ ms) z h = go (m.spot.rule == t) refl h (listed-rule t ms z) (listed-rule m.spot.rule ms z)
+listed-rule t (m ∷ ms) z h = go (m.result_variable.rule == t) refl h (listed-rule t ms z) (listed-rule m.result_variable.rule ms z)
   where
-    here : z ≡ m.spot.rule → list_any (λ n. n.spot.rule == z) (m ∷ ms) ≡ true
-    here e = or_left (m.spot.rule == z) (list_any (λ n. n.spot.rule == z) ms) (same m.spot.rule z (sym e))
+    here : z ≡ m.result_variable.rule → list_any (λ n. n.result_variable.rule == z) (m ∷ ms) ≡ true
+    here e = or_left (m.result_variable.rule == z) (list_any (λ n. n.result_variable.rule == z) ms) (same m.result_variable.rule z (sym e))
       where
         same : (x y : ℕ) → x ≡ y → (x == y) ≡ true
         same x y e = by (eqb_tells x y)
@@ -128,54 +128,54 @@ listed-rule t (m ∷ ms) z h = go (m.spot.rule == t) refl h (listed-rule t ms z)
             by (inl k) = k.0
             by (inr k) = absurd (k.1 e)
 
-    later : list_any (λ n. n.spot.rule == z) ms ≡ true → list_any (λ n. n.spot.rule == z) (m ∷ ms) ≡ true
-    later k = or_right (m.spot.rule == z) (list_any (λ n. n.spot.rule == z) ms) k
+    later : list_any (λ n. n.result_variable.rule == z) ms ≡ true → list_any (λ n. n.result_variable.rule == z) (m ∷ ms) ≡ true
+    later k = or_right (m.result_variable.rule == z) (list_any (λ n. n.result_variable.rule == z) ms) k
 
-    go : (v : Bool) → (m.spot.rule == t) ≡ v → is_in z (rules_after t (m ∷ ms)) ≡ true
-        → (is_in z (rules_after t ms) ≡ true → list_any (λ n. n.spot.rule == z) ms ≡ true)
-        → (is_in z (rules_after m.spot.rule ms) ≡ true → list_any (λ n. n.spot.rule == z) ms ≡ true)
-        → list_any (λ n. n.spot.rule == z) (m ∷ ms) ≡ true
+    go : (v : Bool) → (m.result_variable.rule == t) ≡ v → is_in z (rules_after t (m ∷ ms)) ≡ true
+        → (is_in z (rules_after t ms) ≡ true → list_any (λ n. n.result_variable.rule == z) ms ≡ true)
+        → (is_in z (rules_after m.result_variable.rule ms) ≡ true → list_any (λ n. n.result_variable.rule == z) ms ≡ true)
+        → list_any (λ n. n.result_variable.rule == z) (m ∷ ms) ≡ true
     go true e k f g = later (f (rw e at k))
-    go false e k f g = by (is_in-cases z m.spot.rule (rules_after m.spot.rule ms) (rw e at k))
+    go false e k f g = by (is_in-cases z m.result_variable.rule (rules_after m.result_variable.rule ms) (rw e at k))
       where
-        by : (z ≡ m.spot.rule) ⊎ (is_in z (rules_after m.spot.rule ms) ≡ true)
-            → list_any (λ n. n.spot.rule == z) (m ∷ ms) ≡ true
+        by : (z ≡ m.result_variable.rule) ⊎ (is_in z (rules_after m.result_variable.rule ms) ≡ true)
+            → list_any (λ n. n.result_variable.rule == z) (m ∷ ms) ≡ true
         by (inl e) = here e
         by (inr l) = later (g l)
 
 -- the rule of a member is listed, or is the one that is left out
-rule-listed : (t : ℕ) (ms : List Member) (z : ℕ) → list_any (λ m. m.spot.rule == z) ms ≡ true
+rule-listed : (t : ℕ) (ms : List Member) (z : ℕ) → list_any (λ m. m.result_variable.rule == z) ms ≡ true
     → (z ≡ t) ⊎ (is_in z (rules_after t ms) ≡ true)
 rule-listed t [] z h = absurd (no_is_not_yes false refl h)
 rule-listed t (m ∷ ms) z h =
-    go (m.spot.rule == t) refl (m.spot.rule == z) refl h (rule-listed t ms z) (rule-listed m.spot.rule ms z)
+    go (m.result_variable.rule == t) refl (m.result_variable.rule == z) refl h (rule-listed t ms z) (rule-listed m.result_variable.rule ms z)
   where
-    go : (v : Bool) → (m.spot.rule == t) ≡ v → (w : Bool) → (m.spot.rule == z) ≡ w
-        → list_any (λ n. n.spot.rule == z) (m ∷ ms) ≡ true
-        → (list_any (λ n. n.spot.rule == z) ms ≡ true → (z ≡ t) ⊎ (is_in z (rules_after t ms) ≡ true))
-        → (list_any (λ n. n.spot.rule == z) ms ≡ true
-        → (z ≡ m.spot.rule) ⊎ (is_in z (rules_after m.spot.rule ms) ≡ true))
+    go : (v : Bool) → (m.result_variable.rule == t) ≡ v → (w : Bool) → (m.result_variable.rule == z) ≡ w
+        → list_any (λ n. n.result_variable.rule == z) (m ∷ ms) ≡ true
+        → (list_any (λ n. n.result_variable.rule == z) ms ≡ true → (z ≡ t) ⊎ (is_in z (rules_after t ms) ≡ true))
+        → (list_any (λ n. n.result_variable.rule == z) ms ≡ true
+        → (z ≡ m.result_variable.rule) ⊎ (is_in z (rules_after m.result_variable.rule ms) ≡ true))
         → (z ≡ t) ⊎ (is_in z (rules_after t (m ∷ ms)) ≡ true)
-    go true e true f k g l = inl (sym (told_same m.spot.rule z f) ∙ told_same m.spot.rule t e)
+    go true e true f k g l = inl (sym (same_number-sound m.result_variable.rule z f) ∙ same_number-sound m.result_variable.rule t e)
     go true e false f k g l = rw e (g (rw f at k))
     go false e true f k g l =
-        inr (rw e (subst (λ (u : ℕ). is_in u (m.spot.rule ∷ rules_after m.spot.rule ms) ≡ true) (told_same m.spot.rule z f)
-        (first-in m.spot.rule (rules_after m.spot.rule ms))))
+        inr (rw e (subst (λ (u : ℕ). is_in u (m.result_variable.rule ∷ rules_after m.result_variable.rule ms) ≡ true) (same_number-sound m.result_variable.rule z f)
+        (first-in m.result_variable.rule (rules_after m.result_variable.rule ms))))
     go false e false f k g l = by (l (rw f at k))
       where
-        by : (z ≡ m.spot.rule) ⊎ (is_in z (rules_after m.spot.rule ms) ≡ true)
+        by : (z ≡ m.result_variable.rule) ⊎ (is_in z (rules_after m.result_variable.rule ms) ≡ true)
             → (z ≡ t) ⊎ (is_in z (rules_after t (m ∷ ms)) ≡ true)
-        by (inl q) = inr (rw e (subst (λ (u : ℕ). is_in u (m.spot.rule ∷ rules_after m.spot.rule ms) ≡ true) (sym q)
-            (first-in m.spot.rule (rules_after m.spot.rule ms))))
-        by (inr q) = inr (rw e (later-in z m.spot.rule (rules_after m.spot.rule ms) q))
+        by (inl q) = inr (rw e (subst (λ (u : ℕ). is_in u (m.result_variable.rule ∷ rules_after m.result_variable.rule ms) ≡ true) (sym q)
+            (first-in m.result_variable.rule (rules_after m.result_variable.rule ms))))
+        by (inr q) = inr (rw e (later-in z m.result_variable.rule (rules_after m.result_variable.rule ms) q))
 
 module _ (p : Program) where
   -- the rule of a member is one of the program
   rule-there : (m : Member) → HasMemberShape (setting_of p) m
-      → (1 ≤ m.spot.rule) × (is_in m.spot.rule (entry_and_rules p) ≡ true)
+      → (1 ≤ m.result_variable.rule) × (is_in m.result_variable.rule (entry_and_rules p) ≡ true)
   rule-there m h = (
-    go m.spot.rule h.at.numbered,
-    rule_is_numbered p m.spot.rule h.at.rule h.at.numbered,
+    go m.result_variable.rule h.at.numbered,
+    rule_is_numbered p m.result_variable.rule h.at.rule h.at.numbered,
   )
     where
       go : (t : ℕ) → rule_at p t ≡ Some h.at.rule → 1 ≤ t
@@ -186,24 +186,24 @@ module _ (p : Program) where
       go (suc t) e = omega arith
 
   member-there : (ms : List Member) → AllByRecursion (HasMemberShape (setting_of p)) ms → (z : ℕ)
-      → list_any (λ m. m.spot.rule == z) ms ≡ true → (1 ≤ z) × (is_in z (entry_and_rules p) ≡ true)
+      → list_any (λ m. m.result_variable.rule == z) ms ≡ true → (1 ≤ z) × (is_in z (entry_and_rules p) ≡ true)
   member-there [] h z k = absurd (no_is_not_yes false refl k)
-  member-there (m ∷ ms) h z k = go (m.spot.rule == z) refl k (member-there ms h.1 z)
+  member-there (m ∷ ms) h z k = go (m.result_variable.rule == z) refl k (member-there ms h.1 z)
     where
-      go : (v : Bool) → (m.spot.rule == z) ≡ v → (v || list_any (λ n. n.spot.rule == z) ms) ≡ true
-          → (list_any (λ n. n.spot.rule == z) ms ≡ true → (1 ≤ z) × (is_in z (entry_and_rules p) ≡ true))
+      go : (v : Bool) → (m.result_variable.rule == z) ≡ v → (v || list_any (λ n. n.result_variable.rule == z) ms) ≡ true
+          → (list_any (λ n. n.result_variable.rule == z) ms ≡ true → (1 ≤ z) × (is_in z (entry_and_rules p) ≡ true))
           → (1 ≤ z) × (is_in z (entry_and_rules p) ≡ true)
-      go true e l later = subst (λ u. (1 ≤ u) × (is_in u (entry_and_rules p) ≡ true)) (told_same m.spot.rule z e) (rule-there m h.0)
+      go true e l later = subst (λ u. (1 ≤ u) × (is_in u (entry_and_rules p) ≡ true)) (same_number-sound m.result_variable.rule z e) (rule-there m h.0)
       go false e l later = later l
 
   -- the rules of members that ascend, each once, are the rules of the members
   pub rules-are : (ms : List Member) → HasCycleShape (setting_of p) ms → rules_after 0 ms ≡ rules_of (setting_of p) ms
   rules-are ms h =
       rises-same 1 0 (rules_after 0 ms) (rules_of (setting_of p) ms) (rules-rise 0 ms (from-zero ms h.ascending))
-      (filter-rises (λ t. list_any (λ m. m.spot.rule == t) ms) (suc (length p.rules)) 0)
+      (filter-rises (λ t. list_any (λ m. m.result_variable.rule == t) ms) (suc (length p.rules)) 0)
       (λ z k. let l = listed-rule 0 ms z k in
-      is_in-filter (λ t. list_any (λ m. m.spot.rule == t) ms) (entry_and_rules p) z (member-there ms all z l).1 l)
-      (λ z k. let l = filter-in (λ t. list_any (λ m. m.spot.rule == t) ms) (entry_and_rules p) z k in
+      is_in-filter (λ t. list_any (λ m. m.result_variable.rule == t) ms) (entry_and_rules p) z (member-there ms all z l).1 l)
+      (λ z k. let l = filter-in (λ t. list_any (λ m. m.result_variable.rule == t) ms) (entry_and_rules p) z k in
       go z (member-there ms all z l.1).0 (rule-listed 0 ms z l.1))
     where
       all : AllByRecursion (HasMemberShape (setting_of p)) ms

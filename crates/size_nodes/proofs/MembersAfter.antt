@@ -1,37 +1,37 @@
--- The members that are places after one rule stand side by side.
+-- The members that are places after one rule are consecutive.
 use Rattle.std.proofs.Common.{◌≡◌, ℕ, zero, suc, ◌+◌, ◌<◌, ◌≤◌, ◌==◌, ◌&&◌, ◌||◌, not, Bool, true, false, List, [], ◌∷◌}
 use Rattle.std.proofs.Common.{length, map, filter, take, drop, get_or, inl, inr, refl, sym, ap, subst, ◌∙◌, arith}
 use Rattle.std.specs.List.{AllAdjacentBelow, AllWithin, list_any}
 use Rattle.std.specs.List.Sorted.{IsNonDecreasingBy}
 use Rattle.std.proofs.lemmas.Bool.Decides.{nat_tests}
 use Rattle.std.proofs.lemmas.List.Sorted.{IsNonDecreasingBy-from_all_adjacent}
-use Rattle.proof_tree.specs.proof_nodes.Nodes as nodes
-use Rattle.proof_tree.specs.proof_nodes.AcceptsSizes.{AreAscending, ComesBefore}
-use Rattle.proof_tree.specs.proof_nodes.ComposedSizes.{is_member}
-use Rattle.size_nodes.specs.Needs.{spots_outside}
-use Rattle.proof_tree.specs.proof_nodes.Checks.{spots_after}
-use Rattle.proof_tree.specs.declared.arm.Member.{Member}
-use Rattle.proof_tree.specs.Views.{member_of}
+use Rattle.cert_types.specs.cert_rules.Nodes as nodes
+use Rattle.cert_types.specs.cert_rules.AcceptsSizes.{AreAscending, ComesBefore}
+use Rattle.cert_types.specs.cert_rules.ComposedSizes.{is_member}
+use Rattle.size_nodes.specs.Needs.{result_variables_outside}
+use Rattle.cert_types.specs.cert_rules.Checks.{result_variables_after}
+use Rattle.cert_types.specs.declared.side_bound.Member.{Member}
+use Rattle.cert_types.specs.Views.{member_of}
 
 -- what comes before has no greater rule
-pub no-greater : (a b : nodes.Spot) → ComesBefore a b → a.rule ≤ b.rule
+pub no-greater : (a b : nodes.ResultVariable) → ComesBefore a b → a.rule ≤ b.rule
 no-greater a b (inl l) = omega (arith, l)
 no-greater a b (inr h) = omega (arith, h.0)
 
 -- the rules of members that ascend don't fall
 rules-adjacent : (ms : List Member) → AreAscending (map member_of ms)
-    → AllAdjacentBelow (λ (x y : Member). x.spot.rule ≤ y.spot.rule) ms (length ms)
+    → AllAdjacentBelow (λ (x y : Member). x.result_variable.rule ≤ y.result_variable.rule) ms (length ms)
 rules-adjacent [] h k d l = absurd (omega (arith, l))
 rules-adjacent (m ∷ []) h k d l = absurd (omega (arith, l))
-rules-adjacent (m ∷ n ∷ ms) h zero d l = no-greater (member_of m).spot (member_of n).spot h.0
+rules-adjacent (m ∷ n ∷ ms) h zero d l = no-greater (member_of m).result_variable (member_of n).result_variable h.0
 rules-adjacent (m ∷ n ∷ ms) h (suc k) d l =
-    subst (λ (i : ℕ). (get_or (n ∷ ms) k d).spot.rule ≤ (get_or (m ∷ n ∷ ms) i d).spot.rule)
+    subst (λ (i : ℕ). (get_or (n ∷ ms) k d).result_variable.rule ≤ (get_or (m ∷ n ∷ ms) i d).result_variable.rule)
     (let e : suc (k + 1) ≡ suc k + 1 = omega arith in e)
     (rules-adjacent (n ∷ ms) h.1 k d (omega (arith, l)))
 
 -- of members that ascend none has a lesser rule than one before it
-pub rules-ascend : (ms : List Member) → AreAscending (map member_of ms) → IsNonDecreasingBy (λ m. m.spot.rule) ms
-rules-ascend ms h = IsNonDecreasingBy-from_all_adjacent (λ m. m.spot.rule) ms (rules-adjacent ms h)
+pub rules-ascend : (ms : List Member) → AreAscending (map member_of ms) → IsNonDecreasingBy (λ m. m.result_variable.rule) ms
+rules-ascend ms h = IsNonDecreasingBy-from_all_adjacent (λ m. m.result_variable.rule) ms (rules-adjacent ms h)
 
 -- where those below a position fail a test, those from there on decide it
 any-drop : (test : nodes.Member → Bool) (xs : List Member) (i : ℕ)
@@ -72,24 +72,24 @@ other-rule a b v n = go (a == b) refl
     go false e = refl
 
 -- after a rule that none of the members has there are none
-pub none-after : (ms : List Member) (rule j : ℕ) → AllWithin (λ (m : Member). ¬ (m.spot.rule ≡ rule)) ms 0 (length ms)
+pub none-after : (ms : List Member) (rule j : ℕ) → AllWithin (λ (m : Member). ¬ (m.result_variable.rule ≡ rule)) ms 0 (length ms)
     → is_member (map member_of ms) rule j ≡ false
-none-after ms rule j h = sym (any-none (λ m. (m.spot.rule == rule) && (m.spot.place == suc j)) ms (λ k d l n.
-    other-rule (get_or ms k d).spot.rule rule ((get_or ms k d).spot.place == suc j) (h k d l n)))
+none-after ms rule j h = sym (any-none (λ m. (m.result_variable.rule == rule) && (m.result_variable.place == suc j)) ms (λ k d l n.
+    other-rule (get_or ms k d).result_variable.rule rule ((get_or ms k d).result_variable.place == suc j) (h k d l n)))
 
--- the members but for those after lesser rules, and of these those that aren't after greater ones
-pub behind-lesser : (ms : List Member) (rule i : ℕ) → AllWithin (λ (m : Member). m.spot.rule < rule) ms 0 i
+-- the members except for those after lesser rules, and of these those that aren't after greater ones
+pub behind-lesser : (ms : List Member) (rule i : ℕ) → AllWithin (λ (m : Member). m.result_variable.rule < rule) ms 0 i
     → is_member (map member_of (drop i ms)) rule ≡ is_member (map member_of ms) rule
-behind-lesser ms rule i h = λ t j. any-drop (λ m. (m.spot.rule == rule) && (m.spot.place == suc j)) ms i (λ k d l n.
-    other-rule (get_or ms k d).spot.rule rule ((get_or ms k d).spot.place == suc j) (λ e. omega (arith, e, h k d l n))) t
+behind-lesser ms rule i h = λ t j. any-drop (λ m. (m.result_variable.rule == rule) && (m.result_variable.place == suc j)) ms i (λ k d l n.
+    other-rule (get_or ms k d).result_variable.rule rule ((get_or ms k d).result_variable.place == suc j) (λ e. omega (arith, e, h k d l n))) t
 
 -- members after greater rules don't decide which places after a rule are members
-pub before-greater : (ms : List Member) (rule i : ℕ) → AllWithin (λ (m : Member). rule + 1 ≤ m.spot.rule) ms i (length ms)
+pub before-greater : (ms : List Member) (rule i : ℕ) → AllWithin (λ (m : Member). rule + 1 ≤ m.result_variable.rule) ms i (length ms)
     → is_member (map member_of (take i ms)) rule ≡ is_member (map member_of ms) rule
-before-greater ms rule i h = λ t j. any-take (λ m. (m.spot.rule == rule) && (m.spot.place == suc j)) ms i (λ k d l n.
-    other-rule (get_or ms k d).spot.rule rule ((get_or ms k d).spot.place == suc j) (λ e. omega (arith, e, h k d l n))) t
+before-greater ms rule i h = λ t j. any-take (λ m. (m.result_variable.rule == rule) && (m.result_variable.place == suc j)) ms i (λ k d l n.
+    other-rule (get_or ms k d).result_variable.rule rule ((get_or ms k d).result_variable.place == suc j) (λ e. omega (arith, e, h k d l n))) t
 
 -- what is outside of members is outside of those after the rule
 pub outside-same : (xs ms : List nodes.Member) (rule : ℕ) (js : List ℕ) → is_member xs rule ≡ is_member ms rule
-    → spots_outside xs rule js ≡ spots_outside ms rule js
-outside-same xs ms rule js e = ap (λ (inside : ℕ → Bool). spots_after rule (filter (λ j. not (inside j)) js)) e
+    → result_variables_outside xs rule js ≡ result_variables_outside ms rule js
+outside-same xs ms rule js e = ap (λ (inside : ℕ → Bool). result_variables_after rule (filter (λ j. not (inside j)) js)) e

@@ -20,33 +20,33 @@ use Rattle.guard_prep.proofs.its_model.ListLaws.{mapped-all}
 use Rattle.its_graph.specs.declared.graph.Graph.{Graph}
 use Rattle.guard_prep.specs.declared.rule_rows.RuleRows.{RuleRows}
 use Rattle.guard_prep.specs.Views.{prepared_of}
-use Rattle.guard_prep.specs.Prepared.{Prepared, prepared, is_bent}
+use Rattle.guard_prep.specs.Prepared.{Prepared, prepared, is_nonlinear}
 use Rattle.guard_prep.proofs.StepLaws.{valid-at}
 use Rattle.poly_terms.proofs.VariableLaws.{variables-expanded}
-use Rattle.proof_tree.specs.proof_nodes.Nodes as nodes
-use Rattle.proof_tree.specs.proof_nodes.Nodes.{Spot}
-use Rattle.proof_tree.specs.proof_nodes.ComposedSizes.{poly_at, poly_of as poly_in}
-use Rattle.proof_tree.specs.proof_nodes.AcceptsSizes.{IsSpot, left_in, left_of, HasMemberShape, AcceptsUp, AcceptsLow}
-use Rattle.proof_tree.specs.proof_setting.Setting.{bent_at, polys_in, setting_of}
-use Rattle.proof_tree.specs.declared.arm.Member.{Member}
-use Rattle.proof_tree.specs.Views.{member_of}
-use Rattle.proof_tree.specs.Composing.{optional_poly, HasFewVariables, HasFewPlaces, AreRowsOf}
+use Rattle.cert_types.specs.cert_rules.Nodes as nodes
+use Rattle.cert_types.specs.cert_rules.Nodes.{ResultVariable}
+use Rattle.cert_types.specs.cert_rules.ComposedSizes.{poly_at, poly_of as poly_in}
+use Rattle.cert_types.specs.cert_rules.AcceptsSizes.{IsResultVariable, left_in, left_of, HasMemberShape, AcceptsUp, AcceptsLow}
+use Rattle.cert_types.specs.cert_program.Setting.{nonlinear_at, polys_in, setting_of}
+use Rattle.cert_types.specs.declared.side_bound.Member.{Member}
+use Rattle.cert_types.specs.Views.{member_of}
+use Rattle.cert_types.specs.Composing.{optional_poly, HasFewVariables, HasFewPlaces, AreRowsOf}
 use Rattle.size_nodes.specs.Needs.{update_at}
 use Rattle.size_nodes.specs.Members.{IsMemberOfProgram, AreMembersOfProgram}
 use Rattle.model.proofs.Cases.{some_same as some-same}
 
 -- the update at a place is that at the position before it
-pub update_next : (polys : List Polynomial) (place : ℕ) → 0 < place → bent_at polys (place - 1) ≡ update_at polys place
+pub update_next : (polys : List Polynomial) (place : ℕ) → 0 < place → nonlinear_at polys (place - 1) ≡ update_at polys place
 update_next polys zero l = absurd (omega (arith, l))
-update_next polys (suc i) l = ap (bent_at polys) (let k : suc i - 1 ≡ i = omega arith in k)
+update_next polys (suc i) l = ap (nonlinear_at polys) (let k : suc i - 1 ≡ i = omega arith in k)
 
-module _ (p : Program) (preps : List RuleRows) (rows : AreRowsOf preps p) where
+module _ (p : Program) (prepared_rules : List RuleRows) (rows : AreRowsOf prepared_rules p) where
   -- there are as many rows as rules
-  same-length : length preps ≡ length p.rules
-  same-length = sym (length-map preps prepared_of) ∙ (ap length rows ∙ length-map p.rules prepared)
+  same-length : length prepared_rules ≡ length p.rules
+  same-length = sym (length-map prepared_rules prepared_of) ∙ (ap length rows ∙ length-map p.rules prepared)
 
   -- a rule with a number has rows
-  pub row-within : (t : ℕ) (r : Rule) → rule_at p t ≡ Some r → (0 < t) × (t ≤ length preps)
+  pub row-within : (t : ℕ) (r : Rule) → rule_at p t ≡ Some r → (0 < t) × (t ≤ length prepared_rules)
   row-within zero r e = absurd (none e)
     where
       none : None ≡ Some r → ⊥
@@ -55,33 +55,33 @@ module _ (p : Program) (preps : List RuleRows) (rows : AreRowsOf preps p) where
       let l = slice_get_within p.rules t r e in (omega arith, omega (arith, l, same-length))
 
   -- which are its own
-  pub row-is : (t : ℕ) (r : Rule) (prep : RuleRows) → rule_at p t ≡ Some r → prep ≡ get_or preps (t - 1) prep
-      → prepared_of prep ≡ prepared r
-  row-is zero r prep e h = absurd (none e)
+  pub row-is : (t : ℕ) (r : Rule) (prepared_rule : RuleRows) → rule_at p t ≡ Some r → prepared_rule ≡ get_or prepared_rules (t - 1) prepared_rule
+      → prepared_of prepared_rule ≡ prepared r
+  row-is zero r prepared_rule e h = absurd (none e)
     where
       none : None ≡ Some r → ⊥
       none k = cc
-  row-is (suc t) r prep e h =
-      some-same (prepared_of prep) (prepared r)
-      (sym (slice_get-map prepared_of preps t ∙ ap (option_map prepared_of) here)
+  row-is (suc t) r prepared_rule e h =
+      some-same (prepared_of prepared_rule) (prepared r)
+      (sym (slice_get-map prepared_of prepared_rules t ∙ ap (option_map prepared_of) here)
       ∙ (ap (λ (xs : List Prepared). slice_get xs t) rows
       ∙ (slice_get-map prepared p.rules t ∙ ap (option_map prepared) e)))
     where
-      low : t < length preps
+      low : t < length prepared_rules
       low = let l = slice_get_within p.rules t r e in omega (arith, l, same-length)
 
-      here : slice_get preps t ≡ Some prep
-      here = slice_get_read preps (length preps) t prep refl low
-          (h ∙ ap (λ (i : ℕ). get_or preps i prep) (let k : suc t - 1 ≡ t = omega arith in k))
+      here : slice_get prepared_rules t ≡ Some prepared_rule
+      here = slice_get_read prepared_rules (length prepared_rules) t prepared_rule refl low
+          (h ∙ ap (λ (i : ℕ). get_or prepared_rules i prepared_rule) (let k : suc t - 1 ≡ t = omega arith in k))
 
--- a polynomial that is told of a place has variables below what all have
-told-below : (w : ℕ) (polys : List Polynomial) (i : ℕ) (q : Polynomial) → AllByRecursion (HasVariablesBelow w) polys
-    → bent_at polys i ≡ Some q → HasVariablesBelow w q
-told-below w [] i q h e = absurd (none e)
+-- the polynomial of a place has only variables below a number that bounds those of all polynomials
+nonlinear-below : (w : ℕ) (polys : List Polynomial) (i : ℕ) (q : Polynomial) → AllByRecursion (HasVariablesBelow w) polys
+    → nonlinear_at polys i ≡ Some q → HasVariablesBelow w q
+nonlinear-below w [] i q h e = absurd (none e)
   where
     none : None ≡ Some q → ⊥
     none k = cc
-told-below w (x ∷ polys) zero q h e = go (is_bent x) e
+nonlinear-below w (x ∷ polys) zero q h e = go (is_nonlinear x) e
   where
     go : (v : Bool) → (if v then Some x else None) ≡ Some q → HasVariablesBelow w q
     go true k = subst (HasVariablesBelow w) (some-same x q k) h.0
@@ -89,7 +89,7 @@ told-below w (x ∷ polys) zero q h e = go (is_bent x) e
       where
         none : None ≡ Some q → ⊥
         none l = cc
-told-below w (x ∷ polys) (suc i) q h e = told-below w polys i q h.1 e
+nonlinear-below w (x ∷ polys) (suc i) q h e = nonlinear-below w polys i q h.1 e
 
 few-variables : (w : ℕ) (vs : List ℕ) → w ≤ 64 → AreVariablesBelow w vs → AllByRecursion (λ v. v < 2 ^ 31) vs
 few-variables w [] l h = tt
@@ -111,7 +111,7 @@ few-places w (Some q) polys zero l h e = absurd (none e)
     none k = cc
 few-places w (Some q) polys (suc i) l h e =
     All-from_recursion HasFewVariables q.now.terms.items
-    (few-terms w q.now.terms.items l (told-below w polys i (poly_of q.now) h (sym e)))
+    (few-terms w q.now.terms.items l (nonlinear-below w polys i (poly_of q.now) h (sym e)))
 
 -- expanded updates have variables below those of the rule
 pub updates-below : (n : ℕ) (us : List Term) → AllByRecursion (IsValidTerm n) us
@@ -119,47 +119,47 @@ pub updates-below : (n : ℕ) (us : List Term) → AllByRecursion (IsValidTerm n
 updates-below n [] h = tt
 updates-below n (u ∷ us) h = (variables-expanded n u h.0.variables, updates-below n us h.1)
 
-module _ (p : Program) (preps : List RuleRows) (rows : AreRowsOf preps p) where
+module _ (p : Program) (prepared_rules : List RuleRows) (rows : AreRowsOf prepared_rules p) where
   -- the update of a spot is that of its rule's rows
-  pub poly_is : (spot : Spot) → IsSpot p spot → (prep : RuleRows) → prep ≡ get_or preps (spot.rule - 1) prep
-      → update_at (map poly_of prep.polys.items) spot.place ≡ poly_at (setting_of p) spot
-  poly_is spot is prep e =
-      ap (λ (m : Prepared). update_at m.polys spot.place) (row-is p preps rows spot.rule is.rule prep is.numbered e)
-      ∙ (ap (λ (o : Option Rule). update_at (polys_in o) spot.place) (sym is.numbered) ∙ told spot.place)
+  pub poly_is : (result_variable : ResultVariable) → IsResultVariable p result_variable → (prepared_rule : RuleRows) → prepared_rule ≡ get_or prepared_rules (result_variable.rule - 1) prepared_rule
+      → update_at (map poly_of prepared_rule.polys.items) result_variable.place ≡ poly_at (setting_of p) result_variable
+  poly_is result_variable is prepared_rule e =
+      ap (λ (m : Prepared). update_at m.polys result_variable.place) (row-is p prepared_rules rows result_variable.rule is.rule prepared_rule is.numbered e)
+      ∙ (ap (λ (o : Option Rule). update_at (polys_in o) result_variable.place) (sym is.numbered) ∙ told result_variable.place)
     where
-      told : (place : ℕ) → update_at (polys_in (rule_at p spot.rule)) place ≡ poly_in (setting_of p) spot.rule place
+      told : (place : ℕ) → update_at (polys_in (rule_at p result_variable.rule)) place ≡ poly_in (setting_of p) result_variable.rule place
       told zero = refl
       told (suc i) = refl
 
   -- and has few places
-  pub poly_few : IsValid p → (spot : Spot) → IsSpot p spot → (prep : RuleRows) → prep ≡ get_or preps (spot.rule - 1) prep
-      → (o : Option (Bor Poly)) → optional_poly o ≡ update_at (map poly_of prep.polys.items) spot.place → HasFewPlaces o
-  poly_few v spot is prep e o seen =
-      let h = valid-at p spot.rule is.rule v is.numbered in
-      few-places (is.rule.left + is.rule.free) o (map poly_of prep.polys.items) spot.place h.few_variables
+  pub poly_few : IsValid p → (result_variable : ResultVariable) → IsResultVariable p result_variable → (prepared_rule : RuleRows) → prepared_rule ≡ get_or prepared_rules (result_variable.rule - 1) prepared_rule
+      → (o : Option (Bor Poly)) → optional_poly o ≡ update_at (map poly_of prepared_rule.polys.items) result_variable.place → HasFewPlaces o
+  poly_few v result_variable is prepared_rule e o seen =
+      let h = valid-at p result_variable.rule is.rule v is.numbered in
+      few-places (is.rule.left + is.rule.free) o (map poly_of prepared_rule.polys.items) result_variable.place h.few_variables
       (subst (λ (m : Prepared). AllByRecursion (HasVariablesBelow (is.rule.left + is.rule.free)) m.polys)
-      (sym (row-is p preps rows spot.rule is.rule prep is.numbered e))
+      (sym (row-is p prepared_rules rows result_variable.rule is.rule prepared_rule is.numbered e))
       (updates-below (is.rule.left + is.rule.free) is.rule.updates h.updates))
       seen
 
-  -- so many left variables has its rule, which are few
-  pub left_is : (spot : Spot) → IsSpot p spot → (prep : RuleRows) → prep ≡ get_or preps (spot.rule - 1) prep
-      → prep.left ≡ left_of p spot.rule
-  left_is spot is prep e =
-      ap (λ (m : Prepared). m.left) (row-is p preps rows spot.rule is.rule prep is.numbered e)
+  -- this many left variables has its rule, which are few
+  pub left_is : (result_variable : ResultVariable) → IsResultVariable p result_variable → (prepared_rule : RuleRows) → prepared_rule ≡ get_or prepared_rules (result_variable.rule - 1) prepared_rule
+      → prepared_rule.left ≡ left_of p result_variable.rule
+  left_is result_variable is prepared_rule e =
+      ap (λ (m : Prepared). m.left) (row-is p prepared_rules rows result_variable.rule is.rule prepared_rule is.numbered e)
       ∙ ap left_in (sym is.numbered)
 
 -- a rule has few left variables
-pub few_left : (p : Program) → IsValid p → (spot : Spot) → IsSpot p spot → left_of p spot.rule ≤ 64
-few_left p v spot is =
-    let h = (valid-at p spot.rule is.rule v is.numbered).few_variables in
+pub few_left : (p : Program) → IsValid p → (result_variable : ResultVariable) → IsResultVariable p result_variable → left_of p result_variable.rule ≤ 64
+few_left p v result_variable is =
+    let h = (valid-at p result_variable.rule is.rule v is.numbered).few_variables in
     subst (λ (o : Option Rule). left_in o ≤ 64) (sym is.numbered) (omega (arith, h))
 
 -- each of given members is given
-pub given_at : (p : Program) (g : Graph) (preps : List RuleRows) (members : List Member) (i : ℕ) (m : Member)
-    → AreMembersOfProgram p g preps (map member_of members) → i < length members → m ≡ get_or members i m
-    → IsMemberOfProgram p g preps (member_of m)
-given_at p g preps members i m given low e = record {
+pub given_at : (p : Program) (g : Graph) (prepared_rules : List RuleRows) (members : List Member) (i : ℕ) (m : Member)
+    → AreMembersOfProgram p g prepared_rules (map member_of members) → i < length members → m ≡ get_or members i m
+    → IsMemberOfProgram p g prepared_rules (member_of m)
+given_at p g prepared_rules members i m given low e = record {
   valid = given.valid;
   graph = given.graph;
   rows = given.rows;

@@ -10,12 +10,12 @@ use Rattle.model.specs.Bounds as plain
 use Rattle.model.specs.Bounds.{MaximumOf, Parts, Part}
 use Rattle.bound_table.specs.InForce.{rewritten}
 use Rattle.model.specs.Paths.{pre}
-use Rattle.proof_tree.specs.proof_nodes.AcceptsSizes.{AreAscending}
-use Rattle.proof_tree.specs.proof_nodes.ComposedSizes as flows
-use Rattle.proof_tree.specs.proof_nodes.ComposedSizes.{factor_of, flows_from, flows_into, is_inner, offsets}
-use Rattle.proof_tree.specs.proof_nodes.Known.{is_zero_bound}
-use Rattle.proof_tree.specs.proof_nodes.Nodes.{Member}
-use Rattle.proof_tree.specs.proof_nodes.Setting.{Setting}
+use Rattle.cert_types.specs.cert_rules.AcceptsSizes.{AreAscending}
+use Rattle.cert_types.specs.cert_rules.ComposedSizes as flows
+use Rattle.cert_types.specs.cert_rules.ComposedSizes.{factor_of, flows_from, flows_into, is_inner, offsets}
+use Rattle.cert_types.specs.cert_rules.Known.{is_zero_bound}
+use Rattle.cert_types.specs.cert_rules.Nodes.{Member}
+use Rattle.cert_types.specs.cert_rules.Setting.{Setting}
 use Rattle.size_nodes.specs.declared.flow.Flow.{Flow}
 use Rattle.size_nodes.specs.Flows.{flow_of}
 use Rattle.size_nodes.specs.Growths.{Growth, growth_by_flows}
@@ -26,35 +26,35 @@ abbrev ComeFrom : ℕ → List flows.Flow → Type 0
 ComeFrom t [] = ⊤
 ComeFrom t (f ∷ fs) = (t ≤ f.rule) × ComeFrom f.rule fs
 
--- so of a lesser rule
+-- the same for a lesser rule
 come-weaker : (s t : ℕ) (fs : List flows.Flow) → s ≤ t → ComeFrom t fs → ComeFrom s fs
 come-weaker s t [] l h = tt
 come-weaker s t (f ∷ fs) l h = (omega (arith, l, h.0), h.1)
 
 module _ (s : Setting) (members : List Member) (size : ℕ → ℕ → Option plain.Bound) where
-  -- what flows into a member stands before what comes from its rule on
-  come-block : (m : Member) (es : List ℕ) (rest : List flows.Flow) → ComeFrom m.spot.rule rest
-      → ComeFrom m.spot.rule (flows_from s members size m es ++ rest)
+  -- flows into a member can be put before flows that come from the member's rule or a later one
+  come-block : (m : Member) (es : List ℕ) (rest : List flows.Flow) → ComeFrom m.result_variable.rule rest
+      → ComeFrom m.result_variable.rule (flows_from s members size m es ++ rest)
   come-block m [] rest h = h
   come-block m (e ∷ es) rest h =
-      let same : m.spot.rule ≤ m.spot.rule = omega arith in (same, (same, come-block m es rest h))
+      let same : m.result_variable.rule ≤ m.result_variable.rule = omega arith in (same, (same, come-block m es rest h))
 
   -- what flows into members that ascend comes by rules
-  come-all : (t : ℕ) (m : Member) (ms : List Member) → t ≤ m.spot.rule → AreAscending (m ∷ ms)
+  come-all : (t : ℕ) (m : Member) (ms : List Member) → t ≤ m.result_variable.rule → AreAscending (m ∷ ms)
       → ComeFrom t (flows_into s members size (m ∷ ms))
   come-all t m [] l h =
-      come-weaker t m.spot.rule (flows_into s members size (m ∷ [])) l
-      (come-block m (pre s.program m.spot.rule) [] tt)
+      come-weaker t m.result_variable.rule (flows_into s members size (m ∷ [])) l
+      (come-block m (pre s.program m.result_variable.rule) [] tt)
   come-all t m (n ∷ ms) l h =
-      come-weaker t m.spot.rule (flows_into s members size (m ∷ n ∷ ms)) l
-      (come-block m (pre s.program m.spot.rule) (flows_into s members size (n ∷ ms))
-      (come-all m.spot.rule n ms (no-greater m.spot n.spot h.0) h.1))
+      come-weaker t m.result_variable.rule (flows_into s members size (m ∷ n ∷ ms)) l
+      (come-block m (pre s.program m.result_variable.rule) (flows_into s members size (n ∷ ms))
+      (come-all m.result_variable.rule n ms (no-greater m.result_variable n.result_variable h.0) h.1))
 
   come-flows : (ms : List Member) → AreAscending ms → ComeFrom 0 (flows_into s members size ms)
   come-flows [] h = tt
   come-flows (m ∷ ms) h = come-all 0 m ms (omega arith) h
 
--- so of flows of the code each two that are neighbours
+-- the same for flows of the code each two that are neighbours
 come-adjacent : (t : ℕ) (fs : List Flow) → ComeFrom t (map flow_of fs)
     → AllAdjacentBelow (λ (x y : Flow). x.rule ≤ y.rule) fs (length fs)
 come-adjacent t [] h k d l = absurd (omega (arith, l))

@@ -2,11 +2,11 @@
 use Rattle.std.proofs.Common.{◌≡◌, ℕ, ◌+◌, ◌≤◌, ◌-◌, Bool, true, false, cond, List, [], ◌∷◌, length, map, refl, sym, ap, ◌∙◌, arith}
 use Rattle.std.specs.Prelude.{ℤ, pos, nat_abs}
 use Rattle.std.proofs.lemmas.Nat.{div_below}
-use Rattle.proof_tree.specs.proof_nodes.Nodes.{Arm, Linear, Poly}
-use Rattle.proof_tree.specs.proof_nodes.Numbers.{rounded_up}
-use Rattle.proof_tree.specs.proof_nodes.ComposedSizes.{inner_sum, is_member, slope_of}
-use Rattle.proof_tree.specs.declared.arm.Member.{Member}
-use Rattle.proof_tree.specs.Views.{member_of}
+use Rattle.cert_types.specs.cert_rules.Nodes.{SideBound, Linear, Poly}
+use Rattle.cert_types.specs.cert_rules.Numbers.{rounded_up}
+use Rattle.cert_types.specs.cert_rules.ComposedSizes.{inner_sum, is_member, slope_of}
+use Rattle.cert_types.specs.declared.side_bound.Member.{Member}
+use Rattle.cert_types.specs.Views.{member_of}
 
 -- nothing over a denominator, rounded up, is nothing
 none-rounded : (den : ℕ) → 1 ≤ den → 0 ≡ rounded_up 0 den
@@ -25,7 +25,7 @@ no-inner [] den = refl
 no-inner (c ∷ cs) den = let e = no-inner cs den in omega (arith, e)
 
 -- after a rule without members an arm takes none
-pub outer_slope : (arm : Arm) (ms : List Member) (rule : ℕ) → length ms ≡ 0 → 0 ≡ slope_of arm (is_member (map member_of ms) rule)
+pub outer_slope : (side_bound : SideBound) (ms : List Member) (rule : ℕ) → length ms ≡ 0 → 0 ≡ slope_of side_bound (is_member (map member_of ms) rule)
 outer_slope (Linear den form multipliers) [] rule e = sym (no-inner form.coefs den)
 outer_slope Poly ms rule e = refl
 outer_slope (Linear den form multipliers) (m ∷ ms) rule e = absurd (omega (arith, e))

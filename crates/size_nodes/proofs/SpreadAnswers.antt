@@ -2,16 +2,16 @@
 use Rattle.std.proofs.Common.{◌≡◌, inl, inr, ℕ, [], ◌∷◌, Some, None, sym, ap}
 use Rattle.model.specs.Bounds.{Bound}
 use Rattle.bound_table.specs.InForce.{rewritten}
-use Rattle.bound_table.specs.Within.{Fits, TooLarge, rewritten_within}
-use Rattle.proof_tree.specs.proof_nodes.Nodes.{Spot, Member}
-use Rattle.proof_tree.specs.proof_nodes.Known.{Table}
-use Rattle.proof_tree.specs.proof_nodes.AcceptsSizes.{HasMemberShape, AcceptsUp, AcceptsLow, AcceptsSpread, spread_size}
-use Rattle.proof_tree.specs.proof_nodes.Reasons.{MissingSize, Large, IsFirstAmong}
-use Rattle.proof_tree.specs.proof_nodes.Checks.{large_nodes, check_size, needed_into, spread_checks}
-use Rattle.proof_tree.proofs.proof_nodes.SizeReasons.{passes-spread}
-use Rattle.proof_tree.proofs.proof_nodes.CheckLists.{passes_each}
-use Rattle.proof_tree.specs.proof_setting.Setting.{setting_of}
-use Rattle.proof_tree.proofs.proof_setting.Small.{small-bounds}
+use Rattle.bound_table.specs.RewriteResult.{Fits, TooLarge, rewritten_within}
+use Rattle.cert_types.specs.cert_rules.Nodes.{ResultVariable, Member}
+use Rattle.cert_types.specs.cert_rules.Known.{Table}
+use Rattle.cert_types.specs.cert_rules.AcceptsSizes.{HasMemberShape, AcceptsUp, AcceptsLow, AcceptsSpread, spread_size}
+use Rattle.cert_types.specs.cert_rules.Reasons.{MissingSize, Large, IsFirstAmong}
+use Rattle.cert_types.specs.cert_rules.Checks.{large_nodes, check_size, needed_into, spread_checks}
+use Rattle.cert_types.proofs.cert_rules.SizeReasons.{passes-spread}
+use Rattle.cert_types.proofs.cert_rules.CheckLists.{passes_each}
+use Rattle.cert_types.specs.cert_program.Setting.{setting_of}
+use Rattle.cert_types.proofs.cert_program.Small.{small-bounds}
 use Rattle.model.specs.Programs.{Program}
 use Rattle.size_nodes.specs.Needs.{first_missing}
 use Rattle.size_nodes.proofs.FirstMissing.{all-known, first-missing, behind-each}
@@ -19,11 +19,11 @@ use Rattle.size_nodes.proofs.FirstMissing.{all-known, first-missing, behind-each
 module _ (p : Program) (tab : Table) (m : Member) (shape : HasMemberShape (setting_of p) m)
     (up : AcceptsUp (setting_of p) m) (low : AcceptsLow (setting_of p) m) where
   -- the first size that is missing
-  pub is-missing : (spot : Spot) → first_missing tab (needed_into (setting_of p) [] (m ∷ [])) ≡ Some spot
-      → IsFirstAmong (spread_checks (setting_of p) tab m) (MissingSize spot.rule spot.place)
-  is-missing spot e = inr (
+  pub is-missing : (result_variable : ResultVariable) → first_missing tab (needed_into (setting_of p) [] (m ∷ [])) ≡ Some result_variable
+      → IsFirstAmong (spread_checks (setting_of p) tab m) (MissingSize result_variable.rule result_variable.place)
+  is-missing result_variable e = inr (
     shape,
-    inr (up, inr (low, first-missing tab (needed_into (setting_of p) [] (m ∷ [])) _ spot e)),
+    inr (up, inr (low, first-missing tab (needed_into (setting_of p) [] (m ∷ [])) _ result_variable e)),
   )
 
   -- where none is, a bound that is too large

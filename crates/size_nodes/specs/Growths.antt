@@ -1,12 +1,12 @@
--- What the rules of a loop make of its flows, as the code keeps it, and the size that they compose.
+-- The growth by each rule of a loop, as the code stores it, and the size that the rules compose.
 use Rattle.std.specs.Prelude.{ℕ, ◌||◌, not, nat_lt, Bool, cond, List, [], ◌∷◌, filter, map, Option}
 use Rattle.model.specs.Bounds.{Bound, SumOf, ProductOf, PowerOf, Parts, NoParts, Part}
 use Rattle.bound_expr.specs.Views.{bound_of}
 use Rattle.bound_table.specs.InForce.{rewritten}
-use Rattle.proof_tree.specs.proof_nodes.Known.{known, is_zero_bound}
-use Rattle.proof_tree.specs.proof_nodes.Composed.{both_parts}
-use Rattle.proof_tree.specs.proof_nodes.ComposedSizes.{Flow, is_outer, is_inner, factor_of, addition_of}
-use Rattle.proof_tree.specs.Sizes.{joined}
+use Rattle.cert_types.specs.cert_rules.Known.{known, is_zero_bound}
+use Rattle.cert_types.specs.cert_rules.Composed.{both_parts}
+use Rattle.cert_types.specs.cert_rules.ComposedSizes.{Flow, is_outer, is_inner, factor_of, addition_of}
+use Rattle.cert_types.specs.Sizes.{joined}
 use Rattle.size_nodes.specs.declared.growth.Growth as code
 use Rattle.size_nodes.specs.declared.growth.FlowKind.{FlowKind}
 use Rattle.size_nodes.specs.declared.growth.FlowKind.TheVariants.{Outer, Inner}

@@ -5,9 +5,9 @@ pub mod Members
 pub mod Needs
 -- what flows into the members of a loop
 pub mod Flows
--- what its rules make of that
+-- the growth by its rules
 pub mod Growths
 -- the arms that read members
-pub mod BentArms
--- what is answered without the lemmas that it rests on
+pub mod NonlinearSideBounds
+-- the answer on a size, apart from the lemmas of its premises
 pub mod Sizings

@@ -1,19 +1,19 @@
-//! What flows into the members of a loop.
+//! The flows of values into the members of a loop.
 
 ghost use Rattle.std.specs.Prelude.{◌≡◌, ℕ, ◌+◌, ◌*◌, ◌^◌, ◌≤◌, ◌++◌, ◌∷◌, [], cond, length, map, All};
 ghost use Rattle.std.specs.Prelude.{IfOk, OnOk, nat_abs};
 ghost use Rattle.poly_terms.specs.linear_forms.Limits.{certificate_limit};
 ghost use Rattle.model.specs.Programs.{Program};
 ghost use Rattle.model.specs.Paths.{pre};
-ghost use Rattle.proof_tree.specs.proof_nodes.ComposedSizes.{inner_sum as inner_sum_of, is_member, slope_of};
-ghost use Rattle.proof_tree.specs.proof_nodes.ComposedSizes.{flows_from};
-ghost use Rattle.proof_tree.specs.proof_nodes.ComposedSizes.{flows};
-ghost use Rattle.proof_tree.specs.proof_nodes.Limits.{IsInLimit};
-ghost use Rattle.proof_tree.specs.proof_nodes.Numbers.{rounded_up};
-ghost use Rattle.proof_tree.specs.proof_setting.Setting.{setting_of};
-ghost use Rattle.proof_tree.specs.Composing.{optional_poly, HasFewPlaces};
-ghost use Rattle.proof_tree.specs.Sizes.{is_spot, members_from};
-ghost use Rattle.proof_tree.specs.Views.{arm_of, member_of};
+ghost use Rattle.cert_types.specs.cert_rules.ComposedSizes.{inner_sum as inner_sum_of, is_member, slope_of};
+ghost use Rattle.cert_types.specs.cert_rules.ComposedSizes.{flows_from};
+ghost use Rattle.cert_types.specs.cert_rules.ComposedSizes.{flows};
+ghost use Rattle.cert_types.specs.cert_rules.Limits.{IsInLimit};
+ghost use Rattle.cert_types.specs.cert_rules.Numbers.{rounded_up};
+ghost use Rattle.cert_types.specs.cert_program.Setting.{setting_of};
+ghost use Rattle.cert_types.specs.Composing.{optional_poly, HasFewPlaces};
+ghost use Rattle.cert_types.specs.Sizes.{is_result_variable, members_from};
+ghost use Rattle.cert_types.specs.Views.{side_bound_of, member_of};
 ghost use Rattle.size_nodes.specs.Flows.{IsLimited, flow_of, flow_over, flows_over};
 ghost use Rattle.size_nodes.specs.Members.{IsMemberIn, AreMembersIn};
 
@@ -21,22 +21,24 @@ use crate::members::LoopMembers;
 use crate::transitions::Transitions;
 use crate::updates::poly_at;
 use bound_expr::{Bound, Memory};
+use cert_types::{
+    Known, Member, SideBound, composed_side_bound, has_result_variable, rounded_coefficient,
+};
 use poly_terms::Poly;
-use proof_tree::{Arm, Known, Member, arm_bound, has_spot, rounded_coefficient};
 use std::alloc::Global;
 
-/// What flows into a member by one arm from one rule before.
+/// A flow into a member by one arm from one rule before.
 #[derive(Drop)]
 pub(crate) struct Flow {
     /// The member's rule.
     pub rule: u32,
-    /// How often the arm takes the members.
+    /// The slope: the sum of the arm's coefficients at members.
     pub slope: u64,
-    /// What it adds to them.
+    /// What the arm adds to them.
     pub offset: Bound,
 }
 
-/// What the arms of a loop's members read: the bounds that are known outside of it, and the members.
+/// The bounds that the arms of a loop's members read: those that are known outside of it, and the members.
 #[derive(Drop)]
 pub(crate) struct Scope<'a, 'b, K> {
     pub known: &'a K,
@@ -62,13 +64,13 @@ struct Sink<'a> {
 fn inner(coef: &i64, den: u64, members: &[Member], rule: u32, place: u32) -> u64
     requires over { 1 ≤ den }
     requires limit { IsInLimit (nat_abs coef.now) }
-    ensures sum { result ≡ cond (is_spot (map member_of members.now) rule place) (rounded_up (nat_abs coef.now) den) 0 }
+    ensures sum { result ≡ cond (is_result_variable (map member_of members.now) rule place) (rounded_up (nat_abs coef.now) den) 0 }
     ensures limit { result ≤ certificate_limit }
 {
     if *coef == 0 {
         return 0;
     }
-    if has_spot(members, rule, place) {
+    if has_result_variable(members, rule, place) {
         rounded_coefficient(coef, den) as u64
     } else {
         0
@@ -92,42 +94,55 @@ fn inner_sum(coefs: &[i64], den: u64, members: &[Member], rule: u32, place: u32)
 
 // How often an arm takes the members, after a rule.
 #[tactic(auto, using(crate::proofs::Slopes::outer_slope))]
-fn slope(arm: &Arm, source: &Source) -> u64
-    requires { IsLimited arm.now }
-    ensures { result ≡ slope_of (arm_of arm.now) (is_member (map member_of source.now.members.now) source.now.rule) }
+fn slope(side_bound: &SideBound, source: &Source) -> u64
+    requires { IsLimited side_bound.now }
+    ensures { result ≡ slope_of (side_bound_of side_bound.now) (is_member (map member_of source.now.members.now) source.now.rule) }
 {
     if source.members.is_empty() {
         return 0;
     }
-    match arm {
-        Arm::Linear { den, coefs, .. } => inner_sum(coefs, *den, source.members, source.rule, 1),
-        Arm::Poly => 0,
+    match side_bound {
+        SideBound::Linear { den, coefs, .. } => inner_sum(
+            coefs,
+            *den,
+            source.members,
+            source.rule,
+            1,
+        ),
+        SideBound::Poly => 0,
     }
 }
 
-// What flows into a member by an arm from a rule before.
+// The flow into a member by an arm from a rule before.
 fn flow_by<K: Known>(
     alloc: Global,
     known: &K,
     sink: &Sink,
-    arm: &Arm,
+    side_bound: &SideBound,
     source: &Source,
 ) -> Result<Flow, Memory>
-    requires limited { IsLimited arm.now }
+    requires limited { IsLimited side_bound.now }
     requires few { HasFewPlaces sink.now.poly }
     ensures { IfOk result (λ f. flow_of f ≡ flow_over (optional_poly sink.now.poly)
         (map member_of source.now.members.now) (K.table known.now).size (member_of sink.now.member.now)
-        (arm_of arm.now) source.now.rule) }
+        (side_bound_of side_bound.now) source.now.rule) }
 {
-    let offset = arm_bound(alloc, arm, sink.poly, known, source.rule, source.members)?;
+    let offset = composed_side_bound(
+        alloc,
+        side_bound,
+        sink.poly,
+        known,
+        source.rule,
+        source.members,
+    )?;
     Ok(Flow {
-        rule: sink.member.spot.rule,
-        slope: slope(arm, source),
+        rule: sink.member.result_variable.rule,
+        slope: slope(side_bound, source),
         offset,
     })
 }
 
-// Pushes what flows into a member from a rule before, up before low.
+// Pushes the flows into a member from a rule before, up before low.
 fn push_both<K: Known>(
     alloc: Global,
     flows: &mut Vec<Flow>,
@@ -149,7 +164,7 @@ fn push_both<K: Known>(
     Ok(())
 }
 
-// Pushes what flows into a member from these rules. Of the members only those after the rule before are looked at.
+// Pushes the flows into a member from these rules. Only the members after the rule before are looked at.
 fn push_flows<K: Known>(
     alloc: Global,
     flows: &mut Vec<Flow>,
@@ -174,7 +189,7 @@ fn push_flows<K: Known>(
     Ok(())
 }
 
-// Pushes what flows into a member from what can come before it.
+// Pushes the flows into a member from what can come before it.
 fn push_flows_into<K: Known>(
     alloc: Global,
     flows: &mut Vec<Flow>,
@@ -186,14 +201,14 @@ fn push_flows_into<K: Known>(
     ensures { OnOk result ((p : Program) → IsMemberIn p transitions.now (member_of member.now)
         → map flow_of flows.new.items ≡ map flow_of flows.old.items ++ flows_from (setting_of p)
         (map member_of scope.now.cycle.now.members.now) (K.table scope.now.known.now).size (member_of member.now)
-        (pre p member.now.spot.rule)) }
+        (pre p member.now.result_variable.rule)) }
 {
-    let poly = poly_at(transitions.rows, member.spot);
-    let before = transitions.graph.pre(member.spot.rule);
+    let poly = poly_at(transitions.rows, member.result_variable);
+    let before = transitions.graph.pre(member.result_variable.rule);
     push_flows(alloc, flows, scope, &Sink { member, poly }, before)
 }
 
-/// All that flows into the members of a loop: by members, then by what can come before, then up before low.
+/// All flows into the members of a loop: by members, then by what can come before, then up before low.
 ///
 /// # Errors
 ///

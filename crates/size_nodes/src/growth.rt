@@ -1,12 +1,12 @@
-//! What the rules of a loop make of its flows: by what each multiplies, and what it adds.
+//! The growth by each rule of a loop: the factor by which it multiplies, and what it adds.
 
 ghost use Rattle.std.specs.Prelude.{◌≡◌, map, IfOk, OnOk};
 ghost use Rattle.std.specs.List.Sorted.{IsNonDecreasingBy};
 ghost use Rattle.model.specs.Bounds.{MaximumOf};
 ghost use Rattle.bound_expr.specs.Views.{bound_of, bounds_of, parts_of};
-ghost use Rattle.proof_tree.specs.proof_nodes.Known.{is_zero_bound};
-ghost use Rattle.proof_tree.specs.proof_nodes.ComposedSizes.{offsets, factor_of};
-ghost use Rattle.proof_tree.specs.Sizes.{joined};
+ghost use Rattle.cert_types.specs.cert_rules.Known.{is_zero_bound};
+ghost use Rattle.cert_types.specs.cert_rules.ComposedSizes.{offsets, factor_of};
+ghost use Rattle.cert_types.specs.Sizes.{joined};
 ghost use Rattle.size_nodes.specs.Flows.{flow_of};
 ghost use Rattle.size_nodes.specs.Growths.{is_of, offset_part, growth_of, growth_by_flows, growing_rule_numbers};
 
@@ -16,7 +16,7 @@ use bound_expr::{Bound, Memory};
 use bound_table::rewrite;
 use std::alloc::Global;
 
-/// The flows that a maximum is over.
+/// The flows over which a maximum is taken.
 #[derive(Clone, Copy)]
 pub(crate) enum FlowKind {
     /// Those that take no member.
@@ -25,16 +25,16 @@ pub(crate) enum FlowKind {
     Inner(u32),
 }
 
-/// What a rule of a loop does to its members.
+/// The growth of a loop's members by one of its rules.
 #[derive(Drop)]
 pub(crate) struct Growth {
     /// The rule.
     pub rule: u32,
-    /// By what it multiplies, at least 1.
+    /// The factor by which it multiplies, at least 1.
     pub factor: u64,
     /// What it adds.
     pub addition: Bound,
-    /// Whether that, rewritten, isn't 0.
+    /// Whether the addition, rewritten, isn't 0.
     pub adds: bool,
 }
 
@@ -82,7 +82,7 @@ pub(crate) fn maximum_offset(alloc: Global, flows: &[Flow], kind: FlowKind) -> R
     Ok(Bound::Max(parts))
 }
 
-// By what a rule multiplies: the maximum of 1 and the slopes of its flows.
+// The factor by which a rule multiplies: the maximum of 1 and the slopes of its flows.
 fn factor(flows: &[Flow], rule: u32) -> u64
     ensures { result ≡ factor_of (map flow_of flows.now) rule }
 {
@@ -105,7 +105,7 @@ pub fn is_zero(b: &Bound) -> bool
     }
 }
 
-// What a rule does by these flows.
+// The growth by a rule, given these flows.
 fn growth_by(alloc: Global, flows: &[Flow], rule: u32) -> Result<Growth, Memory>
     ensures { IfOk result (λ g. growth_of g ≡ growth_by_flows (map flow_of flows.now) rule) }
 {
@@ -119,7 +119,8 @@ fn growth_by(alloc: Global, flows: &[Flow], rule: u32) -> Result<Growth, Memory>
     })
 }
 
-/// What each of these rules does by these flows, in order. Of the flows, which come by rules, each rule looks at its own.
+/// The growth by each of these rules, given these flows, in order. The flows are ordered by rules, and each rule looks
+/// only at its own.
 ///
 /// # Errors
 ///

@@ -1,17 +1,18 @@
-//! The checks of nodes on sizes behind the shapes and the arms of their members: of a place that doesn't loop, and of
-//! the members of a loop.
-//! Contract to the layers above: over anything that is known, `sized_spread` and `sized_cycle` find the node accepted,
-//! with the keys of the bounds that it needs and the bound that it states, or the first check of the node that fails,
-//! as `proof_nodes` says both. A search and a checker can stand on the same.
+//! Checks nodes on sizes, apart from the shapes and the local bounds of their members: a size of one place that doesn't
+//! loop (`sized_spread`), and the sizes of the members of a loop (`sized_cycle`).
+//!
+//! Builds on `cert_types`, `bound_table` and `its_graph`. Main guarantee: for any table of known bounds, each call
+//! accepts the node, with the keys of its premises and the bound that it states, or gives the first check of the node
+//! that fails, both as `cert_rules` defines them. The search for sizes and the checker share this code.
 #![tactic(auto)]
 
-mod bent;
 mod flow;
 mod growth;
 mod loop_bound;
 mod members;
 mod missing;
-mod needs;
+mod nonlinear;
+mod premises;
 mod rule_flows;
 mod rules;
 mod sized;

@@ -3,14 +3,14 @@
 ghost use Rattle.std.specs.Prelude.{◌≡◌, map, IfOk, OnOk};
 ghost use Rattle.model.specs.Bounds.{SumOf, ProductOf, PowerOf, Part};
 ghost use Rattle.bound_expr.specs.Views.{bound_of, bounds_of, parts_of};
-ghost use Rattle.proof_tree.specs.proof_nodes.Known.{known as known_bound};
-ghost use Rattle.proof_tree.specs.proof_nodes.Composed.{both_parts};
-ghost use Rattle.proof_tree.specs.Sizes.{joined};
+ghost use Rattle.cert_types.specs.cert_rules.Known.{known as known_bound};
+ghost use Rattle.cert_types.specs.cert_rules.Composed.{both_parts};
+ghost use Rattle.cert_types.specs.Sizes.{joined};
 ghost use Rattle.size_nodes.specs.Growths.{growth_of, all_joined, power_part, addition_part, composed};
 
 use crate::growth::Growth;
 use bound_expr::{Bound, Memory};
-use proof_tree::{Known, known_or_zero};
+use cert_types::{Known, known_or_zero};
 use std::alloc::Global;
 
 // The factor of a rule to the power of its time.
@@ -83,7 +83,7 @@ fn push_addition<K: Known>(
     Ok(())
 }
 
-// What comes into the loop, and the additions.
+// The size that enters the loop, plus the additions.
 fn sum<K: Known>(alloc: Global, known: &K, base: Bound, growths: &[Growth]) -> Result<Bound, Memory>
     ensures { IfOk result (λ b. bound_of b ≡ SumOf (Part (bound_of base)
         (all_joined (addition_part (K.table known.now).time) (map growth_of growths.now)))) }
@@ -96,9 +96,9 @@ fn sum<K: Known>(alloc: Global, known: &K, base: Bound, growths: &[Growth]) -> R
     Ok(Bound::Sum(parts))
 }
 
-/// The size of the members of a loop into which `base` comes: the product of the factors of the rules, each to the
-/// power of the rule's time, and of the sum of `base` and of what the rules add, each as often as its time says. A
-/// time that isn't known counts as 0.
+/// The size of the members of a loop that `base` enters: the product of the factors of the rules, each to the power of
+/// the rule's time, times the sum of `base` and of what the rules add, each times its time. A time that isn't known
+/// counts as 0.
 ///
 /// # Errors
 ///

@@ -3,17 +3,17 @@
 ghost use Rattle.std.specs.Prelude.{◌≡◌, ◌+◌, ◌<◌, ◌≤◌, length, map};
 ghost use Rattle.std.specs.List.{AllWithin};
 ghost use Rattle.std.specs.List.Sorted.{IsNonDecreasingBy};
-ghost use Rattle.proof_tree.specs.proof_nodes.AcceptsSizes.{AreAscending};
-ghost use Rattle.proof_tree.specs.proof_nodes.ComposedSizes.{is_member};
-ghost use Rattle.proof_tree.specs.Views.{member_of};
+ghost use Rattle.cert_types.specs.cert_rules.AcceptsSizes.{AreAscending};
+ghost use Rattle.cert_types.specs.cert_rules.ComposedSizes.{is_member};
+ghost use Rattle.cert_types.specs.Views.{member_of};
 
-use proof_tree::Member;
+use cert_types::Member;
 
 /// The members of a loop, which ascend.
 #[derive(Clone, Copy)]
 pub(crate) struct LoopMembers<'a> {
     pub members: &'a [Member],
-    ghost ascending: { IsNonDecreasingBy (λ m. m.spot.rule) members.now },
+    ghost ascending: { IsNonDecreasingBy (λ m. m.result_variable.rule) members.now },
 }
 
 impl<'a> LoopMembers<'a> {
@@ -25,7 +25,7 @@ impl<'a> LoopMembers<'a> {
         LoopMembers { members }
     }
 
-    /// The members that are places after a rule: they stand side by side.
+    /// The members that are places after a rule; they are consecutive.
     pub(crate) fn after(&self, rule: u32) -> &[Member]
         ensures { is_member (map member_of result.now) rule ≡ is_member (map member_of self.now.members.now) rule }
     {
@@ -35,7 +35,7 @@ impl<'a> LoopMembers<'a> {
 
 // The members that are places after a rule, found by halving.
 fn members_after(members: &[Member], rule: u32) -> &[Member]
-    requires { IsNonDecreasingBy (λ m. m.spot.rule) members.now }
+    requires { IsNonDecreasingBy (λ m. m.result_variable.rule) members.now }
     ensures { is_member (map member_of result.now) rule ≡ is_member (map member_of members.now) rule }
 {
     let (_, rest) = members.split_at(count_below(members, u64::from(rule)));
@@ -45,10 +45,10 @@ fn members_after(members: &[Member], rule: u32) -> &[Member]
 
 // How many of the members are places after rules below this one.
 fn count_below(members: &[Member], rule: u64) -> usize
-    requires { IsNonDecreasingBy (λ m. m.spot.rule) members.now }
+    requires { IsNonDecreasingBy (λ m. m.result_variable.rule) members.now }
     ensures bound { result ≤ length members.now }
-    ensures below { AllWithin (λ m. m.spot.rule < rule) members.now 0 result }
-    ensures behind { AllWithin (λ m. rule ≤ m.spot.rule) members.now result (length members.now) }
+    ensures below { AllWithin (λ m. m.result_variable.rule < rule) members.now 0 result }
+    ensures behind { AllWithin (λ m. rule ≤ m.result_variable.rule) members.now result (length members.now) }
 {
-    members.partition_point(|m| u64::from(m.spot.rule) < rule)
+    members.partition_point(|m| u64::from(m.result_variable.rule) < rule)
 }

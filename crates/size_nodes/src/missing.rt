@@ -1,18 +1,24 @@
-//! The first size and the first time that is needed and isn't known.
+//! Finds the first size and the first time that is needed and isn't known.
 
 ghost use Rattle.std.specs.Prelude.{◌≡◌, map, option_map};
-ghost use Rattle.proof_tree.specs.Views.{spot_of};
+ghost use Rattle.cert_types.specs.Views.{result_variable_of};
 ghost use Rattle.size_nodes.specs.Needs.{first_missing as first_missing_of, first_unknown, lacks};
 
-use proof_tree::{Known, Spot};
+use cert_types::{Known, ResultVariable};
 
 /// The first of these places after rules whose size isn't known.
-pub(crate) fn first_missing<K: Known>(known: &K, spots: &[Spot]) -> Option<Spot>
-    ensures { option_map spot_of result ≡ first_missing_of (K.table known.now) (map spot_of spots.now) }
+pub(crate) fn first_missing<K: Known>(
+    known: &K,
+    result_variables: &[ResultVariable],
+) -> Option<ResultVariable>
+    ensures { option_map result_variable_of result ≡ first_missing_of (K.table known.now) (map result_variable_of result_variables.now) }
 {
-    for spot in spots {
-        if known.size(spot.rule, spot.place).is_none() {
-            return Some(*spot);
+    for result_variable in result_variables {
+        if known
+            .size(result_variable.rule, result_variable.place)
+            .is_none()
+        {
+            return Some(*result_variable);
         }
     }
     None

@@ -8,7 +8,7 @@ ghost use Rattle.size_nodes.specs.Growths.{growth_by_flows};
 
 use crate::flow::Flow;
 
-/// The flows of a rule. They stand side by side, since flows come by members, which ascend.
+/// The flows of a rule. They are consecutive, since flows are ordered by members, which ascend.
 pub(crate) fn flows_of_rule(flows: &[Flow], rule: u32) -> &[Flow]
     requires { IsNonDecreasingBy (λ f. f.rule) flows.now }
     ensures { growth_by_flows (map flow_of result.now) rule ≡ growth_by_flows (map flow_of flows.now) rule }

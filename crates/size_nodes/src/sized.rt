@@ -1,41 +1,41 @@
-//! Sizes of a place that doesn't loop, and of the members of a loop.
+//! Checks sizes of a place that doesn't loop, and of the members of a loop.
 
 ghost use Rattle.std.specs.Prelude.{◌≡◌, [], ◌∷◌, ◌++◌, map, None, IfOk};
 ghost use Rattle.std.specs.List.Sorted.{IsNonDecreasingBy};
 ghost use Rattle.model.specs.Programs.{Program};
 ghost use Rattle.bound_expr.specs.Views.{bound_of};
-ghost use Rattle.proof_tree.specs.proof_nodes.Checks.{needed_into};
-ghost use Rattle.proof_tree.specs.proof_nodes.ComposedSizes.{base_of};
-ghost use Rattle.proof_tree.specs.proof_setting.Setting.{setting_of};
-ghost use Rattle.proof_tree.specs.Views.{member_of, spot_of};
+ghost use Rattle.cert_types.specs.cert_rules.Checks.{needed_into};
+ghost use Rattle.cert_types.specs.cert_rules.ComposedSizes.{base_of};
+ghost use Rattle.cert_types.specs.cert_program.Setting.{setting_of};
+ghost use Rattle.cert_types.specs.Views.{member_of, result_variable_of};
 ghost use Rattle.size_nodes.specs.Flows.{flow_of};
 ghost use Rattle.size_nodes.specs.Growths.{growth_of, growth_by_flows};
 ghost use Rattle.size_nodes.specs.Needs.{first_missing as first_missing_of};
 ghost use Rattle.size_nodes.specs.Members.{IsMemberOfProgram, IsMemberIn, AreMembersOfProgram, AreMembersIn};
 ghost use Rattle.size_nodes.specs.Sizings.{IsSpreadSizing, IsCycleSizing, IsTimedSizing, IsLoopSizing, time_key};
 
-use crate::bent::first_bent;
 use crate::flow::{Flow, Scope, flows_in};
 use crate::growth::{FlowKind, Growth, growing_rules, growths_by, maximum_offset};
 use crate::loop_bound::loop_bound;
 use crate::members::LoopMembers;
 use crate::missing::{first_missing, first_untimed};
-use crate::needs::{needed_alone, needed_spots};
+use crate::nonlinear::first_nonlinear;
+use crate::premises::{needed_alone, needed_result_variables};
 use crate::rules::rules_in;
 use crate::sizing::Sizing;
 use crate::transitions::Transitions;
 use crate::updates::poly_at;
 use bound_expr::{Bound, Memory};
-use bound_table::{Within, rewrite_within};
+use bound_table::{RewriteResult, rewrite_within};
+use cert_types::{Known, Member, ResultVariable, spread_size};
 use guard_prep::RuleRows;
 use its_graph::Graph;
-use proof_tree::{Known, Member, Spot, spread_size};
 use std::alloc::Global;
 
-/// The size of a place after a rule where its arms read no place of its own loop: the maximum, over the rules that can
-/// come before, of both arms at the sizes after that rule, with the keys of the sizes that the node needs. Else the
-/// first of these is named: `Missing`, a size that isn't known, in the order of the rules before, up before low, places
-/// ascending; and `Large`, how many nodes the composed bound has. `Bent` and `Untimed` never come.
+/// The size of a place after a rule whose arms read no place of its own loop: the maximum, over the rules that can come
+/// before, of both arms at the sizes after that rule, with the keys of the sizes that the node needs. If there is none,
+/// the first of these reasons is given: `Missing`, a size that isn't known, in the order of the rules before, up before
+/// low, places ascending; and `Large`, how many nodes the composed bound has. `Nonlinear` and `Untimed` never come.
 ///
 /// # Errors
 ///
@@ -43,21 +43,21 @@ use std::alloc::Global;
 pub fn sized_spread<K: Known>(
     alloc: Global,
     g: &Graph,
-    preps: &[RuleRows],
+    prepared_rules: &[RuleRows],
     known: &K,
     m: &Member,
 ) -> Result<Sizing, Memory>
-    requires { (p : Program) × IsMemberOfProgram p g.now preps.now (member_of m.now) }
-    ensures { IfOk result (λ a. (p : Program) → IsMemberOfProgram p g.now preps.now (member_of m.now)
+    requires { (p : Program) × IsMemberOfProgram p g.now prepared_rules.now (member_of m.now) }
+    ensures { IfOk result (λ a. (p : Program) → IsMemberOfProgram p g.now prepared_rules.now (member_of m.now)
         → IsSpreadSizing (setting_of p) (K.table known.now) (member_of m.now) a) }
 {
     let transitions = Transitions {
         graph: g,
-        rows: preps,
+        rows: prepared_rules,
     };
     let needed = needed_alone(alloc, &transitions, m)?;
     match first_missing(known, &needed) {
-        Some(spot) => Ok(Sizing::Missing(spot)),
+        Some(result_variable) => Ok(Sizing::Missing(result_variable)),
         None => sized_composed(alloc, &transitions, known, m, needed),
     }
 }
@@ -68,32 +68,32 @@ fn sized_composed<K: Known>(
     transitions: &Transitions,
     known: &K,
     m: &Member,
-    needed: Vec<Spot>,
+    needed: Vec<ResultVariable>,
 ) -> Result<Sizing, Memory>
     requires given { (p : Program) × IsMemberIn p transitions.now (member_of m.now) }
-    requires needs { (p : Program) → IsMemberIn p transitions.now (member_of m.now)
-        → map spot_of needed.items ≡ needed_into (setting_of p) [] (member_of m.now ∷ []) }
-    requires all_known { first_missing_of (K.table known.now) (map spot_of needed.items) ≡ None }
+    requires premises { (p : Program) → IsMemberIn p transitions.now (member_of m.now)
+        → map result_variable_of needed.items ≡ needed_into (setting_of p) [] (member_of m.now ∷ []) }
+    requires all_known { first_missing_of (K.table known.now) (map result_variable_of needed.items) ≡ None }
     ensures { IfOk result (λ a. (p : Program) → IsMemberIn p transitions.now (member_of m.now)
         → IsSpreadSizing (setting_of p) (K.table known.now) (member_of m.now) a) }
 {
-    let poly = poly_at(transitions.rows, m.spot);
-    let before = transitions.graph.pre(m.spot.rule);
+    let poly = poly_at(transitions.rows, m.result_variable);
+    let before = transitions.graph.pre(m.result_variable.rule);
     match spread_size(alloc, &m.local, poly, before, known)? {
-        Within::Rewritten(bound) => Ok(Sizing::Found {
-            needs: needed,
+        RewriteResult::Rewritten(bound) => Ok(Sizing::Found {
+            premises: needed,
             bound,
         }),
-        Within::Large { nodes } => Ok(Sizing::Large { nodes }),
+        RewriteResult::Large { nodes } => Ok(Sizing::Large { nodes }),
     }
 }
 
-/// The size of all members of a loop of places: what comes into the loop from outside, and what its rules add, each as
-/// often as its time says, times the factor of each rule that multiplies to the power of its time; with the keys of the
-/// sizes and then of the times that the node needs. Else the first of these is named: `Missing`, a size from outside
-/// that isn't known, in the order of members, then of the rules before, up before low, places ascending; `Bent`, a
-/// member of which a polynomial arm reads a member; `Untimed`, the least rule that multiplies or adds and has no time;
-/// and `Large`, how many nodes the composed bound has.
+/// The size of all members of a loop of places: the sizes that enter the loop from outside, plus what its rules add,
+/// each times its time, all times the factor of each rule that multiplies to the power of its time; with the keys of
+/// the sizes and then of the times that the node needs. If there is none, the first of these reasons is given:
+/// `Missing`, a size from outside that isn't known, in the order of members, then of the rules before, up before low,
+/// places ascending; `Nonlinear`, a member of which a polynomial arm reads a member; `Untimed`, the least rule that
+/// multiplies or adds and has no time; and `Large`, how many nodes the composed bound has.
 ///
 /// # Errors
 ///
@@ -101,23 +101,23 @@ fn sized_composed<K: Known>(
 pub fn sized_cycle<K: Known>(
     alloc: Global,
     g: &Graph,
-    preps: &[RuleRows],
+    prepared_rules: &[RuleRows],
     known: &K,
     members: &[Member],
 ) -> Result<Sizing, Memory>
-    requires { (p : Program) × AreMembersOfProgram p g.now preps.now (map member_of members.now) }
-    ensures { IfOk result (λ a. (p : Program) → AreMembersOfProgram p g.now preps.now (map member_of members.now)
+    requires { (p : Program) × AreMembersOfProgram p g.now prepared_rules.now (map member_of members.now) }
+    ensures { IfOk result (λ a. (p : Program) → AreMembersOfProgram p g.now prepared_rules.now (map member_of members.now)
         → IsCycleSizing (setting_of p) (K.table known.now) (map member_of members.now) a) }
 {
     let transitions = Transitions {
         graph: g,
-        rows: preps,
+        rows: prepared_rules,
     };
     let cycle = LoopMembers::new(members);
     sized_members(alloc, &transitions, known, &cycle)
 }
 
-// So for the members by their rules.
+// The same for the members by their rules.
 fn sized_members<K: Known>(
     alloc: Global,
     transitions: &Transitions,
@@ -128,12 +128,12 @@ fn sized_members<K: Known>(
     ensures { IfOk result (λ a. (p : Program) → AreMembersIn p transitions.now (map member_of cycle.now.members.now)
         → IsCycleSizing (setting_of p) (K.table known.now) (map member_of cycle.now.members.now) a) }
 {
-    let needed = needed_spots(alloc, transitions, cycle)?;
-    if let Some(spot) = first_missing(known, &needed) {
-        return Ok(Sizing::Missing(spot));
+    let needed = needed_result_variables(alloc, transitions, cycle)?;
+    if let Some(result_variable) = first_missing(known, &needed) {
+        return Ok(Sizing::Missing(result_variable));
     }
-    if let Some(spot) = first_bent(transitions, cycle) {
-        return Ok(Sizing::Bent(spot));
+    if let Some(result_variable) = first_nonlinear(transitions, cycle) {
+        return Ok(Sizing::Nonlinear(result_variable));
     }
     let flows = flows_in(alloc, transitions, &Scope { known, cycle })?;
     let rules = rules_in(alloc, cycle.members)?;
@@ -144,12 +144,12 @@ fn sized_members<K: Known>(
 fn sized_by_flows<K: Known>(
     alloc: Global,
     known: &K,
-    needed: Vec<Spot>,
+    needed: Vec<ResultVariable>,
     flows: &[Flow],
     rules: &[u32],
 ) -> Result<Sizing, Memory>
     requires { IsNonDecreasingBy (λ f. f.rule) flows.now }
-    ensures { IfOk result (λ a. IsLoopSizing (K.table known.now) (map spot_of needed.items)
+    ensures { IfOk result (λ a. IsLoopSizing (K.table known.now) (map result_variable_of needed.items)
         (base_of (map flow_of flows.now)) (map (growth_by_flows (map flow_of flows.now)) rules.now) a) }
 {
     let growths = growths_by(alloc, flows, rules)?;
@@ -157,15 +157,15 @@ fn sized_by_flows<K: Known>(
     sized_by_growths(alloc, known, needed, base, &growths)
 }
 
-// The size by what comes into a loop and by what its rules do.
+// The size by what enters a loop and by the growth by its rules.
 fn sized_by_growths<K: Known>(
     alloc: Global,
     known: &K,
-    needed: Vec<Spot>,
+    needed: Vec<ResultVariable>,
     base: Bound,
     growths: &[Growth],
 ) -> Result<Sizing, Memory>
-    ensures { IfOk result (λ a. IsLoopSizing (K.table known.now) (map spot_of needed.items) (bound_of base)
+    ensures { IfOk result (λ a. IsLoopSizing (K.table known.now) (map result_variable_of needed.items) (bound_of base)
         (map growth_of growths.now) a) }
 {
     let times = growing_rules(alloc, growths)?;
@@ -173,36 +173,40 @@ fn sized_by_growths<K: Known>(
         Some(rule) => Ok(Sizing::Untimed { rule }),
         None => {
             let composed = loop_bound(alloc, known, base, growths)?;
-            let needs = with_times(needed, &times)?;
-            sized_where_small(alloc, needs, &composed)
+            let premises = with_times(needed, &times)?;
+            sized_where_small(alloc, premises, &composed)
         }
     }
 }
 
 // Keys, and behind them those of the times of these rules.
-fn with_times(needed: Vec<Spot>, rules: &[u32]) -> Result<Vec<Spot>, Memory>
-    ensures { IfOk result (λ needs. map spot_of needs.items
-        ≡ map spot_of needed.items ++ map time_key rules.now) }
+fn with_times(needed: Vec<ResultVariable>, rules: &[u32]) -> Result<Vec<ResultVariable>, Memory>
+    ensures { IfOk result (λ premises. map result_variable_of premises.items
+        ≡ map result_variable_of needed.items ++ map time_key rules.now) }
 {
-    let mut needs = needed;
+    let mut premises = needed;
     for rule in rules {
-        needs.push(Spot {
+        premises.push(ResultVariable {
             rule: *rule,
             place: 0,
         })?;
     }
-    Ok(needs)
+    Ok(premises)
 }
 
 // The size where all times are known, by the composed bound.
-fn sized_where_small(alloc: Global, needs: Vec<Spot>, bound: &Bound) -> Result<Sizing, Memory>
-    ensures { IfOk result (λ a. IsTimedSizing (map spot_of needs.items) (bound_of bound.now) a) }
+fn sized_where_small(
+    alloc: Global,
+    premises: Vec<ResultVariable>,
+    bound: &Bound,
+) -> Result<Sizing, Memory>
+    ensures { IfOk result (λ a. IsTimedSizing (map result_variable_of premises.items) (bound_of bound.now) a) }
 {
     match rewrite_within(alloc, bound)? {
-        Within::Rewritten(small) => Ok(Sizing::Found {
-            needs,
+        RewriteResult::Rewritten(small) => Ok(Sizing::Found {
+            premises,
             bound: small,
         }),
-        Within::Large { nodes } => Ok(Sizing::Large { nodes }),
+        RewriteResult::Large { nodes } => Ok(Sizing::Large { nodes }),
     }
 }

@@ -1,12 +1,12 @@
-//! Sizes of members as facts.
+//! States the sizes of members as facts.
 
 ghost use Rattle.std.specs.Prelude.{◌≡◌, map, IfOk};
 ghost use Rattle.bound_expr.specs.Views.{bound_of};
-ghost use Rattle.proof_tree.specs.Views.{facts_of, member_of};
-ghost use Rattle.proof_tree.specs.proof_nodes.AcceptsSizes.{cycle_facts};
+ghost use Rattle.cert_types.specs.Views.{facts_of, member_of};
+ghost use Rattle.cert_types.specs.cert_rules.AcceptsSizes.{cycle_facts};
 
 use bound_expr::{Bound, Memory};
-use proof_tree::{Fact, Member};
+use cert_types::{Fact, Member};
 use std::alloc::Global;
 
 /// The facts that this is the size of each member.
@@ -21,8 +21,8 @@ pub fn size_facts(alloc: Global, members: &[Member], bound: &Bound) -> Result<Ve
     let mut facts = Vec::new(alloc);
     for member in members {
         facts.push(Fact::Size {
-            rule: member.spot.rule,
-            place: member.spot.place,
+            rule: member.result_variable.rule,
+            place: member.result_variable.place,
             bound: bound.copied(alloc)?,
         })?;
     }

@@ -4,7 +4,7 @@ use Rattle.std.specs.Prelude.{ℤ, pos, ◌*ℤ◌, ◌<ℤ◌, unsigned_abs}
 use Rattle.std.proofs.Math.Nat.{mul-le-mul_left}
 use Rattle.std.proofs.lemmas.Int.{ints, unsigned_abs-mul}
 
--- a quotient by a number over 0 is no larger than the number that is divided
+-- a quotient by a number above 0 is no larger than the number that is divided
 pub quotient-size : (a g n : ℤ) → pos 0 <ℤ g → n *ℤ g ≡ a → unsigned_abs n ≤ unsigned_abs a
 quotient-size a g n positive e =
     let size = sym (unsigned_abs-mul n g) ∙ ap unsigned_abs e in

@@ -1,4 +1,4 @@
--- What a column shows, and what a pivot makes of it.
+-- The values of a column, and its values after a pivot.
 use Rattle.std.specs.Prelude.{◌≡◌, ℕ, ℤ, pos, ◌+ℤ◌, ◌-ℤ◌, ◌*ℤ◌, ◌<ℤ◌, List}
 use Rattle.sparse_columns.specs.declared.cell.Cell.{Cell}
 use Rattle.sparse_columns.specs.declared.wide.Wide.{Wide}
@@ -11,14 +11,15 @@ use Rattle.sparse_columns.specs.Ratios.{IsRatio}
 abbrev pub numerator : Column → ℕ → ℤ
 numerator column i = number column.cells i
 
--- the column is these numbers over the denominator, all divided by one number over 0
+-- the column is these numbers over the denominator, all divided by one number above 0
 pub record IsMultiple (column : Column) (wide : List Wide) (den : ℤ) : Type 0 where
   pub divisor : ℤ
   pub positive : pos 0 <ℤ divisor
   pub numbers : (i : ℕ) → numerator column i *ℤ divisor ≡ wide_number wide i
   pub over : column.den *ℤ divisor ≡ den
 
--- the column is the left numbers times f and the right ones times g over the denominator, all divided by one number over 0
+-- the column is the left numbers times f and the right ones times g over the denominator, all divided by one number
+-- above 0
 pub record IsCombination (column : Column) (left : List Cell) (f : ℤ) (right : List Cell) (g den : ℤ) : Type 0 where
   pub divisor : ℤ
   pub positive : pos 0 <ℤ divisor

@@ -1,4 +1,4 @@
--- Ratios in whole numbers.
+-- Comparison of ratios, in integers.
 use Rattle.std.specs.Prelude.{◌≡◌, ℤ, ◌*ℤ◌}
 
 -- over is to under as number is to pivot

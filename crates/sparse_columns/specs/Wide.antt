@@ -1,4 +1,4 @@
--- The numbers of a column while it is made.
+-- The numbers of a column while it is computed.
 use Rattle.std.specs.Prelude.{ℕ, ℤ, pos, ◌+ℤ◌, List, [], ◌∷◌}
 use Rattle.sparse_columns.specs.declared.wide.Wide.{Wide}
 use Rattle.sparse_columns.specs.Numbers.{alone}

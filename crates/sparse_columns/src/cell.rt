@@ -2,7 +2,7 @@
 
 ghost use Rattle.std.specs.Prelude.{◌≡◌, ◌≢◌, ◌<◌, ◌≤◌, ◌^◌, pos, unsigned_abs, MatchOption};
 
-/// What the numbers of a column and its denominator are below in absolute value: 2^31.
+/// The strict limit on the absolute values of a column's numbers and of its denominator: 2^31.
 pub const LIMIT: u64 = 1 << 31;
 
 /// A number other than 0 in a row.

@@ -47,7 +47,7 @@ impl Cells {
         self.items.as_slice()
     }
 
-    /// The cells in rows before this one, which takes the time of the others.
+    /// The cells in rows before this one; the time is that of skipping the others.
     pub fn before(&self, row: u32) -> &[Cell]
         ensures numbers { (i : ℕ) → i < row → number_of result.now i ≡ number self.now i }
         ensures lists { AreNumbers result.now (number self.now) row }
@@ -56,8 +56,8 @@ impl Cells {
         &cells[..first_from_behind(cells, row)]
     }
 
-    /// Puts a number in a row that has none, if it is below 2^31 in absolute value; 0 needs no room. The answer is whether
-    /// it was put. Behind the others it takes no time, else the later ones are moved.
+    /// Puts a number in a row that has none, if it is below 2^31 in absolute value; a 0 is not stored. Returns whether
+    /// it could be put. At the end it takes constant time, else the later cells are moved.
     ///
     /// # Errors
     ///
@@ -77,8 +77,8 @@ impl Cells {
         self.insert(cell)
     }
 
-    /// Puts a number behind the others, in a place that is there, if its row comes behind theirs and it is below 2^31 in
-    /// absolute value; 0 needs none. The answer is whether it was put.
+    /// Appends a number, in reserved memory, if its row comes behind those of the others and it is below 2^31 in
+    /// absolute value; a 0 is not stored. Returns whether it could be appended.
     pub(crate) fn push(&mut self, row: u32, value: i64) -> bool
         requires { 0 < places self.old }
         ensures puts { result ≡ true → Puts self.old self.new row value }
@@ -93,8 +93,8 @@ impl Cells {
         self.append_in_place(cell)
     }
 
-    /// Appends a cell in a place that is there, if its row comes behind those of all others. The answer is whether it was
-    /// appended; else the cells are as before.
+    /// Appends a cell, in reserved memory, if its row comes behind those of all others. Returns whether it was
+    /// appended; if not, the cells are unchanged.
     fn append_in_place(&mut self, cell: Cell) -> bool
         requires { 0 < places self.old }
         ensures items { self.new.items.items
@@ -110,8 +110,8 @@ impl Cells {
         true
     }
 
-    /// Appends a cell, if its row comes behind those of all others. The answer is whether it was appended; else the cells
-    /// are as before.
+    /// Appends a cell, if its row comes behind those of all others. Returns whether it was appended; if not, the cells
+    /// are unchanged.
     fn append(&mut self, cell: Cell) -> Result<bool, AllocError>
         ensures { IfOk result (λ is_put. self.new.items.items
             ≡ (if is_put then self.old.items.items ++ cell ∷ [] else self.old.items.items)) }
@@ -125,7 +125,7 @@ impl Cells {
         Ok(true)
     }
 
-    /// Inserts a cell, if its row has none. The answer is whether it was inserted.
+    /// Inserts a cell, if its row has none. Returns whether it was inserted.
     fn insert(&mut self, cell: Cell) -> Result<bool, AllocError>
         ensures { IfOk result (λ is_put. is_put ≡ true → (i : ℕ)
             → number self.new i ≡ number self.old i +ℤ alone cell.row cell.number i) }
@@ -145,7 +145,7 @@ impl Cells {
         position < self.items.len() && self.items[position].row == row
     }
 
-    /// The sum of the numbers. None where a sum on the way has no room.
+    /// The sum of the numbers. None where an intermediate sum overflows.
     pub fn total(&self) -> Option<i64>
         ensures { IfSome result (λ sum. (m : ℕ) → ((i : ℕ) → m ≤ i → number self.now i ≡ pos 0)
             → sum ≡ sum_to m (number self.now)) }
@@ -161,7 +161,7 @@ impl Cells {
         self.number_at(first_from(self.items.as_slice(), row), row)
     }
 
-    /// The number in a row, looked for from behind, which is quick in one of the last rows.
+    /// The number in a row, searched from the end, which is fast for one of the last rows.
     pub fn late(&self, row: u32) -> i64
         ensures value { result ≡ number self.now row }
         ensures bounded { unsigned_abs result < 2 ^ 31 }
@@ -205,7 +205,7 @@ fn first_from(cells: &[Cell], row: u32) -> usize
     low
 }
 
-/// The position of the first cell whose row is at least this one, looked for from behind.
+/// The position of the first cell whose row is at least this one, searched from the end.
 fn first_from_behind(cells: &[Cell], row: u32) -> usize
     requires { IsAscending cells.now }
     ensures within { result ≤ length cells.now }

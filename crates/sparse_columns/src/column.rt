@@ -1,4 +1,4 @@
-//! A column: whole numbers over one denominator.
+//! A column: integers over one common denominator.
 
 ghost use Rattle.std.specs.Prelude.{◌≡◌, ℕ, ◌<◌, ◌^◌, ℤ, pos, ◌-ℤ◌, ◌*ℤ◌, ◌<ℤ◌, unsigned_abs, IfOk, IfSome, true};
 ghost use Rattle.sparse_columns.specs.Numbers.{alone, number, number_of};
@@ -11,7 +11,7 @@ use crate::ratio::{Ratio, common_divisor};
 use crate::wide::{Wide, combined, product};
 use std::alloc::{AllocError, Global};
 
-/// Whole numbers, row by row, over one denominator.
+/// A column: integers, row by row, over one denominator.
 #[derive(Debug, Drop)]
 pub struct Column {
     cells: Cells,
@@ -34,8 +34,8 @@ impl Column {
         }
     }
 
-    /// Puts a numerator in a row, if the row comes behind those of all others and the numerator is below 2^31 in absolute
-    /// value; 0 needs no room. The answer is whether it was put.
+    /// Appends a numerator in a row, if the row comes behind those of all others and the numerator is below 2^31 in
+    /// absolute value; a 0 is not stored. Returns whether it could be appended.
     ///
     /// # Errors
     ///
@@ -61,7 +61,7 @@ impl Column {
         self.cells.at(row)
     }
 
-    /// The numerator in a row, looked for from behind, which is quick in one of the last rows.
+    /// The numerator in a row, searched from the end, which is fast for one of the last rows.
     pub fn late(&self, row: u32) -> i64
         ensures value { result ≡ numerator self.now row }
         ensures bounded { unsigned_abs result < 2 ^ 31 }
@@ -78,7 +78,7 @@ impl Column {
         self.den
     }
 
-    /// The numerators, less the denominator in a row. None where a number has no room.
+    /// The numerators, with the denominator subtracted in one row. None where a number is too large.
     ///
     /// # Errors
     ///
@@ -94,8 +94,8 @@ impl Column {
         combined_cells(alloc, self.cells.as_slice(), 1, own.as_slice(), -1)
     }
 
-    /// The column with the multiple of another taken from it that makes its number in a row that over the pivot. The
-    /// other's numbers are shifted by its denominator in this row. None where a number has no room.
+    /// The column minus that multiple of another which makes its number in a row the number divided by the pivot. The
+    /// other's numbers are shifted by its denominator in this row. None where a number is too large.
     ///
     /// # Errors
     ///
@@ -123,8 +123,8 @@ impl Column {
         )
     }
 
-    /// The column of the left numbers times one factor and the right ones times another, over a denominator, all divided
-    /// by a common divisor where they have no room else. None where they have none at all.
+    /// The column of the left numbers times one factor plus the right ones times another, over a denominator; all are
+    /// divided by a common divisor where they would be too large. None where they are too large even so.
     fn combination(
         alloc: Global,
         left: &[Cell],
@@ -145,7 +145,7 @@ impl Column {
         }
     }
 
-    /// That column, if the numbers have room as they are.
+    /// That column, if the numbers fit without division.
     fn at_once(
         alloc: Global,
         left: &[Cell],
@@ -169,7 +169,7 @@ impl Column {
         }
     }
 
-    /// That column, if the numbers have room when they are divided by a common divisor.
+    /// That column, if the numbers fit when they are divided by a common divisor.
     fn by_divisor(
         alloc: Global,
         left: &[Cell],
@@ -192,7 +192,7 @@ impl Column {
     }
 
     /// The column of numbers over a denominator, all divided by a number. None where it doesn't divide one of them, or
-    /// where a quotient has no room.
+    /// a quotient is too large.
     fn divided(
         alloc: Global,
         wide: &[Wide],
@@ -216,7 +216,7 @@ impl Column {
     }
 }
 
-/// The numbers, all divided by a number. None where it doesn't divide one of them, or where a quotient has no room.
+/// The numbers, all divided by a number. None where it doesn't divide one of them, or a quotient is too large.
 fn divided_cells(alloc: Global, wide: &[Wide], divisor: i64) -> Result<Option<Cells>, AllocError>
     requires { pos 0 <ℤ divisor }
     ensures { IfOk result (λ found. IfSome found (λ cells. (i : ℕ)
@@ -246,7 +246,7 @@ fn divisor_of(wide: &[Wide], den: i64) -> i64
     divisor
 }
 
-/// The quotient by a number over 0. None where it doesn't divide.
+/// The quotient by a number above 0. None where it doesn't divide.
 fn quotient(value: i64, divisor: i64) -> Option<i64>
     requires { pos 0 <ℤ divisor }
     ensures { IfSome result (λ quotient. quotient *ℤ divisor ≡ value) }

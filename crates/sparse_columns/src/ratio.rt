@@ -6,7 +6,7 @@ ghost use Rattle.sparse_columns.specs.Ratios.{IsRatio};
 
 use int_laws::greatest_common_divisor;
 
-/// A ratio, with numbers below 2^31 in absolute value; the lower one is over 0.
+/// A ratio, with numbers below 2^31 in absolute value; the lower one is above 0.
 #[derive(Clone, Copy, Debug, PartialEq, Eq)]
 pub(crate) struct Ratio {
     pub(crate) over: i64,
@@ -17,7 +17,7 @@ pub(crate) struct Ratio {
 }
 
 impl Ratio {
-    /// The ratio of a number to one over 0.
+    /// The ratio of a number to one above 0.
     pub(crate) fn new(number: i64, pivot: i64) -> Ratio
         requires number { unsigned_abs number < 2 ^ 31 }
         requires pivot { unsigned_abs pivot < 2 ^ 31 }
@@ -38,7 +38,7 @@ impl Ratio {
     }
 }
 
-/// The greatest common divisor of a number and one over 0, which is at least 1.
+/// The greatest common divisor of a number and one above 0, which is at least 1.
 pub(crate) fn common_divisor(number: i64, pivot: i64) -> i64
     requires positive { pos 0 <ℤ pivot }
     ensures divides { IsGcd (unsigned_abs number) (unsigned_abs pivot) (unsigned_abs result) }

@@ -7,21 +7,20 @@ use crate::cell::Cell;
 use crate::wide::product;
 use std::alloc::AllocError;
 
-/// What sums are added to, row by row. There are places for so many, so no memory is taken while they are added.
+/// An accumulator of sums, row by row. Its memory is reserved before, so that none is allocated while sums are added.
 pub(crate) trait Sums {
     ghost held: { Self → ℕ → ℤ };
 
     ghost places: { Self → ℕ };
 
-    /// Adds a number in a row. The answer is whether it has room.
+    /// Adds a number in a row. Returns whether it fits.
     fn add(&mut self, row: u32, number: i64) -> bool
         requires { 0 < places self.old }
         ensures added { result ≡ true → (i : ℕ) → held self.new i ≡ held self.old i +ℤ alone row number i }
         ensures places { places self.old ≤ places self.new + 1 };
 }
 
-/// Adds the left numbers times one factor and the right ones times another, row by row. The answer is whether all have
-/// room.
+/// Adds the left numbers times one factor and the right ones times another, row by row. Returns whether all fit.
 pub(crate) fn add_combined<S: Sums>(
     sums: &mut S,
     left: &[Cell],
@@ -78,7 +77,7 @@ pub(crate) fn places_of(left: &[Cell], right: &[Cell]) -> Result<usize, AllocErr
     }
 }
 
-/// Adds the multiple of a number. The answer is whether it has room.
+/// Adds the multiple of a number. Returns whether it fits.
 fn add_multiple<S: Sums>(sums: &mut S, cell: Cell, factor: i64) -> bool
     requires places { 0 < S.places sums.old }
     requires factor { unsigned_abs factor < 2 ^ 31 }
@@ -89,7 +88,7 @@ fn add_multiple<S: Sums>(sums: &mut S, cell: Cell, factor: i64) -> bool
     sums.add(cell.row, product(cell.value(), factor))
 }
 
-/// Adds the sum of the multiples of two numbers in the first one's row. The answer is whether it has room.
+/// Adds the sum of the multiples of two numbers in the first one's row. Returns whether it fits.
 fn add_sum<S: Sums>(sums: &mut S, a: Cell, a_factor: i64, b: Cell, b_factor: i64) -> bool
     requires places { 0 < S.places sums.old }
     requires a { unsigned_abs a_factor < 2 ^ 31 }
@@ -110,7 +109,7 @@ fn sum_of_multiples(a: Cell, a_factor: i64, b: Cell, b_factor: i64) -> i64
     product(a.value(), a_factor) + product(b.value(), b_factor)
 }
 
-/// Adds the multiples of numbers. The answer is whether all have room.
+/// Adds the multiples of numbers. Returns whether all fit.
 fn add_multiples<S: Sums>(sums: &mut S, cells: &[Cell], factor: i64) -> bool
     requires places { length cells.now ≤ S.places sums.old }
     requires factor { unsigned_abs factor < 2 ^ 31 }

@@ -1,4 +1,4 @@
-//! The numbers of a column while it is made, which may be 2^31 or more in absolute value.
+//! Computes the numbers of a column when some may be 2^31 or more in absolute value.
 
 ghost use Rattle.std.specs.Prelude.{◌≡◌, ℕ, ◌<◌, ◌^◌, ℤ, ◌+ℤ◌, ◌*ℤ◌, unsigned_abs, IfOk, IfSome};
 ghost use Rattle.sparse_columns.specs.Numbers.{alone, number_of};
@@ -29,7 +29,7 @@ impl Sums for Vec<Wide> {
     }
 }
 
-/// The left numbers times one factor and the right ones times another, added row by row. There is always room.
+/// The left numbers times one factor plus the right ones times another, row by row. The result always fits.
 pub(crate) fn combined(
     alloc: Global,
     left: &[Cell],

@@ -3,8 +3,8 @@ use Rattle.std.proofs.Common.{◌≡◌, ℕ, ◌<◌, ap, refl, ◌⊎◌, inl,
 use Rattle.std.specs.Prelude.{List, slice_get}
 use Rattle.frac128.specs.declared.frac.Frac.{Frac}
 use Rattle.frac128.specs.Zero.{zero}
-use Rattle.merges.specs.Listing.{listed}
-use Rattle.merges.proofs.Indices.{listed-index, index-of, index-order}
+use Rattle.sparse_merge.specs.Listing.{listed}
+use Rattle.sparse_merge.proofs.Indices.{listed-index, index-of, index-order}
 use Rattle.sparse_rows.specs.Entries.{fraction_of}
 use Rattle.sparse_rows.specs.Rows.{column_of, fraction_at, IsRow}
 

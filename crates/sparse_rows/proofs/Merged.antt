@@ -3,11 +3,11 @@ use Rattle.std.proofs.Common.{◌≡◌, ◌≢◌, ℕ, sym, subst, Option, Som
 use Rattle.std.specs.Prelude.{pos, List}
 use Rattle.frac128.specs.declared.frac.Frac.{Frac}
 use Rattle.frac128.proofs.Identity.{same_zero}
-use Rattle.merges.specs.declared.merging.Stop.{Stop}
-use Rattle.merges.specs.declared.merging.Stop.TheVariants as stops
-use Rattle.merges.specs.declared.merging.Stop.TheVariants.{Refused}
-use Rattle.merges.specs.Listing.{listed}
-use Rattle.merges.specs.Merging.{IsMerge, IsStop}
+use Rattle.sparse_merge.specs.declared.merging.Stop.{Stop}
+use Rattle.sparse_merge.specs.declared.merging.Stop.TheVariants as stops
+use Rattle.sparse_merge.specs.declared.merging.Stop.TheVariants.{Refused}
+use Rattle.sparse_merge.specs.Listing.{listed}
+use Rattle.sparse_merge.specs.Merging.{IsMerge, IsStop}
 use Rattle.sparse_rows.specs.Entries.{fraction_of, IsPlusMultiple, IsWithin, IsBeyond, IsEntryOf, IsListed, IsJoined}
 use Rattle.sparse_rows.specs.Rows.{column_of, IsRow}
 use Rattle.sparse_rows.specs.Multiples.{IsRowPlusMultiple, IsRefusal, error_of_stop}

@@ -5,10 +5,10 @@ use Rattle.std.specs.List.{insert}
 use Rattle.frac128.specs.declared.frac.Frac.{Frac}
 use Rattle.frac128.specs.Zero.{zero, zero-num}
 use Rattle.frac128.proofs.Identity.{same_zero}
-use Rattle.merges.specs.Listing.{listed, IsAt, LiesAt}
-use Rattle.merges.proofs.Listings.{same_or_other}
-use Rattle.merges.proofs.Indices.{found-is, none-lies}
-use Rattle.merges.proofs.Insertions.{listed-other_insert, listed-insert, insert-listing}
+use Rattle.sparse_merge.specs.Listing.{listed, IsAt, LiesAt}
+use Rattle.sparse_merge.proofs.Listings.{same_or_other}
+use Rattle.sparse_merge.proofs.Indices.{found-is, none-lies}
+use Rattle.sparse_merge.proofs.Insertions.{listed-other_insert, listed-insert, insert-listing}
 use Rattle.sparse_rows.specs.Entries.{fraction_of}
 use Rattle.sparse_rows.specs.Rows.{column_of, fraction_at, IsRow, IsPut}
 

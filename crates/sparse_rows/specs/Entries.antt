@@ -1,4 +1,4 @@
--- The entries of a row, and one plus a multiple of another.
+-- The entries of a row, and one entry plus a multiple of another.
 use Rattle.std.specs.Prelude.{◌≡◌, ◌≢◌, ℕ, ℤ, pos, ◌+ℤ◌, ◌*ℤ◌, List, [], ◌∷◌, Option, Some, None, ◌⊎◌}
 use Rattle.frac128.specs.declared.frac.Frac.{Frac}
 use Rattle.frac128.specs.Fraction.{IsFraction}
@@ -53,7 +53,7 @@ abbrev pub IsBeyond : Frac → Frac → Frac → Type 0
 IsBeyond here by there =
     (¬ AreNarrow (product_numbers by there)) ⊎ ((p : Frac) × IsProduct by there p × ¬ AreNarrow (sum_numbers here p))
 
--- what is made of two entries, where each is there or not, is the left plus by times the right
+-- the combination of two entries, each of which may be absent, is the left plus by times the right
 pub record IsJoined (by : Frac) (left right made : Option (ℕ × Frac)) : Type 0 where
   pub value : IsPlusMultiple (fraction_of left) by (fraction_of right) (fraction_of made)
   pub within : IsWithin (fraction_of left) by (fraction_of right)

@@ -3,9 +3,9 @@ use Rattle.std.specs.Prelude.{ℕ, ◌<◌, List}
 use Rattle.frac128.specs.declared.frac.Frac.{Frac}
 use Rattle.sparse_rows.specs.declared.row.SparseError.{SparseError}
 use Rattle.sparse_rows.specs.declared.row.SparseError.TheVariants.{Range, Memory}
-use Rattle.merges.specs.declared.merging.Stop.{Stop}
-use Rattle.merges.specs.declared.merging.Stop.TheVariants as stops
-use Rattle.merges.specs.declared.merging.Stop.TheVariants.{Refused}
+use Rattle.sparse_merge.specs.declared.merging.Stop.{Stop}
+use Rattle.sparse_merge.specs.declared.merging.Stop.TheVariants as stops
+use Rattle.sparse_merge.specs.declared.merging.Stop.TheVariants.{Refused}
 use Rattle.sparse_rows.specs.Entries.{IsPlusMultiple, IsWithin, IsBeyond}
 use Rattle.sparse_rows.specs.Rows.{fraction_at}
 
@@ -19,7 +19,7 @@ pub record IsLeastBeyond (here : List (ℕ × Frac)) (by : Frac) (there : List (
   pub beyond : IsBeyond (fraction_at here col) by (fraction_at there col)
   pub before : (j : ℕ) → j < col → IsWithin (fraction_at here j) by (fraction_at there j)
 
--- why the row isn't there; want of memory may come at any time
+-- why the row isn't there; running out of memory may come at any time
 abbrev pub IsRefusal : List (ℕ × Frac) → Frac → List (ℕ × Frac) → SparseError → Type 0
 IsRefusal here by there (Range col) = IsLeastBeyond here by there col
 IsRefusal here by there Memory = Unit {0}

@@ -1,7 +1,7 @@
--- The list that contracts see of a sparse row: pairs of a column and a fraction.
+-- A sparse row as contracts read it: a list of pairs of a column and a fraction.
 use Rattle.std.specs.Prelude.{◌≡◌, ◌≢◌, ℕ, pos, List, Some}
 use Rattle.frac128.specs.declared.frac.Frac.{Frac}
-use Rattle.merges.specs.Listing.{listed, IsListing}
+use Rattle.sparse_merge.specs.Listing.{listed, IsListing}
 use Rattle.sparse_rows.specs.Entries.{fraction_of}
 
 -- the column of an entry

@@ -1,4 +1,4 @@
--- What is made of no entries.
+-- Sums and multiples of the fraction 0, for columns at which neither row has an entry.
 use Rattle.std.specs.Prelude.{◌≡◌, ℤ, pos, ◌+ℤ◌, ◌*ℤ◌, None}
 use Rattle.std.proofs.Common.{arith, subst, sym}
 use Rattle.std.proofs.lemmas.Int.{ints}

@@ -1,4 +1,7 @@
-//! Rows of fractions that list only what isn't 0: a column and a fraction for each entry, at ascending columns.
+//! Sparse rows of fractions: a column and a nonzero fraction for each entry, at ascending columns.
+//!
+//! Builds on `frac128` and on the merge of `sparse_merge`. Main guarantee: `SparseRow::plus_multiple` gives the row whose
+//! fraction at each column is the exact sum, or `Range` at the least column where a fraction is out of range.
 #![tactic(auto)]
 
 mod multiple;

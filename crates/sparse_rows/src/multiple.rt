@@ -5,9 +5,9 @@ ghost use Rattle.frac128.specs.Narrow.{IsNarrow};
 ghost use Rattle.sparse_rows.specs.Entries.{fraction_of, IsPlusMultiple, IsWithin, IsBeyond, IsEntryOf};
 
 use frac128::Frac;
-use merges::{Join, Refused};
+use sparse_merge::{Join, Refused};
 
-/// Makes of two entries the left one plus a multiple of the right one.
+/// Combines two entries: the left one plus a multiple of the right one.
 #[derive(Drop)]
 pub(crate) struct PlusMultiple {
     pub(crate) by: Frac,
@@ -15,7 +15,7 @@ pub(crate) struct PlusMultiple {
 }
 
 impl Join<(u32, Frac)> for PlusMultiple {
-    ghost use Rattle.merges.specs.Merging.{IsMade};
+    ghost use Rattle.sparse_merge.specs.Merging.{IsMade};
     ghost use Rattle.sparse_rows.specs.Entries.{fraction_of, IsBeyond, IsJoined};
     ghost use Rattle.sparse_rows.specs.Rows.{column_of};
     ghost use Rattle.sparse_rows.specs.Zeros.{nothing_joined};

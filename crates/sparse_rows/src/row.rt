@@ -1,4 +1,4 @@
-//! A sparse row: how it is made, and what it lists.
+//! Sparse rows: their construction, their entries, and sums of multiples.
 
 ghost use Rattle.std.specs.Prelude.{[], ◌<◌, Some, length, slice_get, OnErr, ◌≡◌, IfOk, MatchResult};
 ghost use Rattle.sparse_rows.specs.Rows.{IsRow, IsPut, fraction_at};
@@ -7,8 +7,8 @@ ghost use Rattle.sparse_rows.specs.Multiples.{IsRowPlusMultiple, IsRefusal, erro
 
 use crate::multiple::PlusMultiple;
 use frac128::Frac;
-use merges::{Stop, find, merge_into, search};
 use smallvec::SmallVec;
+use sparse_merge::{Stop, find, merge_into, search};
 use std::alloc::{AllocError, Global};
 use std::marker::Model;
 use thiserror::Error;
@@ -32,7 +32,7 @@ impl Model for SparseRow {
     ghost invariant = { λ r. IsRow r.cells.items };
 }
 
-/// Why a row plus a multiple of another isn't there.
+/// Why a row plus a multiple of another can't be computed.
 #[derive(Debug, Drop, Error, PartialEq, Eq)]
 pub enum SparseError {
     /// At this column the product or the sum is beyond 127 bits; it is the least such column.
@@ -114,11 +114,12 @@ impl SparseRow {
         Ok(())
     }
 
-    /// At every column the exact value here plus `by` times that of `other`.
+    /// The row whose fraction at each column is the exact value here plus `by` times that of `other`.
     ///
     /// # Errors
     ///
-    /// `Range` at the least column where the product or the sum answers `Range`, and `Memory` where an allocation fails.
+    /// `Range` at the least column where the product or the sum is out of range, and `Memory` where an allocation
+    /// fails.
     pub fn plus_multiple(
         &self,
         alloc: Global,

@@ -11,23 +11,23 @@ use Rattle.text_core.proofs.Orders.{not_after_on, IsFirstOf, first_of_is, IsFirs
 use Rattle.text_core.proofs.Walks.{walk-none, walk-onto, pieces-onto}
 
 module _ {P T F K : Type 0} (r : Reader P T F K) where
-  -- a fault that stands here: the front shows it, or the text breaks off at what is left
+  -- a fault at this point: the front shows it, or the remaining text breaks off here
   abbrev pub Here : ℕ → List (Token P) → F → List (Token P) → Fault K → Type 0
   Here n done f rest x = Among x (r.shown n done f rest) ⊎ (BreaksOff r (pieces done) (pieces rest) × (off_at r n f rest ≡ x))
 
-  -- a fault that stands here or further on
+  -- a fault at this point or later
   abbrev pub Ahead : ℕ → List (Token P) → Option F → List (Token P) → Fault K → Type 0
   Ahead n done None [] x = ⊥
   Ahead n done (Some f) [] x = Here n done f [] x
   Ahead n done None (p ∷ rest) x = ⊥
   Ahead n done (Some f) (p ∷ rest) x = Here n done f (p ∷ rest) x ⊎ Ahead n (p ∷ done) (r.step f p.piece) rest x
 
-  -- what stands here is a fault of the text
+  -- a fault at this point is a fault of the text
   here_fault : (n : ℕ) (done : List (Token P)) (f : F) (rest : List (Token P)) (x : Fault K) → reached r (pieces done) ≡ Some f → Here n done f rest x → FaultAt r n (onto done rest) x
   here_fault n done f rest x e (inl a) = shows done rest f refl e a
   here_fault n done f rest x e (inr b) = breaks done rest f refl e b.0 b.1
 
-  -- so is what stands ahead
+  -- a later fault is a fault of the text, too
   pub ahead_fault : (rest : List (Token P)) (n : ℕ) (done : List (Token P)) (o : Option F) (x : Fault K) → reached r (pieces done) ≡ o → Ahead n done o rest x → FaultAt r n (onto done rest) x
   ahead_fault [] n done None x e h = absurd h
   ahead_fault [] n done (Some f) x e h = here_fault n done f [] x e h
@@ -35,7 +35,7 @@ module _ {P T F K : Type 0} (r : Reader P T F K) where
   ahead_fault (p ∷ rest) n done (Some f) x e (inl h) = here_fault n done f (p ∷ rest) x e h
   ahead_fault (p ∷ rest) n done (Some f) x e (inr h) = ahead_fault rest n (p ∷ done) (r.step f p.piece) x (ap (λ (o : Option F). next r.step o p.piece) e) h
 
-  -- what stands behind a front that tokens lead to is ahead of the beginning
+  -- a fault found from a front that the tokens reach is a fault of the whole token list
   fault_back : (done rest : List (Token P)) (n : ℕ) (x : Fault K) (o : Option F) → reached r (pieces done) ≡ o → Ahead n done o rest x → Ahead n [] (Some r.beginning) (onto done rest) x
   fault_back [] rest n x o e h = subst (λ (v : Option F). Ahead n [] v rest x) (sym e) h
   fault_back (p ∷ done) rest n x o e h = go (reached r (pieces done)) refl e (λ f w a. fault_back done (p ∷ rest) n x (Some f) w a)
@@ -53,7 +53,7 @@ module _ {P T F K : Type 0} (r : Reader P T F K) where
           none (Some g) k h = cc
       go (Some f) w k ih = ih f w (inr (subst (λ (v : Option F). Ahead n (p ∷ done) v rest x) (sym k) h))
 
-  -- what stands here is ahead
+  -- a fault at this point is a fault from here on
   here_ahead : (rest : List (Token P)) (n : ℕ) (done : List (Token P)) (f : F) (x : Fault K) → Here n done f rest x → Ahead n done (Some f) rest x
   here_ahead [] n done f x h = h
   here_ahead (p ∷ rest) n done f x h = inl h
@@ -116,7 +116,8 @@ module _ {P T F K : Type 0} (r : Reader P T F K) where
     IsRest best Left ps (Stands t) = (best ≡ None) × ((x : Fault K) → ¬ Left x) × r.Writes t ps
     IsRest best Left ps (Refused x) = ((best ≡ Some x) ⊎ Left x) × ((y : Fault K) → (best ≡ Some y) ⊎ Left y → NotAfter r x y)
 
-    -- where the text breaks off, the first of what was shown and of the break is the first of all that stands here
+    -- where the text breaks off, the first of the faults shown and of the break is the first of all faults at this
+    -- point
     broken_off : (n : ℕ) (done : List (Token P)) (f : F) (rest : List (Token P)) (best o : Option (Fault K)) (ps : List P) → IsFirstAmong r best (r.shown n done f rest) o
         → BreaksOff r (pieces done) (pieces rest) → IsRest best (Here n done f rest) ps (Refused (first_of r o (off_at r n f rest)))
     broken_off n done f rest best o ps h b = (one (first_of_is r o (off_at r n f rest)).one, least o h (first_of_is r o (off_at r n f rest)))

@@ -1,5 +1,6 @@
--- The laws of an inner reader inside an outer one, both ways: what leads the inner reader leads the outer one, and where the outer
--- reader stands inside, the inner one has read the pieces since its text began.
+-- The laws of an inner reader inside an outer one, in both directions: a piece that the inner reader accepts is
+-- accepted by the outer one, and while the outer reader is inside, the inner one has read the pieces since its text
+-- began.
 use Rattle.std.proofs.Common.{◌≡◌, List, [], ◌∷◌, ◌++◌, map, Option, Some, None, refl, ap, sym, ◌∙◌}
 use Rattle.text_core.specs.Readers.{Reader, onto, next, walk}
 use Rattle.text_core.specs.Laws.{Laws}
@@ -23,11 +24,11 @@ module _ {P T F K Q G C : Type 0} (r : Reader P T F K) (laws : Laws r) (i : Insi
       ap (λ qs. onto qs (map i.into ps ++ rest)) s.pieces
       ∙ (onto-two (map i.into s.inner) before (map i.into ps ++ rest) ∙ ap (onto before) (onto-map i.into s.inner ps rest))
 
-  -- at its beginning the inner reader stands inside
+  -- at its beginning the inner reader is inside
   pub begins_inside : (before : List Q) → IsInside r i before before r.beginning
   begins_inside before = record { inner = []; pieces = refl; led = refl }
 
-  -- where a piece leads the inner reader on, it stands inside behind that piece
+  -- behind a piece that the inner reader accepts, it is still inside
   pub stays_inside : (before done : List Q) (f g : F) (q : Q) → IsInside r i before done f → inner_step r i f (i.inner_of q) ≡ Some g → IsInside r i before (q ∷ done) g
   stays_inside before done f g q s e = go (i.inner_of q) refl e
     where
@@ -71,7 +72,7 @@ module _ {P T F K Q G C : Type 0} (r : Reader P T F K) (laws : Laws r) (i : Insi
         follows c f (i.into p)
         ∙ (ap (λ (o : Option P). step_by r i c f (inner_step r i f o) (i.into p)) (is.there p) ∙ ap (λ (o : Option F). step_by r i c f o (i.into p)) e)
 
-    -- so do pieces, whatever follows
+    -- the same for pieces, whatever follows
     pub inside-walk : (c : C) (ps : List P) (rest : List Q) (f g : F) → walk r.step (Some f) ps ≡ Some g
         → walk outer (Some (i.inside c f)) (map i.into ps ++ rest) ≡ walk outer (Some (i.inside c g)) rest
     inside-walk c = inner-walk r.step outer (i.inside c) i.into (step_on c)

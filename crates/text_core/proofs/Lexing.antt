@@ -1,4 +1,4 @@
--- Tokens of a text stand in order, and those behind the first one are the tokens of what is behind it.
+-- The tokens of a text are in order of position, and those behind the first one are the tokens of the bytes behind it.
 use Rattle.std.proofs.Common.{◌≡◌, ℕ, zero, suc, ◌+◌, ◌-◌, ◌≤◌, ◌<◌, List, [], ◌∷◌, length, drop, Option, Some, None}
 use Rattle.std.proofs.Common.{refl, ap, sym, subst, ◌∙◌, arith}
 use Rattle.text_core.specs.Tokens.{Token, Lexeme, Lexer, pieces, token_then, tokens_in, lexer_with_one_mode}
@@ -42,7 +42,7 @@ module _ {P M : Type 0} (lexer : Lexer P M) where
       passed zero some = absurd (omega arith)
       passed (suc n) some = ap (λ (k : ℕ). drop k others) (let same : n ≡ suc n - 1 = omega arith in same)
 
-  -- the tokens of bytes at a position stand in order, up to where the bytes end
+  -- the tokens of bytes from a position on are in order, and end where the bytes end
   pub in_order_in : ((mode : M) → LexesWithin (lexer.lexeme_in mode)) → (bytes : List ℕ) (mode : M) (skip at : ℕ) → skip ≤ length bytes
       → AreInOrder (at + skip) (tokens_in lexer mode at skip bytes) (at + length bytes)
   in_order_in within [] mode skip at h = omega (arith, h)
@@ -57,7 +57,7 @@ module _ {P M : Type 0} (lexer : Lexer P M) where
       (one_in_order at (lexer.lexeme_in mode b bytes).len (lexer.lexeme_in mode b bytes).piece _ (at + 1 + length bytes) w.0
       (in_order_in within bytes (lexer.mode_behind mode (lexer.lexeme_in mode b bytes).piece) ((lexer.lexeme_in mode b bytes).len - 1) (at + 1) (let k = w.1 in omega (arith, k)))))
 
-  -- the pieces of a text don't hang on its position
+  -- the pieces of a text don't depend on its position
   pub pieces_in : (bytes : List ℕ) (mode : M) (skip a b : ℕ) → pieces (tokens_in lexer mode a skip bytes) ≡ pieces (tokens_in lexer mode b skip bytes)
   pieces_in [] mode skip a b = refl
   pieces_in (c ∷ bytes) mode (suc skip) a b = pieces_in bytes mode skip (a + 1) (b + 1)
@@ -80,7 +80,7 @@ module _ {P : Type 0} (lexeme_at : ℕ → List ℕ → Lexeme (Option P)) where
       → behind ≡ drop l.len text → tokens_from lexeme_at at 0 text ≡ token_then at l.len l.piece (tokens_from lexeme_at (at + l.len) 0 behind)
   tokens-first = tokens_in-first (lexer_with_one_mode lexeme_at) tt
 
-  -- the tokens of bytes at a position stand in order, up to where the bytes end
+  -- the tokens of bytes from a position on are in order, and end where the bytes end
   pub in_order : LexesWithin lexeme_at → (bytes : List ℕ) (skip at : ℕ) → skip ≤ length bytes → AreInOrder (at + skip) (tokens_from lexeme_at at skip bytes) (at + length bytes)
   in_order within bytes = in_order_in (lexer_with_one_mode lexeme_at) (λ mode. within) bytes tt
 

@@ -72,7 +72,7 @@ module _ {P T F K : Type 0} (r : Reader P T F K) (laws : Laws r) (Within : T →
     within_faultless n ts t w within x (breaks done rest f is led b e) =
         goes_on_whole (pieces done) (pieces rest) t (subst (r.Writes t) (pieces-onto done rest) (subst (λ (us : List (Token P)). r.Writes t (pieces us)) (sym is) w)) b
 
-    -- so it is answered
+    -- hence the tree is answered
     pub within_answered : (n : ℕ) (ts : List (Token P)) (t : T) → r.Writes t (pieces ts) → Within t → answer r n ts ≡ Stands t
     within_answered n ts t w within = go (answer r n ts) (answer_is r laws n ts)
       where

@@ -33,10 +33,10 @@ pub next_digit : (limit : ℕ) (ds : List ℕ) (i value digit next c : ℕ) → 
 next_digit limit ds i value digit next c h at all v d n =
     let split : drop i ds ≡ c ∷ drop (i + 1) ds = drop_more ds i 0 h ∙ ap (λ (x : ℕ). x ∷ drop (i + 1) ds) (sym at) in
     let digits : IsTrue (list_all is_ascii_digit (c ∷ drop (i + 1) ds)) = subst (λ (xs : List ℕ). IsTrue (list_all is_ascii_digit xs)) split all in
-    let told : (is_ascii_digit c ≡ true) × IsTrue (list_all is_ascii_digit (drop (i + 1) ds)) = and_parts (is_ascii_digit c) (list_all is_ascii_digit (drop (i + 1) ds)) digits in (
-      one_digit limit value digit next c (drop (i + 1) ds) ds told.0 d n (subst (λ (xs : List ℕ). min (digits_value_after 10 value xs) limit ≡ value_up_to limit ds) split v),
+    let worked : (is_ascii_digit c ≡ true) × IsTrue (list_all is_ascii_digit (drop (i + 1) ds)) = and_parts (is_ascii_digit c) (list_all is_ascii_digit (drop (i + 1) ds)) digits in (
+      one_digit limit value digit next c (drop (i + 1) ds) ds worked.0 d n (subst (λ (xs : List ℕ). min (digits_value_after 10 value xs) limit ≡ value_up_to limit ds) split v),
       omega (arith, n),
-      told.1,
+      worked.1,
     )
 
 -- no digit is left

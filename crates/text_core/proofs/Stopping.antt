@@ -24,7 +24,7 @@ last_before [] from l = omega arith
 last_before (t ∷ done) from l = let a = l.0 in let b = l.1 in omega (arith, a, b)
 
 module _ {P T F K : Type 0} (r : Reader P T F K) where
-  -- what stands against tokens in order, from a position on, where everything is shown at the next token
+  -- the faults of tokens in order, from a position on, where every fault is shown at the next token
   pub ahead_next : ShowsNext r → (rest : List (Token P)) (n from : ℕ) (done : List (Token P)) (o : Option F) (x : Fault K) → AreInOrder from rest n → Ahead r n done o rest x → from ≤ x.at
   ahead_next s [] n from done None x h a = absurd a
   ahead_next s [] n from done (Some f) x h (inl a) = let e = s.each n done f [] x a in omega (arith, e, h)

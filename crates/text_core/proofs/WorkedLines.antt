@@ -4,7 +4,7 @@ use Rattle.std.specs.Prelude.{codes}
 use Rattle.text_core.specs.Faults.{breaks}
 use Rattle.text_core.specs.Rows as row
 use Rattle.text_core.specs.Lines.{In, Semicolon, InLine, lines}
-use Rattle.text_core.specs.WorkedLines.{LinesAreTold, LinesAreRead, WorkedLines, HasFault, tokens}
+use Rattle.text_core.specs.WorkedLines.{LinesAreWorkedOut, LinesAreRead, WorkedLines, HasFault, tokens}
 use Rattle.text_core.proofs.FirstFaults.{answer_is, answers_all, one_tree_each, one_first_each, breaks_here}
 use Rattle.text_core.proofs.LineLaws.{line_laws}
 
@@ -18,8 +18,8 @@ later = breaks
     refl
 
 -- texts of lines have the faults that were worked out
-told : LinesAreTold
-told = record {
+worked : LinesAreWorkedOut
+worked = record {
   two = answer_is lines line_laws 7 (tokens (codes "1, 2;3;"));
   nothing = answer_is lines line_laws 0 (tokens []);
   second_row = answer_is lines line_laws 6 (tokens (codes "1;12;,"));
@@ -38,4 +38,4 @@ read : LinesAreRead
 read = record { laws = line_laws; answers = answers_all lines line_laws; one_tree = one_tree_each lines line_laws; one_first = one_first_each lines line_laws }
 
 pub worked_lines : WorkedLines
-worked_lines = record { told = told; read = read }
+worked_lines = record { worked = worked; read = read }

@@ -9,7 +9,7 @@ use Rattle.text_core.specs.Stopping.{last_at, IsBehind}
 use Rattle.text_core.specs.Rows.{Piece, Number, Comma, Wrong, Row, One, More, row_then, Front, Begins, Behind, Open}
 use Rattle.text_core.specs.Rows.{Kind, Syntax, TooLarge, TooMany, count, step, finish, large_at, large_next}
 use Rattle.text_core.specs.Rows.{many_behind, shown}
-use Rattle.text_core.specs.WorkedReaders.{LawsAreTold, fault, OrderIsTold, PlacesAreTold, HasSmallNumbers, HasReadSmall}
+use Rattle.text_core.specs.WorkedReaders.{LawsAreWorkedOut, fault, OrderIsWorked, PlacesAreWorkedOut, HasSmallNumbers, HasReadSmall}
 use Rattle.text_core.specs.WorkedReaders.{LeadsWithin, LimitsAreWorkedOut, WorkedReaders}
 use Rattle.text_core.proofs.Walks.{walk-none}
 use Rattle.text_core.proofs.Stopping.{last_before}
@@ -30,8 +30,8 @@ syntax_is_not_large : Syntax ≡ TooLarge → ⊥
 syntax_is_not_large e = cc
 
 -- each law fails alone
-laws_told : LawsAreTold
-laws_told = record {
+laws_worked : LawsAreWorkedOut
+laws_worked = record {
   leads_nowhere = λ l. let b = l.goes_on (Comma ∷ []) Begins refl in no_comma_first b.0 [] b.1 b.2;
   ends_wrongly = λ l. one_number_alone (l.ends (Comma ∷ Number 1 ∷ []) (Open (One 1)) (One 1) refl refl);
   never_ends = λ l. let r = l.reads (One 1) (Number 1 ∷ []) refl in none_some (One 1) r.2;
@@ -39,8 +39,8 @@ laws_told = record {
 }
 
 -- the order of faults
-order_told : OrderIsTold
-order_told = record {
+order_worked : OrderIsWorked
+order_worked = record {
   earlier = record { position = omega arith; kind = λ e. absurd (omega (arith, e)) };
   lesser_kind = record { position = omega arith; kind = λ e. omega arith };
   itself = record { position = omega arith; kind = λ e. omega arith };
@@ -48,7 +48,7 @@ order_told = record {
   greater_kind = λ h. let k = h.kind refl in omega (arith, k);
 }
 
--- a large number is shown where it stands
+-- a large number is shown at its own position
 large_there : (x : Fault Kind) (p : Piece) (at : ℕ) → Among x (large_at p at) → x.at ≡ at
 large_there x (Number n) at h = go (nat_lt 9 n) h
   where
@@ -59,7 +59,7 @@ large_there x (Number n) at h = go (nat_lt 9 n) h
 large_there x Comma at h = absurd h
 large_there x Wrong at h = absurd h
 
--- so it stands at the next token
+-- hence its fault is at the next token
 next_large : (n : ℕ) (rest : List (Token Piece)) (x : Fault Kind) → Among x (large_next rest) → x.at ≡ next_at n rest
 next_large n [] x a = absurd a
 next_large n (t ∷ rest) x a = large_there x t.piece t.at a
@@ -93,8 +93,8 @@ shown_behind n done (Open row) rest x behind a =
     omega (arith, there, low)
 
 -- where faults are shown
-places_told : PlacesAreTold
-places_told = record {
+places_worked : PlacesAreWorkedOut
+places_worked = record {
   rows_behind = record { each = shown_behind };
   rows_not_next = λ s.
       let e : ◌≡◌ {A = ℕ} 0 1 = s.each 1 (record { piece = Number 4; at = 0; upto = 1 } ∷ [])
@@ -188,7 +188,7 @@ small_back (Open row) g (Number m) e small = (subst (λ (h : Front). HasReadSmal
 small_back (Open row) g Comma e small = absurd (none_some g e)
 small_back (Open row) g Wrong e small = absurd (none_some g e)
 
--- so are those behind a walk
+-- the same for those behind a walk
 walk_small : (ps : List Piece) (f g : Front) → walk step (Some f) ps ≡ Some g → HasReadSmall g [] → HasReadSmall f []
 walk_small [] f g w small = subst (λ (h : Front). HasReadSmall h []) (same w) small
   where
@@ -261,8 +261,8 @@ large_is_shown : fault TooLarge 0 ∷ [] ≡ [] → ⊥
 large_is_shown e = cc
 
 -- limits
-limits_told : LimitsAreWorkedOut
-limits_told = record {
+limits_worked : LimitsAreWorkedOut
+limits_worked = record {
   small_numbers = record {
     begins = λ ps. tt;
     goes_on = λ n done f g t rest e small none s. small_on n done f g t rest small none s;
@@ -293,4 +293,4 @@ limits_told = record {
 }
 
 pub worked_readers : WorkedReaders
-worked_readers = record { laws = laws_told; order = order_told; places = places_told; limits = limits_told }
+worked_readers = record { laws = laws_worked; order = order_worked; places = places_worked; limits = limits_worked }

@@ -4,8 +4,8 @@ use Rattle.std.specs.Prelude.{codes}
 use Rattle.text_core.specs.Readers.{Fault, IsBeginning}
 use Rattle.text_core.specs.Faults.{shows, breaks}
 use Rattle.text_core.specs.Rows.{Number, Comma, One, More, Begins, Behind, Open, Kind, Syntax, TooLarge, TooMany, rows}
-use Rattle.text_core.specs.Worked.{NamesAreTold, PositionsAreFound, DigitsAreTold, TokensAreFound, BreaksAreTold}
-use Rattle.text_core.specs.Worked.{FaultsAreTold, RowsAreRead, HasFault, tokens}
+use Rattle.text_core.specs.Worked.{NamesAreWorkedOut, PositionsAreFound, DigitsAreWorkedOut, TokensAreFound, BreaksAreWorked}
+use Rattle.text_core.specs.Worked.{FaultsAreWorked, RowsAreRead, HasFault, tokens}
 use Rattle.text_core.proofs.FirstFaults.{Ahead, answer_is, answers_all, one_tree_each, one_first_each, fault_ahead}
 use Rattle.text_core.proofs.FirstFaults.{nowhere_begins, whole_ends}
 use Rattle.text_core.proofs.RowLaws.{row_laws}
@@ -15,7 +15,7 @@ fails : false ≡ true → ⊥
 fails h = cc
 
 -- the bytes are names, or none, as was worked out
-pub names : NamesAreTold
+pub names : NamesAreWorkedOut
 names = record {
   small_letter = (refl, refl);
   capital_letter = (refl, refl);
@@ -31,15 +31,15 @@ names = record {
   nothing = λ h. h;
 }
 
--- names are the same, and stand at the positions, as was worked out
+-- equality of names, and their positions in lists, are as worked out
 pub positions : PositionsAreFound
 positions = record { same = refl; other = refl; small_for_capital = refl; longer = refl; shorter = refl; first = refl; twice = refl; absent = refl; among_none = refl }
 
 -- digits write the numbers, as was worked out
-pub digits : DigitsAreTold
+pub digits : DigitsAreWorkedOut
 digits = record { seven = refl; leading = refl; plain_seven = refl; zero_alone = refl; at_limit = refl; past_limit = refl }
 
--- tokens stand where they were found
+-- the tokens have the positions that were found
 pub tokens_found : TokensAreFound
 tokens_found = record { found = refl; nothing = refl }
 
@@ -48,7 +48,7 @@ no_comma : ¬ IsBeginning rows (Comma ∷ [])
 no_comma = nowhere_begins rows row_laws (Comma ∷ []) refl
 
 -- texts of rows begin and break off as was worked out
-pub break_values : BreaksAreTold
+pub break_values : BreaksAreWorked
 break_values = record {
   comma_begins = row_laws.goes_on (Comma ∷ Number 1 ∷ []) (Open (One 1)) refl;
   comma_is_none = whole_ends rows row_laws (Comma ∷ Number 1 ∷ []) (Open (One 1)) refl refl;
@@ -76,7 +76,7 @@ later : HasFault (codes "12,,") Syntax 3
 later = breaks (record { piece = Comma; at = 2; upto = 3 } ∷ record { piece = Number 12; at = 0; upto = 2 } ∷ []) (record { piece = Comma; at = 3; upto = 4 } ∷ []) (Open (One 12)) refl refl
     (row_laws.goes_on (Comma ∷ Number 12 ∷ []) (Open (One 12)) refl, nowhere_begins rows row_laws (Comma ∷ Comma ∷ Number 12 ∷ []) refl) refl
 
--- nothing stands behind a break
+-- there is no fault behind a break
 behind_break : (x : Fault Kind) → x.kind ≡ TooLarge → Ahead rows 5 [] (Some Begins) (tokens (codes "1,,12")) x → ⊥
 behind_break x k (inl (inl a)) = a
 behind_break x k (inl (inr b)) = not_large 0 x b.1 k
@@ -110,7 +110,7 @@ not_too_many x k (inr (inr (inr (inr (inr (inl a)))))) = a
 not_too_many x k (inr (inr (inr (inr (inr (inr b)))))) = not_many 5 x b.1 k
 
 -- texts of rows have the faults that were worked out
-pub fault_values : FaultsAreTold
+pub fault_values : FaultsAreWorked
 fault_values = record {
   row = answer_is rows row_laws 3 (tokens (codes "1,2"));
   ends_early = answer_is rows row_laws 3 (tokens (codes "1, "));

@@ -1,4 +1,4 @@
--- Bytes between pieces, and rows of digits.
+-- White space, and rows of digits.
 use Rattle.std.specs.Prelude.{ℕ, min, Bool, false, ◌||◌, ◌&&◌, ◌==◌, nat_lt, List, [], ◌∷◌, length}
 use Rattle.std.specs.Str.Parse.{digits_value}
 

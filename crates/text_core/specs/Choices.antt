@@ -1,4 +1,4 @@
--- Values that hang on a test.
+-- Values that depend on a test.
 use Rattle.std.specs.Prelude.{Bool, if◌then◌else◌, Option, Some, None}
 
 -- the value where a test passes

@@ -37,7 +37,7 @@ module _ {P T F K Q G C : Type 0} (r : Reader P T F K) (i : Inside P T F Q G C) 
   abbrev pub step_inside : C → F → Q → Option G
   step_inside c f q = step_by c f (inner_step f (i.inner_of q)) q
 
-  -- the inner reader stands at a front behind these pieces: the inner text begins behind the outer pieces before
+  -- the inner reader is at a front behind these pieces: the inner text begins behind the outer pieces before
   pub record IsInside (before done : List Q) (f : F) : Type 0 where
     pub inner : List P
     pub pieces : done ≡ map i.into inner ++ before

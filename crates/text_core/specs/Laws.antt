@@ -1,4 +1,4 @@
--- The laws of a reader, and what follows from them.
+-- The laws of a reader, and their consequences.
 use Rattle.std.specs.Prelude.{◌≡◌, ℕ, List, [], Some}
 use Rattle.text_core.specs.Tokens.{Token}
 use Rattle.text_core.specs.Readers.{Fault, Reader, onto, walk, reached, IsBeginning}

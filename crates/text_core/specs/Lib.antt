@@ -7,7 +7,7 @@ pub mod Tokens
 pub mod Readers
 pub mod Faults
 pub mod Reading
-pub mod Listed
+pub mod NameIndex
 -- laws, and values that were worked out by hand
 pub mod Laws
 pub mod Worked

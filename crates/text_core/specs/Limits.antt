@@ -1,4 +1,4 @@
--- Limits on trees, as fronts tell them.
+-- Limits on trees, decided from fronts.
 use Rattle.std.specs.Prelude.{◌≡◌, ℕ, List, [], ◌∷◌, Some}
 use Rattle.text_core.specs.Tokens.{Token, pieces}
 use Rattle.text_core.specs.Readers.{Reader, reached}

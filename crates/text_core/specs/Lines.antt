@@ -1,5 +1,5 @@
--- A small language with another one inside, on which the definitions of inner readers are tried: lines, each a row of
--- numbers with a semicolon behind it, as in `1, 23;4;`.
+-- A small language with another one inside, to try the definitions of inner readers: lines, each a row of numbers with
+-- a semicolon behind it, as in `1, 23;4;`.
 use Rattle.std.specs.Prelude.{◌≡◌, ℕ, if◌then◌else◌, ◌==◌, Option, Some, None, List, [], ◌∷◌, ◌++◌, map}
 use Rattle.text_core.specs.Tokens.{Token, Lexeme}
 use Rattle.text_core.specs.Readers.{Fault, Reader}
@@ -47,7 +47,7 @@ abbrev pub finish : Front → Option (List row.Row)
 finish (InLine earlier row.Begins) = Some earlier
 finish (InLine earlier f) = None
 
--- what stands against a row stands against its line
+-- a fault of a row is a fault of its line
 abbrev pub shown : ℕ → List (Token Piece) → Front → List (Token Piece) → List (Fault row.Kind)
 shown n done (InLine earlier f) rest =
     row.shown (inner_end row.rows row_inside n rest) (inner_tokens row.rows row_inside done) f

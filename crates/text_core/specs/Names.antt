@@ -35,12 +35,12 @@ is_among name names = list_any (is_same name) names
 abbrev pub position_of : Name → List Name → ℕ
 position_of name names = position_or_len (is_same name) names
 
--- no name stands twice
+-- no name occurs twice
 abbrev pub AreDistinct : List Name → Type 0
 AreDistinct [] = ⊤
 AreDistinct (name ∷ names) = IsFalse (is_among name names) × AreDistinct names
 
--- each is a name, and no name stands twice
+-- each is a name, and no name occurs twice
 abbrev pub AreNames : List Name → Type 0
 AreNames [] = ⊤
 AreNames (name ∷ names) = IsName name × IsFalse (is_among name names) × AreNames names

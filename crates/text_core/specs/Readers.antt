@@ -1,4 +1,5 @@
--- A reader: trees with the pieces that they are written as, and how the pieces of a text lead from front to front.
+-- Readers: trees with the pieces that they are written as, and how the pieces of a text lead from front to front (from
+-- one parser state to the next).
 use Rattle.std.specs.Prelude.{ℕ, List, [], ◌∷◌, Option, Some, None}
 use Rattle.text_core.specs.Tokens.{Token}
 
@@ -7,7 +8,8 @@ pub record Fault (K : Type 0) : Type 0 where
   pub kind : K
   pub at : ℕ
 
--- a reader of trees T that are written in pieces P: a front F tells what has been read so far, and faults have kinds K
+-- a reader of trees T that are written as pieces P: a front F (the parser's state) describes what has been read so far,
+-- and faults have kinds K
 pub record Reader (P T F K : Type 0) : Type 1 where
   -- the tree is written as these pieces
   pub Writes : T → List P → Type 0
@@ -19,8 +21,8 @@ pub record Reader (P T F K : Type 0) : Type 1 where
   pub finish : F → Option T
   -- of two kinds at one position the one with the lesser number comes first
   pub number : K → ℕ
-  -- what a front shows against a text of so many bytes, with the tokens before it, the last one first, and those behind
-  -- it
+  -- the faults that a front shows in a text of this many bytes, given the tokens before it, the last one first, and
+  -- those behind it
   pub shown : ℕ → List (Token P) → F → List (Token P) → List (Fault K)
   -- the kind of refusal where the text breaks off at the tokens behind a front
   pub off : F → List (Token P) → K

@@ -1,16 +1,15 @@
--- What a reader does: it keeps the least fault that it is shown, and stops where its step leads nowhere.
+-- The procedure of reading: it keeps the least fault that it is shown, and stops where the next piece leads nowhere.
 use Rattle.std.specs.Prelude.{◌≡◌, ℕ, Bool, if◌then◌else◌, nat_lt, ◌==◌, ◌&&◌, ◌||◌, List, [], ◌∷◌, Option, Some, None}
 use Rattle.text_core.specs.Tokens.{Token, pieces}
 use Rattle.text_core.specs.Readers.{Fault, Reader}
 use Rattle.text_core.specs.Faults.{off_at, FaultAt, IsFirst}
 
--- what reading comes to: a tree, or a refusal
+-- the answer of reading: a tree, or a refusal
 pub data Answer (T K : Type 0) : Type 0 where
   Stands : T → Answer T K
   Refused : Fault K → Answer T K
 
--- how far reading has come: it is over, or stands at a front behind tokens, the last one first, with the least fault so
--- far
+-- the progress of reading: finished, or at a front behind tokens, the last one first, with the least fault so far
 pub data Progress (P F K : Type 0) : Type 0 where
   Stopped : Fault K → Progress P F K
   Going : Option (Fault K) → List (Token P) → F → Progress P F K

@@ -1,4 +1,4 @@
--- A small language, on which the definitions of faults are tried: numbers with commas between them, as in `1, 23`.
+-- A small language, to try the definitions of faults: numbers with commas between them, as in `1, 23`.
 use Rattle.std.specs.Prelude.{◌≡◌, ℕ, ◌+◌, ◌-◌, if◌then◌else◌, nat_lt, ◌==◌, Option, Some, None, List, [], ◌∷◌, length}
 use Rattle.std.specs.Char.{is_ascii_digit}
 use Rattle.std.specs.Str.Parse.{digits_value}
@@ -95,7 +95,7 @@ rows =
       off = λ f rest. Syntax;
     }
 
--- the piece that begins with a byte; white space stands between pieces
+-- the piece that begins with a byte; white space may separate pieces
 abbrev pub lexeme_at : ℕ → List ℕ → Lexeme (Option Piece)
 lexeme_at b bytes =
     if is_white_space b then record { piece = None; len = 1 }

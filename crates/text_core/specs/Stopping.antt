@@ -1,4 +1,4 @@
--- Where what a reader shows stands, so that it can stop early.
+-- At which positions a reader can show faults, so that it can stop early.
 use Rattle.std.specs.Prelude.{◌≡◌, ℕ, ◌≤◌, ◌<◌, List, [], ◌∷◌, ⊤}
 use Rattle.text_core.specs.Tokens.{Token}
 use Rattle.text_core.specs.Readers.{Fault, Reader}
@@ -20,7 +20,7 @@ module _ {P T F K : Type 0} (r : Reader P T F K) where
     pub each : (n : ℕ) (done : List (Token P)) (f : F) (rest : List (Token P)) (x : Fault K)
         → IsBehind done (next_at n rest) → Among x (r.shown n done f rest) → last_at done ≤ x.at
 
-  -- everything that is shown stands at the next token
+  -- every fault is shown at the next token
   pub record ShowsNext : Type 0 where
     pub each : (n : ℕ) (done : List (Token P)) (f : F) (rest : List (Token P)) (x : Fault K)
         → Among x (r.shown n done f rest) → x.at ≡ next_at n rest

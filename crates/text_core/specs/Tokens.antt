@@ -17,7 +17,7 @@ abbrev pub pieces : {P : Type 0} → List (Token P) → List P
 pieces [] = []
 pieces (t ∷ ts) = t.piece ∷ pieces ts
 
--- the token of a piece at a position, before others; bytes that stand between pieces are no piece and make none
+-- the token of a piece at a position, before others; bytes between pieces are no piece and make no token
 abbrev pub token_then : {P : Type 0} → ℕ → ℕ → Option P → List (Token P) → List (Token P)
 token_then at len None ts = ts
 token_then at len (Some p) ts = record { piece = p; at = at; upto = at + len } ∷ ts
@@ -27,8 +27,8 @@ pub record Lexer (P M : Type 0) : Type 0 where
   pub lexeme_in : M → ℕ → List ℕ → Lexeme (Option P)
   pub mode_behind : M → Option P → M
 
--- the tokens of bytes that stand at a position, behind so many that are passed over: each lexeme begins where the one
--- before it ends
+-- the tokens of bytes from a position on, after skipping this many of them: each lexeme begins where the one before it
+-- ends
 abbrev pub tokens_in : {P M : Type 0} → Lexer P M → M → ℕ → ℕ → List ℕ → List (Token P)
 tokens_in lexer mode at skip [] = []
 tokens_in lexer mode at (suc skip) (b ∷ bytes) = tokens_in lexer mode (at + 1) skip bytes
@@ -53,7 +53,7 @@ each_piece lexeme_at b bytes = record { piece = Some (lexeme_at b bytes).piece; 
 abbrev pub tokens_of : {P : Type 0} → (ℕ → List ℕ → Lexeme (Option P)) → List ℕ → List (Token P)
 tokens_of lexeme_at bytes = tokens_from lexeme_at 0 0 bytes
 
--- tokens stand one behind the other, from a position on up to another, and each has a byte at least
+-- tokens follow each other, from one position up to another, and each has at least one byte
 abbrev pub AreInOrder : {P : Type 0} → ℕ → List (Token P) → ℕ → Type 0
 AreInOrder from [] upto = from ≤ upto
 AreInOrder from (t ∷ ts) upto = (from ≤ t.at) × (t.at < t.upto) × AreInOrder t.upto ts upto

@@ -1,4 +1,4 @@
--- What was worked out by hand of names, pieces, and the first faults of a small language.
+-- Worked values of names, pieces, and the first faults of a small language.
 use Rattle.std.specs.Prelude.{◌≡◌, ℕ, true, false, List, [], ◌∷◌, length, codes}
 use Rattle.model.specs.Programs as plain
 use Rattle.text_core.specs.Names.{IsName, is_same, position_of}
@@ -16,11 +16,11 @@ abbrev pub letter : ℕ → plain.Name
 letter b = b ∷ []
 
 -- which bytes are a name
-pub record NamesAreTold : Type 0 where
+pub record NamesAreWorkedOut : Type 0 where
   -- a letter begins a name: `a` and `Z`
   pub small_letter : IsName (letter 97)
   pub capital_letter : IsName (letter 90)
-  -- so do `_` and `$`
+  -- `_` and `$` are names, too
   pub underscore : IsName (letter 95)
   pub dollar : IsName (letter 36)
   -- letters, digits, `'`, `.`, `_` and `$` go on with it: `A0'._$z`
@@ -36,7 +36,7 @@ pub record NamesAreTold : Type 0 where
   -- no byte at all is no name
   pub nothing : ¬ (IsName [])
 
--- which names are the same, and at which position among others a name stands
+-- which names are equal, and the position of a name among others
 pub record PositionsAreFound : Type 0 where
   -- names with the same bytes are the same: `A'` and `A'`
   pub same : is_same (65 ∷ 39 ∷ []) (65 ∷ 39 ∷ []) ≡ true
@@ -48,14 +48,14 @@ pub record PositionsAreFound : Type 0 where
   pub shorter : is_same (65 ∷ 39 ∷ []) (letter 65) ≡ false
   -- positions count from 0: `A` among `A`, `B`
   pub first : position_of (letter 65) (letter 65 ∷ letter 66 ∷ []) ≡ 0
-  -- of a name that is there twice the first position counts: `B` among `A`, `B`, `A`, `B`
+  -- for a name that occurs twice the first position counts: `B` among `A`, `B`, `A`, `B`
   pub twice : position_of (letter 66) (letter 65 ∷ letter 66 ∷ letter 65 ∷ letter 66 ∷ []) ≡ 1
   -- a name that isn't there is behind the last: `C` among `A`, `B`, and among none
   pub absent : position_of (letter 67) (letter 65 ∷ letter 66 ∷ []) ≡ 2
   pub among_none : position_of (letter 67) [] ≡ 0
 
 -- which numbers digits write
-pub record DigitsAreTold : Type 0 where
+pub record DigitsAreWorkedOut : Type 0 where
   -- `007` and `7` write 7, and one of them has leading zeros; `0` has none
   pub seven : value_up_to 100 (codes "007") ≡ 7
   pub leading : has_leading_zero (codes "007") ≡ true
@@ -69,7 +69,8 @@ pub record DigitsAreTold : Type 0 where
 abbrev pub tokens : List ℕ → List (Token Piece)
 tokens bytes = tokens_of lexeme_at bytes
 
--- where the pieces of ` 1, 23;` stand: no piece is lost, the longest row of digits is one, white space is none
+-- the positions of the pieces of ` 1, 23;`: no piece is lost, a piece has the longest row of digits, and white space
+-- makes no piece
 pub record TokensAreFound : Type 0 where
   pub found : tokens (codes " 1, 23;")
       ≡ record { piece = Number 1; at = 1; upto = 2 } ∷ record { piece = Comma; at = 2; upto = 3 }
@@ -77,7 +78,7 @@ pub record TokensAreFound : Type 0 where
   pub nothing : tokens [] ≡ []
 
 -- what texts of rows begin with, and where they break off; pieces that are done have the last one first
-pub record BreaksAreTold : Type 0 where
+pub record BreaksAreWorked : Type 0 where
   -- `1,` begins a text and is none; `1,2` is one, and begins others
   pub comma_begins : IsBeginning rows (Comma ∷ Number 1 ∷ [])
   pub comma_is_none : ¬ IsWhole rows (Comma ∷ Number 1 ∷ [])
@@ -103,7 +104,7 @@ abbrev pub HasFirst : List ℕ → Kind → ℕ → Type 0
 HasFirst bytes kind at = IsFirst rows (length bytes) (tokens bytes) (record { kind = kind; at = at })
 
 -- which faults texts of rows have
-pub record FaultsAreTold : Type 0 where
+pub record FaultsAreWorked : Type 0 where
   -- `1,2` stands for a row
   pub row : IsTree rows 3 (tokens (codes "1,2")) (More (One 1) 2)
   -- `1, ` ends too early at its length, `1,,` at the second comma, and `;` at its first byte
@@ -135,10 +136,10 @@ pub record RowsAreRead : Type 0 where
 
 -- all of it
 pub record WorkedValues : Type 0 where
-  pub names : NamesAreTold
+  pub names : NamesAreWorkedOut
   pub positions : PositionsAreFound
-  pub digits : DigitsAreTold
+  pub digits : DigitsAreWorkedOut
   pub tokens_found : TokensAreFound
-  pub breaks : BreaksAreTold
-  pub faults : FaultsAreTold
+  pub breaks : BreaksAreWorked
+  pub faults : FaultsAreWorked
   pub read : RowsAreRead

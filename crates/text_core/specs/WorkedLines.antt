@@ -1,4 +1,4 @@
--- What was worked out by hand of lines, which have rows inside.
+-- Worked values of lines, which have rows inside.
 use Rattle.std.specs.Prelude.{ℕ, List, [], ◌∷◌, length, codes}
 use Rattle.text_core.specs.Tokens.{Token, tokens_of}
 use Rattle.text_core.specs.Faults.{FaultAt, IsFirst}
@@ -19,11 +19,11 @@ abbrev pub HasFirst : List ℕ → Kind → ℕ → Type 0
 HasFirst bytes kind at = IsFirst lines (length bytes) (tokens bytes) (record { kind = kind; at = at })
 
 -- which faults texts of lines have
-pub record LinesAreTold : Type 0 where
+pub record LinesAreWorkedOut : Type 0 where
   -- `1, 2;3;` stands for two lines, and no byte at all for none
   pub two : IsTree lines 7 (tokens (codes "1, 2;3;")) (One 3 ∷ More (One 1) 2 ∷ [])
   pub nothing : IsTree lines 0 (tokens []) []
-  -- what stands against the second row does so at its own place in the text, though a later line is broken: `1;12;,`
+  -- a fault of the second row is reported at its own position in the text, though a later line is broken: `1;12;,`
   pub second_row : HasFirst (codes "1;12;,") TooLarge 2
   pub broken_later : HasFault (codes "1;12;,") Syntax 5
   -- a row shows at its last byte that it has too many numbers where its line ends, or the text: `1;1,2,3,4;` and
@@ -47,5 +47,5 @@ pub record LinesAreRead : Type 0 where
   pub one_first : OneFirst lines
 
 pub record WorkedLines : Type 0 where
-  pub told : LinesAreTold
+  pub worked : LinesAreWorkedOut
   pub read : LinesAreRead

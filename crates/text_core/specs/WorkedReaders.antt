@@ -1,5 +1,5 @@
--- What was worked out by hand of the order of faults, of where faults are shown, of limits and of laws, on the reader
--- of rows and on readers that differ from it in one part.
+-- Worked values of the order of faults, of where faults are shown, of limits and of laws, for the reader of rows and
+-- for readers that differ from it in one part.
 use Rattle.std.specs.Prelude.{ℕ, ◌≤◌, List, [], ◌∷◌, Option, Some, None, ◌≡◌, ⊤}
 use Rattle.text_core.specs.Tokens.{Token}
 use Rattle.text_core.specs.Readers.{Fault, Reader, walk}
@@ -34,9 +34,9 @@ abbrev pub ending_open : Front → Option Row
 ending_open (Open row) = Some row
 ending_open f = finish f
 
--- each law fails alone: a front that no row begins with; a tree that isn't written so; a row that isn't read; and kinds
--- that can't be told apart
-pub record LawsAreTold : Type 0 where
+-- each law fails alone: a front that begins no row; a tree that isn't written so; a row that isn't read; and kinds that
+-- aren't distinct
+pub record LawsAreWorkedOut : Type 0 where
   pub leads_nowhere : ¬ Laws (rows_with leading_comma finish number_of shown)
   pub ends_wrongly : ¬ Laws (rows_with step ending_open number_of shown)
   pub never_ends : ¬ Laws (rows_with step (λ f. None) number_of shown)
@@ -47,7 +47,7 @@ abbrev pub fault : Kind → ℕ → Fault Kind
 fault kind at = record { kind = kind; at = at }
 
 -- the fault at the lesser position comes first, of two at one the one with the lesser number, and none is after itself
-pub record OrderIsTold : Type 0 where
+pub record OrderIsWorked : Type 0 where
   pub earlier : NotAfter rows (fault TooMany 1) (fault Syntax 2)
   pub lesser_kind : NotAfter rows (fault Syntax 3) (fault TooLarge 3)
   pub itself : NotAfter rows (fault TooLarge 3) (fault TooLarge 3)
@@ -58,13 +58,14 @@ pub record OrderIsTold : Type 0 where
 abbrev pub large_alone : Reader Piece Row Front Kind
 large_alone = rows_with step finish number_of (λ n done f rest. large_next rest)
 
--- a reader that shows a fault at the beginning of the text, wherever it stands
+-- a reader that shows a fault at the beginning of the text, from any position
 abbrev pub back_at_beginning : Reader Piece Row Front Kind
 back_at_beginning = rows_with step finish number_of (λ n done f rest. fault TooMany 0 ∷ [])
 
--- the reader of rows shows nothing before the last token, but too many numbers at that token; large numbers alone are
--- shown at the next token; and what is shown at the beginning stands before the last token
-pub record PlacesAreTold : Type 0 where
+-- the reader of rows shows no fault before the last token, but shows too many numbers at that token; the reader of
+-- large numbers alone shows them at the next token; and a fault shown at the beginning of the text is before the last
+-- token
+pub record PlacesAreWorkedOut : Type 0 where
   pub rows_behind : ShowsBehind rows
   pub rows_not_next : ¬ ShowsNext rows
   pub large_next_alone : ShowsNext large_alone
@@ -106,7 +107,7 @@ pub record LimitsAreWorkedOut : Type 0 where
 
 -- all of it
 pub record WorkedReaders : Type 0 where
-  pub laws : LawsAreTold
-  pub order : OrderIsTold
-  pub places : PlacesAreTold
+  pub laws : LawsAreWorkedOut
+  pub order : OrderIsWorked
+  pub places : PlacesAreWorkedOut
   pub limits : LimitsAreWorkedOut

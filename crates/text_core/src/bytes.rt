@@ -51,7 +51,7 @@ pub fn has_leading_zero(digits: &[u8]) -> bool
     begins_with(digits, b'0') && digits.len() > 1
 }
 
-/// The number that digits write, or the limit where it is greater, however many digits there are.
+/// The number that digits write, or the limit where the number is greater, however many digits there are.
 pub fn value_up_to(limit: u128, digits: &[u8]) -> u128
     requires { IsTrue (list_all is_ascii_digit digits.now) }
     ensures { result ≡ bytes_at.value_up_to limit digits.now }

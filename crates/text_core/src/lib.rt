@@ -1,6 +1,9 @@
-//! What each reader of a text stands on: bytes, names, digits and pieces with their positions, and the first fault of a
-//! text. Contract to the layers above: a reader whose pieces, fronts, completions and kinds keep four laws answers
-//! exactly the tree or exactly the first fault (`specs/Laws`).
+//! What every reader of a text needs: bytes, names, digits, pieces (tokens without positions), and the first fault of a
+//! text.
+//!
+//! Builds on `model`. A reader is described by its fronts (parser states), by the trees that a front can complete, and
+//! by the faults that a front shows. Main guarantee: a reader that keeps four laws on these answers exactly the tree or
+//! exactly the first fault (`specs/Laws`).
 #![tactic(auto)]
 
 mod bytes;
@@ -10,5 +13,5 @@ mod name;
 
 pub use bytes::{begins_with, digits_len, has_leading_zero, is_white_space, value_up_to};
 pub use law::{worked_lines_hold, worked_readers_hold, worked_values_hold};
-pub use listed::Listed;
+pub use listed::NameIndex;
 pub use name::{Name, begins_name, continues_name, name_len};

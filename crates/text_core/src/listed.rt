@@ -1,27 +1,27 @@
-//! Names that all differ, by position.
+//! Looks up distinct names by position.
 
 ghost use Rattle.std.specs.Prelude.{◌≡◌, ◌<◌, length, map, IfOk, MatchOption, IsFalse, IsTrue};
 ghost use Rattle.text_core.specs.Names.{name_of, AreDistinct, is_among, position_of};
-ghost use Rattle.text_core.specs.Listed.{names_in};
+ghost use Rattle.text_core.specs.NameIndex.{names_in};
 
 use crate::name::Name;
 use indexmap::IndexSet;
 use model::Memory;
 use std::alloc::Global;
 
-/// Names that all differ, each found by its bytes, near constant in their number.
+/// Distinct names, each found by its bytes in time nearly independent of their number.
 #[derive(Drop)]
-pub struct Listed<'a> {
+pub struct NameIndex<'a> {
     names: IndexSet<&'a [u8]>,
 }
 
-impl<'a> Listed<'a> {
+impl<'a> NameIndex<'a> {
     /// These names.
     ///
     /// # Errors
     ///
     /// `Memory` where an allocation fails.
-    pub fn new(alloc: Global, names: &'a [Name]) -> Result<Listed<'a>, Memory>
+    pub fn new(alloc: Global, names: &'a [Name]) -> Result<NameIndex<'a>, Memory>
         requires { AreDistinct (map name_of names.now) }
         ensures { IfOk result (λ listed. names_in listed ≡ map name_of names.now) }
     {
@@ -29,7 +29,7 @@ impl<'a> Listed<'a> {
         for name in names {
             set.insert(name.bytes.as_slice())?;
         }
-        Ok(Listed { names: set })
+        Ok(NameIndex { names: set })
     }
 
     /// The position of a name among them, from 0.
@@ -40,7 +40,7 @@ impl<'a> Listed<'a> {
         self.names.get_index_of(&name)
     }
 
-    /// The position of a name among them, and how many there are where it is none of them.
+    /// The position of a name among them, or the number of names where it isn't one of them.
     pub fn position_or_count(&self, name: &[u8]) -> usize
         ensures { result ≡ position_of name.now (names_in self.now) }
     {

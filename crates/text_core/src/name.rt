@@ -17,14 +17,14 @@ pub fn begins_name(byte: u8) -> bool
     byte.is_ascii_alphabetic() || byte == b'_' || byte == b'$'
 }
 
-/// Whether a name goes on with this byte: a letter, a digit, `_`, `$`, `'` or `.`.
+/// Whether a name can continue with this byte: a letter, a digit, `_`, `$`, `'` or `.`.
 pub fn continues_name(byte: u8) -> bool
     ensures { result ≡ continues_name_at byte }
 {
     begins_name(byte) || byte.is_ascii_digit() || byte == b'\'' || byte == b'.'
 }
 
-/// How many bytes from the front on go on a name.
+/// How many bytes from the front on continue a name.
 pub fn name_len(bytes: &[u8]) -> usize
     ensures value { result ≡ length (prefix continues_name_at bytes.now) }
     ensures within { result ≤ length bytes.now }

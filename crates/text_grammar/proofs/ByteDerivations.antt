@@ -15,19 +15,20 @@ use Rattle.text_grammar.specs.Sounding.{is_readable}
 use Rattle.text_grammar.specs.Texts.{IsLawful, reader}
 use Rattle.text_grammar.specs.Parts.{Part, Says, Does, Puts, events_of, spelled, come, Stand, Values, body_parts}
 use Rattle.text_grammar.specs.Parts.{ComesTo, AreMade, Gives, AllGive, AllMake, Derived, AreDerived}
-use Rattle.text_grammar.specs.ByteTexts.{ByteText, Spelling, Numeral, Numbered, Value, fresh, with_byte, reads, says}
+use Rattle.text_grammar.specs.ByteTexts.{ByteText, Spelling, Numeral, Numbered, Value, Signed, fresh, with_byte, reads}
+use Rattle.text_grammar.specs.ByteTexts.{says, signed_rule, BytesStand}
 use Rattle.text_grammar.specs.ByteTexts.{class_of, only, tokens, fold_of, numbers_of, done_mark, grammar_of}
 use Rattle.text_grammar.specs.ByteTexts.{texts_of, number_rule, positive_rule, digits_rule, values_rule, HasNumbers}
 use Rattle.text_grammar.specs.ByteTexts.{IsBounded, against_number, line_value_limit, AreSmall, line_text, values_parts}
 use Rattle.text_grammar.specs.ByteTexts.{value_events, values_events}
-use Rattle.text_grammar.specs.declared.numeral.Within.TheVariants.{Natural as InNatural}
+use Rattle.text_grammar.specs.declared.numeral.NumberContext.TheVariants.{Natural as InNatural, Signed as InSigned}
 use Rattle.text_grammar.specs.ByteParts.{Plain, Positive, number_of, ValueOf, parts_of, OwnAreMade}
 use Rattle.text_grammar.specs.Folds.{after}
 use Rattle.text_grammar.proofs.Tests.{both}
 use Rattle.text_grammar.proofs.FoldLaws.{derived_reads, silent_passes, passes_silent, state_after}
 use Rattle.text_grammar.proofs.PartLaws.{makes_give, derived_value, value_derived, events_pass}
 use Rattle.text_grammar.proofs.Numerals.{digit_range, digit_below, decimal_of, positive_of, with, plain_stands}
-use Rattle.text_grammar.proofs.Numerals.{numbers_put, grows_after, small, small_value, none_when, lined, behind}
+use Rattle.text_grammar.proofs.Numerals.{numbers_put, grows_after, small, stands_small, lined, behind}
 use Rattle.text_grammar.proofs.ByteLaws.{pieces_bytes, bytes_only}
 use Rattle.text_grammar.proofs.SilenceLaws.{stands_where_silent}
 
@@ -111,15 +112,13 @@ module _ {S T K : Type 0} (x : ByteText S T K) (bounded : IsBounded x) where
 
   values_stand : (vs : List ℤ) (o : S) (m : Numeral) (ws : List ℤ)
       → Stand (fold_of x) (numbers_of x) (lined x bounded o m ws) (values_parts vs)
-      → AreSmall vs × (x.against_line o (length (ws ++ vs)) ≡ None)
-  values_stand [] o m ws h = (tt, ap (λ (us : List ℤ). x.against_line o (length us)) (append-nil ws) ∙ h.0)
+      → AreSmall vs × BytesStand x o vs × (x.against_line o (length (ws ++ vs)) ≡ None)
+  values_stand [] o m ws h = (tt, tt, ap (λ (us : List ℤ). x.against_line o (length us)) (append-nil ws) ∙ h.0)
   values_stand (v ∷ vs) o m ws h =
       let r = values_stand vs o fresh (ws ++ v ∷ []) h.1.1 in (
-        (
-          small_value (unsigned_abs v) (none_when (nat_lt line_value_limit (unsigned_abs v)) x.too_large h.1.0),
-          r.0,
-        ),
-        ap (λ (us : List ℤ). x.against_line o (length us)) (sym (append_assoc ws (v ∷ []) vs)) ∙ r.1,
+        (stands_small x bounded o fresh ws v h.1.0.1, r.0),
+        (h.0, h.1.0.0, r.1),
+        ap (λ (us : List ℤ). x.against_line o (length us)) (sym (append_assoc ws (v ∷ []) vs)) ∙ r.2,
       )
 
 -- what is said and then others
@@ -148,44 +147,73 @@ module _ {S T K : Type 0} (x : ByteText S T K) (bounded : IsBounded x) (numbers 
         sym w.3 ∙ d.comes,
       )
 
-  -- a value below 0
+  -- a number below 0 that ends at a mark, from behind its `-` on
+  ended_below : (v : Positive) (s t : Spelling S) (m : ℕ) (ps : List ℕ) → s.numeral.number ≡ 0
+      → ComesTo (fold_of x) (numbers_of x) s t ps (says (v.plain.first ∷ v.plain.others) [] ++ Does m ∷ [])
+      → (n : ℕ) × (k : ℕ) × (against_number x s (suc n) ≡ None) × (decimal (suc n) ≡ ps)
+      × (done_mark x m (with x bounded s (suc n) k) ≡ t)
+  ended_below v s t m ps none c =
+      let w = ended v.plain s t m ps none c in
+      go (number_of v.plain) (let l = grows_after (v.plain.first - 48) v.plain.others in let k = v.some in omega
+      (arith, l, k)) w.0 w.1 w.2 w.3
+    where
+      go : (n : ℕ) → 1 ≤ n → (k : ℕ) → against_number x s n ≡ None → decimal n ≡ ps
+          → done_mark x m (with x bounded s n k) ≡ t
+          → (n : ℕ) × (k : ℕ) × (against_number x s (suc n) ≡ None) × (decimal (suc n) ≡ ps)
+          × (done_mark x m (with x bounded s (suc n) k) ≡ t)
+      go zero l k a d f = absurd (omega (arith, l))
+      go (suc n) l k a d f = (n, k, a, d, f)
+
+  -- a value below 0, and one that isn't; a signed number below 0, and one that isn't
   minus_given : Gives (fold_of x) (numbers_of x) (grammar_of x) (only x.letters) (ValueOf W own) (parts_of W own) 1
       (Mark 0 ∷ Piece 3 ∷ Made 4 ∷ Mark 1 ∷ [])
-  minus_given (v, u) s t ps c = go ps c.spells
-    where
-      go : (qs : List ℕ) → 45 ∷ spelled (fold_of x) (numbers_of x)
-          (says (v.plain.first ∷ v.plain.others) [] ++ Does 1 ∷ []) ≡ qs → (z : ℤ)
-          × ComesTo (fold_of x) (numbers_of x) s t qs (Puts (Value z) ∷ [])
-      go qs e =
-          let w =
-          ended v.plain (record s { numeral = with_byte 45 fresh }) t 1 _ refl
-          (record { spells = refl; stands = c.stands.1; comes = c.comes }) in
-          valued (number_of v.plain) (let l =
-          grows_after (v.plain.first - 48) v.plain.others in let k = v.some in omega (arith, l, k)) w.0 w.1 w.2 w.3
-        where
-          valued : (n : ℕ) → 1 ≤ n → (k : ℕ) → against_number x s n ≡ None
-              → decimal n ≡ spelled (fold_of x) (numbers_of x) (says (v.plain.first ∷ v.plain.others) [] ++ Does 1 ∷ [])
-              → done_mark x 1 (with x bounded (record s { numeral = with_byte 45 fresh }) n k) ≡ t → (z : ℤ)
-              × ComesTo (fold_of x) (numbers_of x) s t qs (Puts (Value z) ∷ [])
-          valued zero l k a d f = absurd (omega (arith, l))
-          valued (suc m) l k a d f = (
-            negsuc m,
-            record {
-              spells = append-nil (45 ∷ decimal (suc m)) ∙ ap (λ (ds : List ℕ). 45 ∷ ds) d ∙ e;
-              stands = (a, tt);
-              comes = f;
-            },
-          )
+  minus_given (v, u) s t ps c =
+      let w =
+      ended_below v (record s { numeral = with_byte 45 fresh }) t 1 _ refl
+      (record { spells = refl; stands = c.stands.1; comes = c.comes }) in (
+        negsuc w.0,
+        record {
+          spells = append-nil (45 ∷ decimal (suc w.0)) ∙ ap (λ (ds : List ℕ). 45 ∷ ds) w.3 ∙ c.spells;
+          stands = ((c.stands.0, w.2), tt);
+          comes = w.4;
+        },
+      )
 
-  -- a value that isn't, and a natural number
   plain_given : Gives (fold_of x) (numbers_of x) (grammar_of x) (only x.letters) (ValueOf W own) (parts_of W own) 1
       (Mark 0 ∷ Made 3 ∷ Mark 1 ∷ [])
   plain_given (v, u) s t ps c =
       let w =
       ended v (record s { numeral = fresh }) t 1 ps refl
-      (record { spells = c.spells; stands = c.stands; comes = c.comes }) in
-      (pos (number_of v), record { spells = append-nil (decimal (number_of v)) ∙ w.2; stands = (w.1, tt); comes = w.3 })
+      (record { spells = c.spells; stands = c.stands; comes = c.comes }) in (
+        pos (number_of v),
+        record { spells = append-nil (decimal (number_of v)) ∙ w.2; stands = ((tt, w.1), tt); comes = w.3 },
+      )
 
+  signed_minus_given : Gives (fold_of x) (numbers_of x) (grammar_of x) (only x.letters) (ValueOf W own)
+      (parts_of W own) 8 (Mark 6 ∷ Piece 3 ∷ Made 4 ∷ Mark 7 ∷ [])
+  signed_minus_given (v, u) s t ps c =
+      let w =
+      ended_below v (record s { numeral = with_byte 45 fresh; within = InSigned }) t 7 _ refl
+      (record { spells = refl; stands = c.stands.1; comes = c.comes }) in (
+        negsuc w.0,
+        record {
+          spells = append-nil (45 ∷ decimal (suc w.0)) ∙ ap (λ (ds : List ℕ). 45 ∷ ds) w.3 ∙ c.spells;
+          stands = ((c.stands.0, w.2), tt);
+          comes = w.4;
+        },
+      )
+
+  signed_plain_given : Gives (fold_of x) (numbers_of x) (grammar_of x) (only x.letters) (ValueOf W own)
+      (parts_of W own) 8 (Mark 6 ∷ Made 3 ∷ Mark 7 ∷ [])
+  signed_plain_given (v, u) s t ps c =
+      let w =
+      ended v (record s { numeral = fresh; within = InSigned }) t 7 ps refl
+      (record { spells = c.spells; stands = c.stands; comes = c.comes }) in (
+        pos (number_of v),
+        record { spells = append-nil (decimal (number_of v)) ∙ w.2; stands = ((tt, w.1), tt); comes = w.3 },
+      )
+
+  -- a natural number
   natural_given : Gives (fold_of x) (numbers_of x) (grammar_of x) (only x.letters) (ValueOf W own) (parts_of W own) 2
       (Mark 3 ∷ Made 3 ∷ Mark 2 ∷ [])
   natural_given (v, u) s t ps c =
@@ -316,10 +344,12 @@ module _ {S T K : Type 0} (x : ByteText S T K) (bounded : IsBounded x) (numbers 
       go (suc (suc (suc (suc (suc (suc (suc zero))))))) =
           subst (Given 7) (sym numbers.values) (makes_give (fold_of x) (numbers_of x) (grammar_of x) (only x.letters)
           (ValueOf W own) (parts_of W own) 7 values_rule values_made)
-      go (suc (suc (suc (suc (suc (suc (suc (suc n)))))))) =
+      go (suc (suc (suc (suc (suc (suc (suc (suc zero)))))))) =
+          subst (Given 8) (sym numbers.signed) (signed_minus_given, (signed_plain_given, tt))
+      go (suc (suc (suc (suc (suc (suc (suc (suc (suc n))))))))) =
           makes_give (fold_of x) (numbers_of x) (grammar_of x) (only x.letters) (ValueOf W own) (parts_of W own)
-          (suc (suc (suc (suc (suc (suc (suc (suc n))))))))
-          (alternatives x.rules (suc (suc (suc (suc (suc (suc (suc (suc n))))))))) (h.others n)
+          (suc (suc (suc (suc (suc (suc (suc (suc (suc n)))))))))
+          (alternatives x.rules (suc (suc (suc (suc (suc (suc (suc (suc (suc n)))))))))) (h.others n)
 
   -- values are derived
   abbrev pub IsDerived : (n : ℕ) → ValueOf W own n → Type 0
@@ -426,6 +456,17 @@ module _ {S T K : Type 0} (x : ByteText S T K) (bounded : IsBounded x) (numbers 
       alone 1 _ _ (marked 1 1 (Did 0 ∷ Read 45 ∷ []) (45 ∷ []) (v.0.plain.first ∷ v.0.plain.others)
       (decimal (suc m)) v.1
       (by 1 (Mark 0 ∷ Piece 3 ∷ Made 4 ∷ Mark 1 ∷ []) (among_in x.rules 1 _ _ numbers.value (inl refl)) (v.0, tt)
+      (positive_derived v.0, tt)))
+
+  pub each_signed : (z : ℤ) → unsigned_abs z < 2 ^ 64 → IsDerived 8 z
+  each_signed (pos n) l = let v = number_derived n l in
+      alone 8 _ _ (marked 8 7 (Did 6 ∷ []) [] (v.0.first ∷ v.0.others) (decimal n) v.1
+      (by 8 (Mark 6 ∷ Made 3 ∷ Mark 7 ∷ []) (among_in x.rules 8 _ _ numbers.signed (inr (inl refl))) (v.0, tt)
+      (v.2, tt)))
+  each_signed (negsuc m) l = let v = positive_of (suc m) (omega arith) l in
+      alone 8 _ _ (marked 8 7 (Did 6 ∷ Read 45 ∷ []) (45 ∷ []) (v.0.plain.first ∷ v.0.plain.others)
+      (decimal (suc m)) v.1
+      (by 8 (Mark 6 ∷ Piece 3 ∷ Made 4 ∷ Mark 7 ∷ []) (among_in x.rules 8 _ _ numbers.signed (inl refl)) (v.0, tt)
       (positive_derived v.0, tt)))
 
   pub each_natural : (n : ℕ) → n < 2 ^ 64 → IsDerived 2 n

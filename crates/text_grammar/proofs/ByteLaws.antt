@@ -8,14 +8,15 @@ use Rattle.text_core.specs.Tokens.{pieces, tokens_in, AreInOrder}
 use Rattle.text_core.specs.Readers.{Fault}
 use Rattle.text_core.specs.Faults.{Among}
 use Rattle.text_core.proofs.Lexing.{in_order_in}
-use Rattle.text_grammar.specs.declared.cut.OneMode.TheVariants.{Plain}
+use Rattle.text_grammar.specs.declared.token_stream.OneMode.TheVariants.{Plain}
 use Rattle.text_grammar.specs.Sounding.{is_readable}
 use Rattle.text_grammar.specs.Texts.{IsLawful}
 use Rattle.text_grammar.specs.Folds.{refusals, state}
 use Rattle.text_grammar.specs.ByteTexts.{ByteText, Spelling, Numeral, bytes_lexer, bytes_within, tokens, position_of}
 use Rattle.text_grammar.specs.ByteTexts.{class_of, only, byte_or, one_more, with_byte, fresh, fold_of}
 use Rattle.text_grammar.specs.ByteTexts.{done_mark, grammar_of, texts_of, signed}
-use Rattle.text_grammar.specs.declared.numeral.Within.TheVariants.{Words, Natural as InNatural, Line as InLine}
+use Rattle.text_grammar.specs.declared.numeral.NumberContext.TheVariants.{Words, Natural as InNatural, Signed as InSigned}
+use Rattle.text_grammar.specs.declared.numeral.NumberContext.TheVariants.{Line as InLine}
 use Rattle.text_grammar.proofs.Readable.{readable_if}
 use Rattle.text_grammar.specs.Parts.{IsOnly}
 
@@ -115,24 +116,29 @@ refused_at (Some kind) at y (inr a) = absurd a
 module _ {S T K : Type 0} (x : ByteText S T K) where
   -- marks make it no more how much of a number has been read
   spelled_done : (m : ℕ) (s : Spelling S) → (done_mark x m s).numeral.spelled ≤ s.numeral.spelled
-  spelled_done m s = go (m == 0) (m == 1) (m == 2) (m == 3) (m == 4) (m == 5) _ _ _ (omega arith)
+  spelled_done m s =
+      go (m == 0) (m == 1) (m == 2) (m == 3) (m == 4) (m == 5) (m == 6) (m == 7) _ _ _ _ (omega arith)
     where
-      go : (t u v w y z : Bool) (a b c : S) → s.numeral.spelled ≤ s.numeral.spelled
+      go : (t u v w y z p q : Bool) (a b c d : S) → s.numeral.spelled ≤ s.numeral.spelled
           → (cond t (record s { numeral = fresh })
           (cond u (record s { numeral = fresh; values = s.values ++ signed s.numeral ∷ [] })
           (cond v (record s { own = a; numeral = fresh; within = Words })
           (cond w (record s { numeral = fresh; within = InNatural })
           (cond y (record s { numeral = fresh; within = InLine; values = [] })
           (cond z (record { own = b; numeral = fresh; within = Words; values = [] })
-          (record s { own = c }))))))).numeral.spelled
+          (cond p (record s { numeral = fresh; within = InSigned })
+          (cond q (record s { own = d; numeral = fresh; within = Words })
+          (record s { own = c }))))))))).numeral.spelled
           ≤ s.numeral.spelled
-      go true u v w y z a b c h = omega arith
-      go false true v w y z a b c h = omega arith
-      go false false true w y z a b c h = omega arith
-      go false false false true y z a b c h = omega arith
-      go false false false false true z a b c h = omega arith
-      go false false false false false true a b c h = omega arith
-      go false false false false false false a b c h = h
+      go true u v w y z p q a b c d h = omega arith
+      go false true v w y z p q a b c d h = omega arith
+      go false false true w y z p q a b c d h = omega arith
+      go false false false true y z p q a b c d h = omega arith
+      go false false false false true z p q a b c d h = omega arith
+      go false false false false false true p q a b c d h = omega arith
+      go false false false false false false true q a b c d h = omega arith
+      go false false false false false false false true a b c d h = omega arith
+      go false false false false false false false false a b c d h = h
 
   -- a byte makes it at most one more
   spelled_read : (b : ℕ) (m : Numeral) → (with_byte b m).spelled ≤ m.spelled + 1

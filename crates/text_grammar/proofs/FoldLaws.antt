@@ -1,4 +1,4 @@
--- Folds of events: from a state on, in parts, and where nothing stands against the tokens.
+-- Folds of events: from a state on, in parts, and where the tokens have no fault.
 use Rattle.std.proofs.Common.{◌≡◌, ℕ, List, [], ◌∷◌, ◌++◌, refl, ap, sym, subst, Option, Some, None}
 use Rattle.text_core.specs.Tokens.{Token, pieces}
 use Rattle.text_core.specs.Readers.{onto}

@@ -13,7 +13,7 @@ module _ {P : Type 0} (g : Grammar P) (Stands : ℕ → List (Event P) → List 
   StandsAlong (Mark m ∷ rest) es ps = (fs : List (Event P)) × (es ≡ Did m ∷ fs) × StandsAlong rest fs ps
   StandsAlong (Made n ∷ rest) es ps = (ds : List (Event P)) × (fs : List (Event P)) × (os : List P) × (qs : List P) × Stands n ds os × (es ≡ ds ++ fs) × (ps ≡ os ++ qs) × StandsAlong rest fs qs
 
-  -- what stands along symbols and others comes apart
+  -- a derivation of a list of symbols splits into that of its first part and that of the rest
   pub record Parts (xs ys : List Symbol) (es : List (Event P)) (ps : List P) : Type 0 where
     pub ds : List (Event P)
     pub fs : List (Event P)

@@ -1,3 +1,4 @@
+-- laws of grammars and their tables, of the reader, of derivations and printed texts, and of texts in bytes
 pub mod Tests
 pub mod Events
 pub mod LeadLaws
@@ -23,6 +24,7 @@ pub mod ResultLaws
 pub mod Apart
 pub mod SmallRowLaws
 mod WorkedRowLaws
+mod WorkedSignLaws
 mod WorkedValueLaws
 pub mod WorkedGrammars
 -- the crate below, of which those above cite lemmas through this one

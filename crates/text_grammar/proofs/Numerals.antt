@@ -1,7 +1,7 @@
 -- Numbers in texts of bytes, digit by digit.
 use Rattle.std.proofs.Common.{◌≡◌, ℕ, zero, suc, ◌+◌, ◌*◌, ◌-◌, ◌^◌, ◌<◌, ◌≤◌, min, Bool, true, cond, List, []}
 use Rattle.std.proofs.Common.{◌∷◌, ◌++◌, length, get_or, refl, ap, sym, subst, ◌∙◌, arith, append-nil, append_assoc}
-use Rattle.std.specs.Prelude.{None, ℤ, pos, negsuc, unsigned_abs, ◌==◌, nat_lt, nat_le, not, false}
+use Rattle.std.specs.Prelude.{Some, None, ℤ, pos, negsuc, unsigned_abs, ◌==◌, nat_lt, nat_le, not, false}
 use Rattle.std.specs.Char.{is_ascii_digit, digit_value}
 use Rattle.std.specs.Fmt.{decimal}
 use Rattle.std.specs.Str.Parse.{AllDigits, digits_value, digits_value_after}
@@ -12,12 +12,14 @@ use Rattle.std.proofs.lemmas.Bool.Decides.{nat_tests}
 use Rattle.text_grammar.specs.Grammars.{Read, Did}
 use Rattle.text_grammar.specs.Folds.{after, Passes}
 use Rattle.text_grammar.specs.Parts.{Part, come, Stand}
-use Rattle.text_grammar.specs.ByteTexts.{ByteText, Spelling, Numeral, Numbered, Value, Natural, Line, fresh, one_more}
+use Rattle.text_grammar.specs.ByteTexts.{ByteText, Spelling, Numeral, Numbered, Value, Natural, Signed, Line, fresh}
+use Rattle.text_grammar.specs.ByteTexts.{one_more, against_value, BytesStand}
 use Rattle.text_grammar.specs.ByteTexts.{with_byte, reads, says, fold_of, numbers_of, number_events, value_events}
 use Rattle.text_grammar.specs.ByteTexts.{values_events, NumberStands, put_number, against_in, against_number}
 use Rattle.text_grammar.specs.ByteTexts.{against_feed, against_next, done_mark, IsBounded, line_value_limit, AreSmall}
-use Rattle.text_grammar.specs.declared.numeral.Within.{Within}
-use Rattle.text_grammar.specs.declared.numeral.Within.TheVariants.{Words, Natural as InNatural, Line as InLine}
+use Rattle.text_grammar.specs.declared.numeral.NumberContext.{NumberContext}
+use Rattle.text_grammar.specs.declared.numeral.NumberContext.TheVariants.{Words, Natural as InNatural, Signed as InSigned}
+use Rattle.text_grammar.specs.declared.numeral.NumberContext.TheVariants.{Line as InLine}
 use Rattle.text_core.specs.Choices.{when}
 use Rattle.text_grammar.specs.ByteParts.{Plain, Positive, number_of}
 use Rattle.text_grammar.proofs.FoldLaws.{after_append, passes_append}
@@ -88,6 +90,10 @@ positive_of n some small =
       ap (λ (m : ℕ). digits_value_after 10 m ds) (let k = r.2 in omega (arith, k)) ∙ e,
     )
 
+-- a refusal isn't none
+pub some_none : {K : Type 0} (kind : K) → Some kind ≡ None → ⊥
+some_none kind e = cc
+
 -- no refusal comes where a test fails, and only there
 pub none_when : {K : Type 0} (test : Bool) (kind : K) → when test kind ≡ None → test ≡ false
 none_when true kind e = cc
@@ -121,13 +127,21 @@ small_value n h = grind (arith, nat_tests)
 pub value_small : (n : ℕ) → n ≤ line_value_limit → nat_lt line_value_limit n ≡ false
 value_small n h = grind (arith, nat_tests)
 
+module _ {S T K : Type 0} (x : ByteText S T K) where
+  -- where no `-` and no blank is refused, none of a line of values is
+  pub bytes_stand : (o : S) (vs : List ℤ) → x.against_byte o 45 ≡ None → x.against_byte o 32 ≡ None → BytesStand x o vs
+  bytes_stand o [] minus blank = tt
+  bytes_stand o (pos n ∷ vs) minus blank = (blank, tt, bytes_stand o vs minus blank)
+  bytes_stand o (negsuc n ∷ vs) minus blank = (blank, minus, bytes_stand o vs minus blank)
+
 module _ {S T K : Type 0} (x : ByteText S T K) (h : IsBounded x) where
   -- a number against which nothing stands is below 2^64
   pub small : (s : Spelling S) (n : ℕ) → against_number x s n ≡ None → n < 2 ^ 64
   small s n e = go s.within e
     where
-      go : (w : Within) → against_in x w s.own n ≡ None → n < 2 ^ 64
+      go : (w : NumberContext) → against_in x w s.own s.numeral.negative n ≡ None → n < 2 ^ 64
       go InNatural e = h.small s.own n e
+      go InSigned e = h.small_signed s.own s.numeral.negative n e
       go InLine e = let l = small_value n (none_when (nat_lt line_value_limit n) x.too_large e) in omega (arith, l)
       go Words e = let l = small_value n (none_when (nat_lt line_value_limit n) x.too_large e) in omega (arith, l)
 
@@ -140,8 +154,10 @@ module _ {S T K : Type 0} (x : ByteText S T K) (h : IsBounded x) where
           let k = small_value n (none_when (nat_lt line_value_limit n) x.too_large e) in
           when_none (nat_lt line_value_limit m) x.too_large (value_small m (omega (arith, l, k)))
 
-      go : (w : Within) → against_in x w s.own n ≡ None → against_in x w s.own m ≡ None
+      go : (w : NumberContext) → against_in x w s.own s.numeral.negative n ≡ None
+          → against_in x w s.own s.numeral.negative m ≡ None
       go InNatural e = h.below s.own m n some l e
+      go InSigned e = h.below_signed s.own s.numeral.negative m n some l e
       go InLine e = valued e
       go Words e = valued e
 
@@ -302,13 +318,26 @@ module _ {S T K : Type 0} (x : ByteText S T K) (h : IsBounded x) where
   value_put : (s : Spelling S) (z : ℤ) → NumberStands x s (Value z) → Passes (fold_of x) s (value_events z)
       × (after (fold_of x) s (value_events z) ≡ put_number x (Value z) s)
   value_put s (pos n) k =
-      let w = decimal_pass n (record s { numeral = fresh }) refl k in
+      let w = decimal_pass n (record s { numeral = fresh }) refl k.1 in
       ended (record s { numeral = fresh }) _ (put_number x (Value (pos n)) s) (decimal n) 1 w.1 w.2 refl
   value_put s (negsuc n) k =
       let begun : Spelling S = record s { numeral = with_byte 45 fresh } in
-      let w = decimal_pass (suc n) begun refl k in
+      let w = decimal_pass (suc n) begun refl k.1 in
       let e = ended begun _ (put_number x (Value (negsuc n)) s) (decimal (suc n)) 1 w.1 w.2 refl in
-      ((h.minus s.own, e.0), e.1)
+      ((k.0, e.0), e.1)
+
+  -- and so is a signed number
+  signed_put : (s : Spelling S) (z : ℤ) → NumberStands x s (Signed z) → Passes (fold_of x) s (number_events (Signed z))
+      × (after (fold_of x) s (number_events (Signed z)) ≡ put_number x (Signed z) s)
+  signed_put s (pos n) k =
+      let begun : Spelling S = record s { numeral = fresh; within = InSigned } in
+      let w = decimal_pass n begun refl k.1 in
+      ended begun _ (put_number x (Signed (pos n)) s) (decimal n) 7 w.1 w.2 refl
+  signed_put s (negsuc n) k =
+      let begun : Spelling S = record s { numeral = with_byte 45 fresh; within = InSigned } in
+      let w = decimal_pass (suc n) begun refl k.1 in
+      let e = ended begun _ (put_number x (Signed (negsuc n)) s) (decimal (suc n)) 7 w.1 w.2 refl in
+      ((k.0, e.0), e.1)
 
   -- within a line of values, and behind it
   abbrev pub lined : S → Numeral → List ℤ → Spelling S
@@ -317,23 +346,33 @@ module _ {S T K : Type 0} (x : ByteText S T K) (h : IsBounded x) where
   abbrev pub behind : S → List ℤ → Spelling S
   behind o vs = record { own = x.line vs o; numeral = fresh; within = Words; values = [] }
 
+  -- nothing stands against a value in a line exactly where it is small
+  small_stands : (o : S) (ws : List ℤ) (v : ℤ) → unsigned_abs v ≤ line_value_limit
+      → against_value x (lined o fresh ws) v ≡ None
+  small_stands o ws (pos n) l = when_none (nat_lt line_value_limit n) x.too_large (value_small n l)
+  small_stands o ws (negsuc n) l = when_none (nat_lt line_value_limit (suc n)) x.too_large (value_small (suc n) l)
+
+  pub stands_small : (o : S) (m : Numeral) (ws : List ℤ) (v : ℤ) → against_value x (lined o m ws) v ≡ None
+      → unsigned_abs v ≤ line_value_limit
+  stands_small o m ws (pos n) e = small_value n (none_when (nat_lt line_value_limit n) x.too_large e)
+  stands_small o m ws (negsuc n) e = small_value (suc n) (none_when (nat_lt line_value_limit (suc n)) x.too_large e)
+
   -- what is left of a line of values is put by its events
-  values_put : (vs : List ℤ) (o : S) (m : Numeral) (ws : List ℤ) → AreSmall vs
+  values_put : (vs : List ℤ) (o : S) (m : Numeral) (ws : List ℤ) → AreSmall vs → BytesStand x o vs
       → x.against_line o (length (ws ++ vs)) ≡ None → Passes (fold_of x) (lined o m ws) (values_events vs)
       × (after (fold_of x) (lined o m ws) (values_events vs) ≡ behind o (ws ++ vs))
-  values_put [] o m ws small k = (
+  values_put [] o m ws small bytes k = (
     (ap (λ (us : List ℤ). x.against_line o (length us)) (sym (append-nil ws)) ∙ k, tt),
     ap (behind o) (sym (append-nil ws)),
   )
-  values_put (v ∷ vs) o m ws small k =
+  values_put (v ∷ vs) o m ws small bytes k =
       let s : Spelling S = lined o fresh ws in
-      let one = value_put s v (when_none (nat_lt line_value_limit (unsigned_abs v)) x.too_large
-      (value_small (unsigned_abs v) small.0)) in
+      let one = value_put s v (bytes.1, small_stands o ws v small.0) in
       let rest =
-      values_put vs o fresh (ws ++ v ∷ []) small.1
+      values_put vs o fresh (ws ++ v ∷ []) small.1 bytes.2
       (ap (λ (us : List ℤ). x.against_line o (length us)) (append_assoc ws (v ∷ []) vs) ∙ k) in (
         (
-          h.blank o,
+          bytes.0,
           passes_append (fold_of x) s (value_events v) (values_events vs) one.0
               (subst (λ (t : Spelling S). Passes (fold_of x) t (values_events vs)) (sym one.1) rest.0),
         ),
@@ -353,4 +392,5 @@ module _ {S T K : Type 0} (x : ByteText S T K) (h : IsBounded x) where
           let begun : Spelling S = record s { numeral = fresh; within = InNatural } in
           let w = decimal_pass n begun refl k in
           ended begun _ (put_number x (Natural n) s) (decimal n) 2 w.1 w.2 refl
-      go s (Line vs) (l, k) = values_put vs s.own fresh [] l k
+      go s (Signed z) k = signed_put s z k
+      go s (Line vs) (l, b, k) = values_put vs s.own fresh [] l b k

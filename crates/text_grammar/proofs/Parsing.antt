@@ -23,7 +23,7 @@ module _ {P : Type 0} (g : Grammar P) where
   abbrev pub Behind : ℕ → List Symbol → Type 0
   Behind n rest = (c : ℕ) → c ≤ g.classes → takes c (lead c (row_of g c) rest) ≡ true → is_flagged (follows g c) n ≡ true
 
-  -- so it is with each nonterminal that is expected
+  -- the same for each nonterminal that is expected
   abbrev pub Fits : List Symbol → Type 0
   Fits [] = ⊤
   Fits (Piece c ∷ rest) = Fits rest

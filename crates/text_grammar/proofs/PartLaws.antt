@@ -52,7 +52,7 @@ module _ {P S T K A : Type 0} (f : Fold P S T K) (a : Wholes P S A) where
   stand_split s (Does m ∷ xs) ys h = stand_split (f.done m s) xs ys h
   stand_split s (Puts z ∷ xs) ys h = let w = stand_split (a.put z s) xs ys h.1 in ((h.0, w.0), w.1)
 
-  -- so parts against which nothing stands come to what their events do
+  -- parts without faults do what their events do
   pub events_pass : IsPut f a → (s : S) (xs : List (Part P A)) → Stand f a s xs → Passes f s (events_of f a xs)
       × (after f s (events_of f a xs) ≡ come f a s xs)
   events_pass h s [] k = (tt, refl)
@@ -85,12 +85,12 @@ module _ {P S T K A : Type 0} (f : Fold P S T K) (a : Wholes P S A) where
     all_given n (other ∷ bodies) h body (inr b) = all_given n bodies h.1 body b
 
     -- values within symbols that are derived with nothing against them
-    abbrev Within : List Symbol → S → S → List P → Type 0
-    Within ss s t ps = (vs : Values g only V parts ss) × ComesTo f a s t ps (body_parts g only V parts ss vs)
+    abbrev NumberContext : List Symbol → S → S → List P → Type 0
+    NumberContext ss s t ps = (vs : Values g only V parts ss) × ComesTo f a s t ps (body_parts g only V parts ss vs)
 
     -- a piece, and values behind it
     within_piece : IsOnly g only → (c : ℕ) (ss : List Symbol) (p : P) (s t : S) (ps : List P) → g.class_of p ≡ c
-        → f.against s p ≡ None → Within ss (f.read p s) t ps → Within (Piece c ∷ ss) s t (p ∷ ps)
+        → f.against s p ≡ None → NumberContext ss (f.read p s) t ps → NumberContext (Piece c ∷ ss) s t (p ∷ ps)
     within_piece h c ss p s t ps k n w = go (only c) refl
       where
         go : (o : Option P) → only c ≡ o → (vs : Chosen g only V parts o c (Values g only V parts ss))
@@ -112,14 +112,14 @@ module _ {P S T K A : Type 0} (f : Fold P S T K) (a : Wholes P S A) where
           },
         )
 
-    -- what stands along symbols with nothing against it is values within them
+    -- the derivations of symbols without faults are those of values within the limits
     within : IsOnly g only → (ss : List Symbol) (es : List (Event P)) (ps : List P) → StandsAlong g (StandsFor f a g only V parts) ss es ps
-        → (s : S) → Passes f s es → Within ss s (after f s es) ps
+        → (s : S) → Passes f s es → NumberContext ss s (after f s es) ps
     within h [] es ps (e, k) s passes = (tt, record { spells = sym k; stands = tt; comes = ap (after f s) (sym e) })
     within h (Piece c ∷ ss) es ps (p, fs, qs, k, e, i, w) s passes =
         let here = subst (Passes f s) e passes in
-        subst (λ (ds : List (Event P)). Within (Piece c ∷ ss) s (after f s ds) ps) (sym e)
-        (subst (λ (os : List P). Within (Piece c ∷ ss) s (after f (f.read p s) fs) os) (sym i)
+        subst (λ (ds : List (Event P)). NumberContext (Piece c ∷ ss) s (after f s ds) ps) (sym e)
+        (subst (λ (os : List P). NumberContext (Piece c ∷ ss) s (after f (f.read p s) fs) os) (sym i)
         (within_piece h c ss p s (after f (f.read p s) fs) qs k here.0 (within h ss fs qs w (f.read p s) here.1)))
     within h (Mark m ∷ ss) es ps (fs, e, w) s passes =
         let r = within h ss fs ps w (f.done m s) (subst (Passes f s) e passes) in

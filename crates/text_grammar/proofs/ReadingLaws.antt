@@ -5,8 +5,8 @@ use Rattle.text_core.specs.Readers.{Fault, next, reached}
 use Rattle.text_core.specs.Reading.{Answer, Refused, Stopped, Going, first_of, first_among, ended, further, run, answer}
 use Rattle.text_grammar.specs.declared.symbol.Symbol.{Symbol}
 use Rattle.text_grammar.specs.declared.symbol.Symbol.TheVariants.{Made}
-use Rattle.text_grammar.specs.declared.reading.Followed as code
-use Rattle.text_grammar.specs.declared.reading.Followed.TheVariants.{Led, Off}
+use Rattle.text_grammar.specs.declared.reading.Advance as code
+use Rattle.text_grammar.specs.declared.reading.Advance.TheVariants.{Led, Off}
 use Rattle.text_grammar.specs.declared.token.Fault as code_fault
 use Rattle.text_grammar.specs.Grammars.{Event, Read}
 use Rattle.text_grammar.specs.Leads.{Lead, Matches, Passes, Stuck}
@@ -103,7 +103,7 @@ module _ {P T K : Type 0} (x : Text P T K) where
 
 -- the same where the text and what the token came to are known by equations
 pub decides_next : {P T K : Type 0} (x before after : Text P T K) (n : ℕ) (all : Answer T K) (Knows Now : List (Event P) → Type 0) (best following : Option (Fault K)) (expected rest : List Symbol) (t : Token P) (left old : List (Token P))
-    (came : code.Followed K) (shown : Option (code_fault.Fault K)) → Decides x n all Knows best expected old → before ≡ x → after ≡ before → old ≡ t ∷ left
+    (came : code.Advance K) (shown : Option (code_fault.Fault K)) → Decides x n all Knows best expected old → before ≡ x → after ≡ before → old ≡ t ∷ left
     → ((es : List (Event P)) → Knows es → Follows before Now es t (lead_at before (record { events = es; expected = expected }) t.piece) rest came) → came ≡ Led shown → following ≡ first_of_two after best (fault_of shown)
     → (after ≡ x) × Decides x n all Now following rest left
 decides_next x before after n all Knows Now best following expected rest t left old came shown d e f same follows is next = (
@@ -111,5 +111,5 @@ decides_next x before after n all Knows Now best following expected rest t left 
   subst (λ (o : Option (Fault _)). Decides x n all Now o rest left) (sym (next ∙ ap (λ (v : Text _ _ _). first_of_two v best (fault_of shown)) (f ∙ e)))
       (decides_on x n all Knows Now best expected rest t left old shown d same
       (λ es k. subst (λ (v : Text _ _ _). Follows v Now es t (lead_at v (record { events = es; expected = expected }) t.piece) rest (Led shown)) e
-      (subst (λ (c : code.Followed _). Follows before Now es t (lead_at before (record { events = es; expected = expected }) t.piece) rest c) is (follows es k)))),
+      (subst (λ (c : code.Advance _). Follows before Now es t (lead_at before (record { events = es; expected = expected }) t.piece) rest c) is (follows es k)))),
 )

@@ -1,4 +1,4 @@
--- A refusal is shown at a token exactly where it stands against it behind events that are derived.
+-- A refusal is shown at a token exactly where it is a fault of the token behind derived events.
 use Rattle.std.proofs.Common.{◌≡◌, ℕ, List, [], ◌∷◌, ◌++◌, Option, Some, None, refl, ap, sym, subst, ◌∙◌, inl, inr}
 use Rattle.std.specs.Prelude.{◌⊎◌}
 use Rattle.std.proofs.lemmas.List.{append-nil}
@@ -76,7 +76,7 @@ module _ {P T K : Type 0} (x : Text P T K) (lawful : IsLawful x) where
       go None k s ih = cc
       go (Some g) k s ih = by g (lead_at x g p) s (ih g k)
 
-  -- what is shown stands against the token
+  -- a shown refusal is a fault of the token
   shown_stands : (done : List (Token P)) (f : Front P) (t : Token P) (y : Fault K) → reached (reader x) (pieces done) ≡ Some f → Among y (shown_by x f.events t (lead_at x f t.piece))
       → StandsAgainst x (onto (pieces done) []) t y
   shown_stands done f t y e a = go (lead_at x f t.piece) refl a
@@ -142,7 +142,7 @@ module _ {P T K : Type 0} (x : Text P T K) (lawful : IsLawful x) where
             same = m.same ∙ sym (ap (λ (gs : List (Event P)). onto gs f.events) w.1 ∙ onto-marked h.marks (Read q ∷ w.0) f.events);
           }
 
-  -- what stands against the token is shown
+  -- a fault of the token is shown
   stands_shown : (done : List (Token P)) (t : Token P) (y : Fault K) → StandsAgainst x (onto (pieces done) []) t y
       → (f : Front P) × (reached (reader x) (pieces done) ≡ Some f) × Among y (shown_by x f.events t (lead_at x f t.piece))
   stands_shown done t y s =
@@ -152,7 +152,7 @@ module _ {P T K : Type 0} (x : Text P T K) (lawful : IsLawful x) where
         subst (Among y) (sym (ap (shown_by x m.front.events t) m.leads ∙ ap (λ (fs : List (Event P)). x.faults fs t) m.same)) s.stands,
       )
 
-  -- so refusals are shown where they stand against what is derived
+  -- hence refusals are shown exactly where they are faults of what is derived
   pub shown_where_derived : ShownWhereDerived x
   shown_where_derived = record {
     shown = λ n done rest f t y e a. shown_stands done f t y e a;

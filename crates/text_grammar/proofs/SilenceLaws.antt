@@ -1,4 +1,4 @@
--- A text stands exactly where it is derived and nothing stands against its tokens.
+-- A text is accepted exactly where it is derived and its tokens have no fault.
 use Rattle.std.proofs.Common.{◌≡◌, ℕ, List, [], ◌∷◌, Option, Some, refl, ap, sym, subst, ◌∙◌, inl, inr}
 use Rattle.text_core.specs.Tokens.{Token, pieces}
 use Rattle.text_core.specs.Readers.{Fault, onto, next, reached}
@@ -23,7 +23,7 @@ module _ {P T K : Type 0} (x : Text P T K) where
   silent-marked [] before es ts = refl
   silent-marked (m ∷ ms) before es ts = silent-marked ms (Did m ∷ before) es ts
 
-  -- nothing stands against no tokens
+  -- no tokens have no fault
   silent_nothing : (before es : List (Event P)) → IsSilent x before es []
   silent_nothing before [] = tt
   silent_nothing before (Did m ∷ es) = silent_nothing (Did m ∷ before) es
@@ -34,7 +34,7 @@ module _ {P T K : Type 0} (x : Text P T K) where
     pub stepped_to : (f : Front P) (es : List (Event P)) (p : P) (ps : List P) → (h : Led x.grammar f.expected es p ps) → (reader x).step f p ≡ Some (record { events = Read p ∷ did f.events h.marks; expected = h.rest })
     stepped_to f es p ps h = ap (stepped f.events p) h.leads
 
-    -- what is derived has nothing ahead that stands against it, if nothing stands against its tokens
+    -- a derived text whose tokens have no fault has no fault ahead
     quiet : (ts : List (Token P)) (n : ℕ) (done : List (Token P)) (f : Front P) (es : List (Event P)) → reached (reader x) (pieces done) ≡ Some f → Derives x.grammar f.expected es (pieces ts)
         → Fits x.grammar f.expected → IsSilent x f.events es ts → (y : Fault K) → ¬ Ahead (reader x) n done (Some f) ts y
     quiet [] n done f es e d fits s y (inl a) = a
@@ -56,7 +56,7 @@ module _ {P T K : Type 0} (x : Text P T K) where
         go h silent ih (inl (inr b)) = goes_here (reader x) (reader_laws x lawful) (pieces done) f _ t.piece (pieces ts) e (stepped_to f es t.piece (pieces ts) h) b.0
         go h silent ih (inr a) = ih (subst (λ (o : Option (Front P)). Ahead (reader x) n (t ∷ done) o ts y) (stepped_to f es t.piece (pieces ts) h) a)
 
-    -- and nothing stands against its tokens, if nothing is ahead
+    -- a derived text with no fault ahead has tokens without faults
     silenced : (ts : List (Token P)) (n : ℕ) (done : List (Token P)) (f : Front P) (es : List (Event P)) → Derives x.grammar f.expected es (pieces ts) → Fits x.grammar f.expected
         → ((y : Fault K) → ¬ Ahead (reader x) n done (Some f) ts y) → IsSilent x f.events es ts
     silenced [] n done f es d fits none = silent_nothing f.events es

@@ -5,7 +5,7 @@ use Rattle.std.specs.Prelude.{nat_le, not, ◌==◌, codes, true, false}
 use Rattle.std.specs.Fmt.{decimal}
 use Rattle.std.proofs.lemmas.Bool.Decides.{nat_tests}
 use Rattle.text_core.specs.Reading.{Stands}
-use Rattle.text_grammar.specs.declared.numeral.Within.TheVariants.{Words}
+use Rattle.text_grammar.specs.declared.numeral.NumberContext.TheVariants.{Words}
 use Rattle.text_grammar.specs.Grammars.{alternatives}
 use Rattle.text_grammar.specs.Sounding.{is_readable}
 use Rattle.text_grammar.specs.Texts.{IsLawful}
@@ -16,6 +16,7 @@ use Rattle.text_grammar.specs.ByteParts.{ValueOf, parts_of, OwnAreMade}
 use Rattle.text_grammar.specs.SmallRows.{Row, Rows, State, is_no_number, rows_bytes, rows_text, AreNumbered, AreFew}
 use Rattle.text_grammar.specs.SmallRows.{RowsAreRead, RowsValue, rows_parts, own_parts}
 use Rattle.text_grammar.proofs.Numerals.{none_when, when_none, not_differs, differs_not, room, has_room}
+use Rattle.text_grammar.proofs.Numerals.{some_none, bytes_stand}
 use Rattle.text_grammar.proofs.ByteLaws.{bytes_lawful}
 use Rattle.text_grammar.proofs.ByteDerivations.{IsDerived, by, each_natural, each_line, answered, taken}
 
@@ -39,6 +40,7 @@ rows_numbers = record {
   digits = refl;
   line = refl;
   values = refl;
+  signed = refl;
 }
 
 pub rows_bounded : IsBounded rows_bytes
@@ -47,8 +49,8 @@ rows_bounded = record {
   below = λ s m n some l e.
       let k = (row_number n (none_when (is_no_number n) 3 e)).1 in
       when_none (is_no_number m) 3 (number_taken m some (omega (arith, l, k)));
-  minus = λ s. refl;
-  blank = λ s. refl;
+  small_signed = λ s negative n e. absurd (some_none 1 e);
+  below_signed = λ s negative m n some l e. absurd (some_none 1 e);
 }
 
 pub rows_lawful : IsLawful (texts_of rows_bytes)
@@ -60,8 +62,8 @@ rows_made = record { text = (λ (rows, u). (rows, refl), tt); others = go }
   where
     go : (n : ℕ) → AllMake (fold_of rows_bytes) (numbers_of rows_bytes) (grammar_of rows_bytes)
         (only rows_bytes.letters) (ValueOf RowsValue own_parts) (parts_of RowsValue own_parts)
-        (suc (suc (suc (suc (suc (suc (suc (suc n))))))))
-        (alternatives rows_bytes.rules (suc (suc (suc (suc (suc (suc (suc (suc n)))))))))
+        (suc (suc (suc (suc (suc (suc (suc (suc (suc n)))))))))
+        (alternatives rows_bytes.rules (suc (suc (suc (suc (suc (suc (suc (suc (suc n))))))))))
     go zero = ((λ (n, (vs, (rows, u))). (record { number = n; values = vs } ∷ rows, refl)), ((λ u. ([], refl)), tt))
     go (suc n) = tt
 
@@ -69,10 +71,10 @@ rows_made = record { text = (λ (rows, u). (rows, refl), tt); others = go }
 abbrev Derived : (n : ℕ) → ValueOf RowsValue own_parts n → Type 0
 Derived n v = IsDerived rows_bytes rows_bounded rows_numbers rows_readable RowsValue own_parts n v
 
-pub rows_derived : (rows : Rows) → AreNumbered rows → Derived 8 rows
-rows_derived [] l = by rows_bytes rows_bounded rows_numbers rows_readable RowsValue own_parts 8 _ (inr (inl refl)) tt tt
+pub rows_derived : (rows : Rows) → AreNumbered rows → Derived 9 rows
+rows_derived [] l = by rows_bytes rows_bounded rows_numbers rows_readable RowsValue own_parts 9 _ (inr (inl refl)) tt tt
 rows_derived (r ∷ rs) l =
-    by rows_bytes rows_bounded rows_numbers rows_readable RowsValue own_parts 8 _ (inl refl)
+    by rows_bytes rows_bounded rows_numbers rows_readable RowsValue own_parts 9 _ (inl refl)
     (r.number, (r.values, (rs, tt))) (
       each_natural rows_bytes rows_bounded rows_numbers rows_readable RowsValue own_parts r.number
           (let k = l.0.few in omega (arith, k)),
@@ -111,7 +113,7 @@ rows_stand (r ∷ rs) s l few =
     let number = when_none (is_no_number r.number) 3 (number_taken r.number l.0.some l.0.few) in
     let first = when_none (nat_le 3 (length s.rows)) 5 (has_room 3 (length s.rows) (omega (arith, few))) in
     let others = rows_stand rs (behind_row s r) l.1 (omega (arith, count, few)) in
-    (first, (refl, (refl, (refl, (number, ((l.0.small, line), others))))))
+    (first, (refl, (refl, (refl, (number, ((l.0.small, bytes_stand rows_bytes s r.values refl refl, line), others))))))
 
 stand_rows : (rows : Rows) (s : State)
     → Stand (fold_of rows_bytes) (numbers_of rows_bytes) (at s) (rows_parts rows)
@@ -121,7 +123,7 @@ stand_rows (r ∷ rs) s h =
     let one = room 3 (length s.rows) (none_when (nat_le 3 (length s.rows)) 5 h.0) in
     let number = row_number r.number (none_when (is_no_number r.number) 3 h.1.1.1.1.0) in
     let line = h.1.1.1.1.1.0 in
-    let counted = none_when (not (length r.values == r.number)) 4 line.1 in
+    let counted = none_when (not (length r.values == r.number)) 4 line.2 in
     let w = stand_rows rs (behind_row s r) h.1.1.1.1.1.1 in
     let count = length-append s.rows (r ∷ []) in (
       (

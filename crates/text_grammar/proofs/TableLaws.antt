@@ -53,7 +53,7 @@ entry_set was entries n e same l = record {
   others = λ k h. ap (λ r. entry r k) (map-set lead_of entries n e) ∙ get_or-set_other (leads_of entries) n k (lead_of e) Stuck h ∙ same k;
 }
 
--- what is kept of the row of a class stands in it
+-- the kept part of a class's row of the table is a part of it
 pub row_stands : (t : Tables) (c : ℕ) (row : Vec code.Entry Global) → IsSound t → c ≤ t.end → row ≡ slice_index_or t.rows.items c row → leads_of row.items ≡ kept_row t c
 row_stands t c row sound is-class is =
     ap (λ (r : Vec code.Entry Global). leads_of r.items) is

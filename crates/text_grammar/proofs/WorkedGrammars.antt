@@ -1,7 +1,8 @@
 -- What was worked out by hand of grammars.
 use Rattle.text_grammar.proofs.SmallRowLaws.{rows_read}
-use Rattle.text_grammar.proofs.WorkedRowLaws.{numerals_told, parts_told, byte_texts_told}
-use Rattle.text_grammar.proofs.WorkedValueLaws.{values_told}
+use Rattle.text_grammar.proofs.WorkedRowLaws.{numerals_worked, parts_worked, byte_texts_worked}
+use Rattle.text_grammar.proofs.WorkedSignLaws.{signs_told}
+use Rattle.text_grammar.proofs.WorkedValueLaws.{values_worked}
 use Rattle.std.proofs.Common.{ℕ, ◌≡◌, ◌<◌, Bool, true, false, cond, [], ◌∷◌, refl, ap, arith, lit<, inl, inr}
 use Rattle.std.specs.Prelude.{◌==◌, ◌+◌, ◌≤◌, ◌&&◌, List, length}
 use Rattle.text_core.specs.Tokens.{Token}
@@ -10,13 +11,13 @@ use Rattle.text_core.specs.Faults.{Among}
 use Rattle.text_core.proofs.FirstFaults.{nowhere_begins, whole_ends, answers_all, one_tree_each, one_first_each}
 use Rattle.text_grammar.specs.Grammars.{Event, Read, nothing, piece, made}
 use Rattle.text_grammar.specs.Texts.{Text, reader, IsLawful}
-use Rattle.text_grammar.specs.Worked.{class_of, fault, against, bracket_text, GrammarsAreTold, RulesAreSpelled}
-use Rattle.text_grammar.specs.Worked.{BracketsAreTold, BracketsAreAnswered, TextsAreRead, WorkedGrammars}
+use Rattle.text_grammar.specs.Worked.{class_of, fault, against, bracket_text, GrammarsAreWorkedOut, RulesAreSpelled}
+use Rattle.text_grammar.specs.Worked.{BracketsAreWorkedOut, BracketsAreAnswered, TextsAreRead, WorkedGrammars}
 use Rattle.text_grammar.proofs.ReaderLaws.{reader_laws}
 use Rattle.text_grammar.proofs.SilenceLaws.{stands_where_silent}
 use Rattle.text_grammar.proofs.ShownLaws.{shown_where_derived}
 
-grammars : GrammarsAreTold
+grammars : GrammarsAreWorkedOut
 grammars = record {
   brackets_can = refl;
   row = refl;
@@ -51,7 +52,7 @@ classed p = go (p == 0) (p == 1)
     go false true = lit< tt
     go false false = lit< tt
 
--- what stands against a piece stands at it or behind it
+-- the faults of a piece are at its position or behind it
 behind_it : (es : List (Event ℕ)) (t : Token ℕ) (y : Fault ℕ) → Among y (against es t) → t.at ≤ y.at
 behind_it es t y a = go ((length es == 2) && (t.piece == 0)) ((length es == 3) && (t.piece == 1)) a
   where
@@ -79,7 +80,7 @@ lawful = record {
   floor_read = λ es t at some behind. omega (arith, some, behind);
 }
 
-brackets : BracketsAreTold
+brackets : BracketsAreWorkedOut
 brackets = record {
   two = (Read 0 ∷ Read 0 ∷ Read 1 ∷ Read 1 ∷ [], made 0 _ (inl refl) (piece 0 (made 0 _ (inl refl) (piece 0 (made 0 _ (inr (inl refl)) (piece 1 (piece 1 nothing)))))), refl);
   nothing_at_all = ([], made 0 _ (inr (inl refl)) nothing, refl);
@@ -117,12 +118,13 @@ pub worked_grammars : WorkedGrammars
 worked_grammars = record {
   grammars = grammars;
   spelled = spelled;
-  brackets_told = brackets;
+  brackets_worked = brackets;
   brackets_answered = answered;
   brackets_read = texts_read bracket_text lawful;
   rows_read = rows_read;
-  numerals = numerals_told;
-  parts = parts_told;
-  byte_texts = byte_texts_told;
-  values = values_told;
+  numerals = numerals_worked;
+  parts = parts_worked;
+  byte_texts = byte_texts_worked;
+  signs = signs_told;
+  values = values_worked;
 }

@@ -4,11 +4,12 @@ use Rattle.std.specs.Prelude.{unsigned_abs}
 use Rattle.std.specs.Fmt.{digits}
 use Rattle.text_grammar.specs.ByteTexts.{Spelling, line_rule, values_rule, value_rule}
 use Rattle.text_grammar.specs.SmallRows.{State, rows_bytes}
-use Rattle.text_grammar.specs.WorkedRows.{NumeralsAreTold, PartsAreTold, ByteTextsAreTold}
+use Rattle.text_grammar.specs.WorkedRows.{NumeralsAreWorkedOut, PartsAreWorked, ByteTextsAreWorkedOut}
+use Rattle.text_grammar.proofs.Numerals.{some_none}
 use Rattle.text_grammar.proofs.SmallRowLaws.{rows_bounded, rows_numbers}
 
-pub numerals_told : NumeralsAreTold
-numerals_told = record {
+pub numerals_worked : NumeralsAreWorkedOut
+numerals_worked = record {
   classes = refl;
   bytes = refl;
   negative = refl;
@@ -20,10 +21,6 @@ numerals_told = record {
   long_below = λ h. let l = h.1.0 in omega (arith, l);
 }
 
--- a refusal isn't none
-pub some_none : (kind : ℕ) → Some kind ≡ None → ⊥
-some_none kind e = cc
-
 -- the byte `1` isn't the byte `2`, nor a 2 a 1
 bytes_differ : ◌≡◌ {A = List ℕ} (32 ∷ 49 ∷ 10 ∷ []) (32 ∷ 50 ∷ 10 ∷ []) → ⊥
 bytes_differ e = let f : ◌≡◌ {A = ℕ} 49 50 = cc in omega (arith, f)
@@ -31,26 +28,26 @@ bytes_differ e = let f : ◌≡◌ {A = ℕ} 49 50 = cc in omega (arith, f)
 sizes_differ : ◌≡◌ {A = List ℕ} (2 ∷ []) (1 ∷ []) → ⊥
 sizes_differ e = let f : ◌≡◌ {A = ℕ} 2 1 = cc in omega (arith, f)
 
-pub parts_told : PartsAreTold
+pub parts_worked : PartsAreWorked
 unfolding digits
-parts_told = record {
+parts_worked = record {
   text = refl;
   value = refl;
   natural = refl;
   line = refl;
   row_comes = refl;
   value_comes = refl;
-  small = (refl, tt);
-  large = λ h. some_none 2 h.0;
+  small = ((refl, refl), tt);
+  large = λ h. some_none 2 h.0.1;
   nine = (refl, tt);
   ten = λ h. some_none 3 h.0;
   nought = λ h. some_none 3 h.0;
-  counted = (((omega arith, (omega arith, tt)), refl), tt);
-  surplus = λ h. some_none 4 h.0.1;
+  counted = (((omega arith, (omega arith, tt)), (refl, tt, (refl, tt, tt)), refl), tt);
+  surplus = λ h. some_none 4 h.0.2;
   large_line = λ h. let l = h.0.0.1.0 in omega (arith, l);
   third = (refl, tt);
   fourth = λ h. some_none 5 h.0;
-  itself = record { spells = refl; stands = (((omega arith, tt), refl), tt); comes = refl };
+  itself = record { spells = refl; stands = (((omega arith, tt), (refl, tt, tt), refl), tt); comes = refl };
   other_text = λ h. bytes_differ h.spells;
   other_end = λ h. sizes_differ (ap (λ (s : Spelling State). map unsigned_abs s.own.values) h.comes);
   none_comes = λ h. let l = h.stands.0.0.0 in omega (arith, l);
@@ -66,14 +63,12 @@ not_line e = cc
 not_values : (line_rule ≡ values_rule) → ⊥
 not_values e = cc
 
-pub byte_texts_told : ByteTextsAreTold
+pub byte_texts_worked : ByteTextsAreWorkedOut
 unfolding digits
-byte_texts_told = record {
+byte_texts_worked = record {
   bounded = rows_bounded;
   endless = λ h. let l = h.small rows_bytes.begun (2 ^ 64) refl in omega (arith, l);
   gap = λ h. some_none 3 (h.below rows_bytes.begun 1 2 (omega arith) (omega arith) refl);
-  no_blank = λ h. some_none 1 (h.blank rows_bytes.begun);
-  no_minus = λ h. some_none 1 (h.minus rows_bytes.begun);
   numbers = rows_numbers;
   no_numbers = λ h. no_rules h.value;
   other_line = λ h. not_line h.line;

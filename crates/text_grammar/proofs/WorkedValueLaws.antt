@@ -7,13 +7,12 @@ use Rattle.text_grammar.specs.Parts.{spelled}
 use Rattle.text_grammar.specs.ByteTexts.{Spelling, Natural, only, fold_of, numbers_of, grammar_of}
 use Rattle.text_grammar.specs.SmallRows.{Rows, State, rows_bytes, AreNumbered, RowsValue, rows_parts, own_parts}
 use Rattle.text_grammar.specs.WorkedRows.{between}
-use Rattle.text_grammar.specs.WorkedValues.{ValuesAreTold, Given, given_parts, Valued, two_rows}
+use Rattle.text_grammar.specs.WorkedValues.{ValuesAreWorkedOut, Given, given_parts, Valued, two_rows}
 use Rattle.text_grammar.proofs.PartLaws.{derived_value}
-use Rattle.text_grammar.proofs.Numerals.{numbers_put}
+use Rattle.text_grammar.proofs.Numerals.{numbers_put, some_none}
 use Rattle.text_grammar.proofs.ByteLaws.{bytes_only}
 use Rattle.text_grammar.proofs.ByteDerivations.{are_made}
 use Rattle.text_grammar.proofs.SmallRowLaws.{rows_bounded, rows_numbers, rows_readable, rows_made, rows_derived}
-use Rattle.text_grammar.proofs.WorkedRowLaws.{some_none}
 
 -- an empty list has no element
 no_first : {X : Type 0} (x : X) (xs : List X) → [] ≡ x ∷ xs → ⊥
@@ -28,14 +27,14 @@ some_text [] e = first_none _ _ e
 some_text (r ∷ rs) e = first_none _ _ e
 
 -- so nothing at all isn't rows, and isn't derived
-no_line : Valued 8 [] [] → ⊥
+no_line : Valued 9 [] [] → ⊥
 no_line h = let w = h (between [] 0 []) tt in some_text w.0 w.1.spells
 
-nothing_derived : Derives (grammar_of rows_bytes) (Made 8 ∷ []) [] [] → ⊥
+nothing_derived : Derives (grammar_of rows_bytes) (Made 9 ∷ []) [] [] → ⊥
 nothing_derived d =
     no_line (derived_value (fold_of rows_bytes) (numbers_of rows_bytes) (grammar_of rows_bytes)
     (only rows_bytes.letters) Given given_parts (bytes_only rows_bytes rows_readable)
-    (are_made rows_bytes rows_bounded rows_numbers rows_readable RowsValue own_parts rows_made) 8 d)
+    (are_made rows_bytes rows_bounded rows_numbers rows_readable RowsValue own_parts rows_made) 9 d)
 
 -- each of two rows is numbered
 two_numbered : AreNumbered two_rows
@@ -44,9 +43,9 @@ two_numbered = (
   (record { some = omega arith; few = omega arith; counted = refl; small = (omega arith, tt) }, tt),
 )
 
-pub values_told : ValuesAreTold
+pub values_worked : ValuesAreWorkedOut
 unfolding digits
-values_told = record {
+values_worked = record {
   only_its = bytes_only rows_bytes rows_readable;
   not_only = λ h. let e : ◌≡◌ {A = ℕ} 49 48 = h.one 1 48 49 refl refl in omega (arith, e);
   put = numbers_put rows_bytes rows_bounded;
@@ -62,7 +61,7 @@ values_told = record {
   last_line =
       derived_value (fold_of rows_bytes) (numbers_of rows_bytes) (grammar_of rows_bytes) (only rows_bytes.letters)
       Given given_parts (bytes_only rows_bytes rows_readable)
-      (are_made rows_bytes rows_bounded rows_numbers rows_readable RowsValue own_parts rows_made) 8
+      (are_made rows_bytes rows_bounded rows_numbers rows_readable RowsValue own_parts rows_made) 9
       (rows_derived [] tt);
   no_line = no_line;
   derived = rows_derived two_rows two_numbered;

@@ -3,7 +3,7 @@ use Rattle.std.specs.Prelude.{◌≡◌, ℕ, zero, suc, ◌≤◌, ◌-◌, ℤ
 use Rattle.std.specs.Str.Parse.{AllDigits, digits_value_after}
 use Rattle.text_grammar.specs.Grammars.{alternatives}
 use Rattle.text_grammar.specs.Parts.{Part, Puts, AllMake}
-use Rattle.text_grammar.specs.ByteTexts.{Numbered, Value, Natural, Line, says, values_parts, ByteText, only}
+use Rattle.text_grammar.specs.ByteTexts.{Numbered, Value, Natural, Signed, Line, says, values_parts, ByteText, only}
 use Rattle.text_grammar.specs.ByteTexts.{fold_of, numbers_of, grammar_of}
 
 -- digits
@@ -30,8 +30,8 @@ abbrev pub number_of : Plain → ℕ
 number_of v = digits_value_after 10 (v.first - 48) v.others
 
 module _ (W : ℕ → Type 0) (own : (n : ℕ) → W n → List (Part ℕ Numbered)) where
-  -- what the nonterminals stand for: the text, numbers, lines of values and what is left of them, and then the others
-  -- of the text's own
+  -- what the nonterminals stand for: the text, numbers, lines of values and what is left of them, signed numbers, and
+  -- then the others of the text's own
   abbrev pub ValueOf : ℕ → Type 0
   ValueOf zero = W 0
   ValueOf (suc zero) = ℤ
@@ -41,7 +41,8 @@ module _ (W : ℕ → Type 0) (own : (n : ℕ) → W n → List (Part ℕ Number
   ValueOf (suc (suc (suc (suc (suc zero))))) = Digits
   ValueOf (suc (suc (suc (suc (suc (suc zero)))))) = List ℤ
   ValueOf (suc (suc (suc (suc (suc (suc (suc zero))))))) = List ℤ
-  ValueOf (suc (suc (suc (suc (suc (suc (suc (suc n)))))))) = W (suc n)
+  ValueOf (suc (suc (suc (suc (suc (suc (suc (suc zero)))))))) = ℤ
+  ValueOf (suc (suc (suc (suc (suc (suc (suc (suc (suc n))))))))) = W (suc n)
 
   abbrev pub parts_of : (n : ℕ) → ValueOf n → List (Part ℕ Numbered)
   parts_of zero w = own 0 w
@@ -52,7 +53,8 @@ module _ (W : ℕ → Type 0) (own : (n : ℕ) → W n → List (Part ℕ Number
   parts_of (suc (suc (suc (suc (suc zero))))) d = says d.bytes []
   parts_of (suc (suc (suc (suc (suc (suc zero)))))) vs = Puts (Line vs) ∷ []
   parts_of (suc (suc (suc (suc (suc (suc (suc zero))))))) vs = values_parts vs
-  parts_of (suc (suc (suc (suc (suc (suc (suc (suc n)))))))) w = own (suc n) w
+  parts_of (suc (suc (suc (suc (suc (suc (suc (suc zero)))))))) z = Puts (Signed z) ∷ []
+  parts_of (suc (suc (suc (suc (suc (suc (suc (suc (suc n))))))))) w = own (suc n) w
 
 module _ {S T K : Type 0} (x : ByteText S T K) (W : ℕ → Type 0) (own : (n : ℕ) → W n → List (Part ℕ Numbered)) where
   -- the alternatives of the text's own nonterminals are made of their values
@@ -60,5 +62,5 @@ module _ {S T K : Type 0} (x : ByteText S T K) (W : ℕ → Type 0) (own : (n : 
     pub text : AllMake (fold_of x) (numbers_of x) (grammar_of x) (only x.letters) (ValueOf W own) (parts_of W own) 0
         (alternatives x.rules 0)
     pub others : (n : ℕ) → AllMake (fold_of x) (numbers_of x) (grammar_of x) (only x.letters) (ValueOf W own)
-        (parts_of W own) (suc (suc (suc (suc (suc (suc (suc (suc n))))))))
-        (alternatives x.rules (suc (suc (suc (suc (suc (suc (suc (suc n)))))))))
+        (parts_of W own) (suc (suc (suc (suc (suc (suc (suc (suc (suc n)))))))))
+        (alternatives x.rules (suc (suc (suc (suc (suc (suc (suc (suc (suc n))))))))))

@@ -1,7 +1,8 @@
 -- Texts whose pieces are single bytes, with decimal numbers in them.
 use Rattle.std.specs.Prelude.{◌≡◌, ℕ, zero, suc, ◌+◌, ◌*◌, ◌-◌, ◌^◌, ◌<◌, ◌≤◌, min, Bool, true, false, ◌==◌, nat_lt}
 use Rattle.std.specs.Prelude.{if◌then◌else◌, ⊤}
-use Rattle.std.specs.Prelude.{ℤ, pos, neg_ℤ, unsigned_abs, List, [], ◌∷◌, ◌++◌, length, Option, Some, None, slice_get}
+use Rattle.std.specs.Prelude.{ℤ, pos, negsuc, neg_ℤ, unsigned_abs, List, [], ◌∷◌, ◌++◌, length, Option, Some, None}
+use Rattle.std.specs.Prelude.{slice_get}
 use Rattle.std.specs.Char.{is_ascii_digit}
 use Rattle.std.specs.Fmt.{decimal, signed_decimal}
 use Rattle.std.proofs.Common.{lit<, arith}
@@ -9,9 +10,10 @@ use Rattle.text_core.specs.Choices.{when}
 use Rattle.text_core.specs.Tokens.{Token, Lexeme, Lexer, LexesWithin}
 use Rattle.text_grammar.specs.declared.symbol.Symbol.{Symbol}
 use Rattle.text_grammar.specs.declared.symbol.Symbol.TheVariants.{Piece, Made, Mark}
-use Rattle.text_grammar.specs.declared.cut.OneMode.{OneMode}
-use Rattle.text_grammar.specs.declared.numeral.Within.{Within}
-use Rattle.text_grammar.specs.declared.numeral.Within.TheVariants.{Words, Natural as InNatural, Line as InLine}
+use Rattle.text_grammar.specs.declared.token_stream.OneMode.{OneMode}
+use Rattle.text_grammar.specs.declared.numeral.NumberContext.{NumberContext}
+use Rattle.text_grammar.specs.declared.numeral.NumberContext.TheVariants.{Words, Natural as InNatural, Signed as InSigned}
+use Rattle.text_grammar.specs.declared.numeral.NumberContext.TheVariants.{Line as InLine}
 use Rattle.text_grammar.specs.Grammars.{Grammar, Event, Read, Did, alternatives}
 use Rattle.text_grammar.specs.Marks.{lexer_of, tokens_of}
 use Rattle.text_grammar.specs.Texts.{Text}
@@ -93,6 +95,10 @@ line_rule = (Mark 4 ∷ Made 7 ∷ []) ∷ []
 abbrev pub values_rule : List (List Symbol)
 values_rule = (Piece 4 ∷ Made 1 ∷ Made 7 ∷ []) ∷ (Piece 5 ∷ Mark 5 ∷ []) ∷ []
 
+-- and that of a number with a sign that comes to the text by itself
+abbrev pub signed_rule : List (List Symbol)
+signed_rule = (Mark 6 ∷ Piece 3 ∷ Made 4 ∷ Mark 7 ∷ []) ∷ (Mark 6 ∷ Made 3 ∷ Mark 7 ∷ []) ∷ []
+
 -- they stand behind that of the text
 pub record HasNumbers (rules : List (List (List Symbol))) : Type 0 where
   pub value : alternatives rules 1 ≡ value_rule
@@ -102,6 +108,7 @@ pub record HasNumbers (rules : List (List (List Symbol))) : Type 0 where
   pub digits : alternatives rules 5 ≡ digits_rule
   pub line : alternatives rules 6 ≡ line_rule
   pub values : alternatives rules 7 ≡ values_rule
+  pub signed : alternatives rules 8 ≡ signed_rule
 
 -- the number that is being spelled: its sign, its value up to 2^64, and how many bytes of it have been read, up to
 -- 2^64-1
@@ -125,8 +132,11 @@ with_byte b m =
     else fresh
 
 -- a number with its sign
+abbrev pub with_sign : Bool → ℕ → ℤ
+with_sign negative n = if negative then neg_ℤ (pos n) else pos n
+
 abbrev pub signed : Numeral → ℤ
-signed m = if m.negative then neg_ℤ (pos m.number) else pos m.number
+signed m = with_sign m.negative m.number
 
 -- a value is at most so large, in absolute value
 abbrev pub line_value_limit : ℕ
@@ -148,18 +158,21 @@ line_text [] = 10 ∷ []
 line_text (v ∷ vs) = 32 ∷ (signed_decimal v ++ line_text vs)
 
 -- a text in bytes: the letters of its words, its rules and the rounds of its table; what is remembered of it, which
--- natural numbers, lines of values and marks change; what stands against a natural number at its first byte, against a
--- line of so many values at its line feed, and against another byte; the tree at the end; and kinds, of which one is
--- that of a byte that can't follow and one that of a value that is too large
+-- natural numbers, signed numbers, lines of values and marks change; what stands against a natural number and against
+-- a signed number at its first byte, against a line of so many values at its line feed, and against another byte; the
+-- tree at the end; and kinds, of which one is that of a byte that can't follow and one that of a value that is too
+-- large
 pub record ByteText (S T K : Type 0) : Type 0 where
   pub letters : List ℕ
   pub rules : List (List (List Symbol))
   pub rounds : ℕ
   pub begun : S
   pub natural : ℕ → S → S
+  pub signed : ℤ → S → S
   pub line : List ℤ → S → S
   pub done : ℕ → S → S
   pub against_natural : S → ℕ → Option K
+  pub against_signed : S → ℤ → Option K
   pub against_line : S → ℕ → Option K
   pub against_byte : S → ℕ → Option K
   pub tree : S → T
@@ -171,13 +184,14 @@ pub record ByteText (S T K : Type 0) : Type 0 where
 pub record Spelling (S : Type 0) : Type 0 where
   pub own : S
   pub numeral : Numeral
-  pub within : Within
+  pub within : NumberContext
   pub values : List ℤ
 
--- what is put is a value, a natural number or a line of values
+-- what is put is a value, a natural number, a signed number or a line of values
 pub data Numbered : Type 0 where
   Value : ℤ → Numbered
   Natural : ℕ → Numbered
+  Signed : ℤ → Numbered
   Line : List ℤ → Numbered
 
 -- the events of bytes
@@ -207,16 +221,18 @@ values_events (v ∷ vs) = Read 32 ∷ (value_events v ++ values_events vs)
 abbrev pub number_events : Numbered → List (Event ℕ)
 number_events (Value z) = value_events z
 number_events (Natural n) = Did 3 ∷ (reads (decimal n) ++ Did 2 ∷ [])
+number_events (Signed z) = Did 6 ∷ (reads (signed_decimal z) ++ Did 7 ∷ [])
 number_events (Line vs) = Did 4 ∷ values_events vs
 
 abbrev pub number_text : Numbered → List ℕ
 number_text (Value z) = signed_decimal z
 number_text (Natural n) = decimal n
+number_text (Signed z) = signed_decimal z
 number_text (Line vs) = line_text vs
 
 module _ {S T K : Type 0} (x : ByteText S T K) where
-  -- a value begins at mark 0 and ends at mark 1, a natural number at marks 3 and 2, and a line of values at marks 4 and
-  -- 5; other marks are the text's own
+  -- a value begins at mark 0 and ends at mark 1, a natural number at marks 3 and 2, a line of values at marks 4 and 5,
+  -- and a signed number at marks 6 and 7; other marks are the text's own
   abbrev pub done_mark : ℕ → Spelling S → Spelling S
   done_mark m s =
       if m == 0 then record s { numeral = fresh }
@@ -225,24 +241,29 @@ module _ {S T K : Type 0} (x : ByteText S T K) where
       else if m == 3 then record s { numeral = fresh; within = InNatural }
       else if m == 4 then record s { numeral = fresh; within = InLine; values = [] }
       else if m == 5 then record { own = x.line s.values s.own; numeral = fresh; within = Words; values = [] }
+      else if m == 6 then record s { numeral = fresh; within = InSigned }
+      else if m == 7 then record s { own = x.signed (signed s.numeral) s.own; numeral = fresh; within = Words }
       else record s { own = x.done m s.own }
 
-  -- what stands against a number: against a natural one, or against a value that is too large
-  abbrev pub against_in : Within → S → ℕ → Option K
-  against_in InNatural s n = x.against_natural s n
-  against_in InLine s n = when (nat_lt line_value_limit n) x.too_large
-  against_in Words s n = when (nat_lt line_value_limit n) x.too_large
+  -- what stands against a number: against a natural one, against a signed one with its sign, or against a value that is
+  -- too large
+  abbrev pub against_in : NumberContext → S → Bool → ℕ → Option K
+  against_in InNatural s negative n = x.against_natural s n
+  against_in InSigned s negative n = x.against_signed s (with_sign negative n)
+  against_in InLine s negative n = when (nat_lt line_value_limit n) x.too_large
+  against_in Words s negative n = when (nat_lt line_value_limit n) x.too_large
 
   abbrev pub against_number : Spelling S → ℕ → Option K
-  against_number s n = against_in s.within s.own n
+  against_number s n = against_in s.within s.own s.numeral.negative n
 
   -- what stands against a line feed: against the line that it ends, or against the byte
-  abbrev pub against_feed : Within → S → ℕ → Option K
+  abbrev pub against_feed : NumberContext → S → ℕ → Option K
   against_feed InLine s n = x.against_line s n
   against_feed InNatural s n = x.against_byte s 10
+  against_feed InSigned s n = x.against_byte s 10
   against_feed Words s n = x.against_byte s 10
 
-  abbrev pub against_other : Within → S → ℕ → ℕ → Option K
+  abbrev pub against_other : NumberContext → S → ℕ → ℕ → Option K
   against_other w s n b = if b == 10 then against_feed w s n else x.against_byte s b
 
   -- what stands against a byte: against a number with one digit more, a line, or another byte
@@ -272,26 +293,44 @@ module _ {S T K : Type 0} (x : ByteText S T K) where
   abbrev pub texts_of : Text ℕ T K
   texts_of = folded fold_of grammar_of
 
-  -- when nothing stands against what is put: a value is small, nothing stands against a natural number, and the values
-  -- of a line are small and as many as they may be
+  -- nothing stands against the `-` of a number, where it has one
+  abbrev pub MinusStands : S → ℤ → Type 0
+  MinusStands s (pos n) = ⊤
+  MinusStands s (negsuc n) = x.against_byte s 45 ≡ None
+
+  -- nor against the blank and the `-` of each value of a line
+  abbrev pub BytesStand : S → List ℤ → Type 0
+  BytesStand s [] = ⊤
+  BytesStand s (v ∷ vs) = (x.against_byte s 32 ≡ None) × MinusStands s v × BytesStand s vs
+
+  -- what stands against a value within what it is spelled, behind its `-`
+  abbrev pub against_value : Spelling S → ℤ → Option K
+  against_value s (pos n) = against_in s.within s.own false n
+  against_value s (negsuc n) = against_in s.within s.own true (suc n)
+
+  -- when nothing stands against what is put: a value is small, nothing stands against a natural or a signed number, and
+  -- the values of a line are small and as many as they may be; nor against any `-` or blank in them
   abbrev pub NumberStands : Spelling S → Numbered → Type 0
-  NumberStands s (Value z) = against_number s (unsigned_abs z) ≡ None
+  NumberStands s (Value z) = MinusStands s.own z × (against_value s z ≡ None)
   NumberStands s (Natural n) = x.against_natural s.own n ≡ None
-  NumberStands s (Line vs) = AreSmall vs × (x.against_line s.own (length vs) ≡ None)
+  NumberStands s (Signed z) = MinusStands s.own z × (x.against_signed s.own z ≡ None)
+  NumberStands s (Line vs) = AreSmall vs × BytesStand s.own vs × (x.against_line s.own (length vs) ≡ None)
 
   -- what it does
   abbrev pub put_number : Numbered → Spelling S → Spelling S
   put_number (Value z) s = record s { numeral = fresh; values = s.values ++ z ∷ [] }
   put_number (Natural n) s = record s { own = x.natural n s.own; numeral = fresh; within = Words }
+  put_number (Signed z) s = record s { own = x.signed z s.own; numeral = fresh; within = Words }
   put_number (Line vs) s = record { own = x.line vs s.own; numeral = fresh; within = Words; values = [] }
 
   abbrev pub numbers_of : Wholes ℕ (Spelling S) Numbered
   numbers_of = record { events = number_events; text = number_text; Fine = NumberStands; put = put_number }
 
-  -- a natural number against which nothing stands is below 2^64, and nothing stands against lesser ones from 1 on, nor
-  -- against `-` and a blank
+  -- a natural number against which nothing stands is below 2^64, and nothing stands against lesser ones from 1 on; so
+  -- it is with signed numbers in absolute value, those of each sign by themselves
   pub record IsBounded : Type 0 where
     pub small : (s : S) (n : ℕ) → x.against_natural s n ≡ None → n < 2 ^ 64
     pub below : (s : S) (m n : ℕ) → 1 ≤ m → m ≤ n → x.against_natural s n ≡ None → x.against_natural s m ≡ None
-    pub minus : (s : S) → x.against_byte s 45 ≡ None
-    pub blank : (s : S) → x.against_byte s 32 ≡ None
+    pub small_signed : (s : S) (negative : Bool) (n : ℕ) → x.against_signed s (with_sign negative n) ≡ None → n < 2 ^ 64
+    pub below_signed : (s : S) (negative : Bool) (m n : ℕ) → 1 ≤ m → m ≤ n
+        → x.against_signed s (with_sign negative n) ≡ None → x.against_signed s (with_sign negative m) ≡ None

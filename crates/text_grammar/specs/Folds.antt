@@ -1,12 +1,13 @@
--- Texts whose events are folded one by one, with one refusal at most against each token.
+-- Texts whose events are folded one by one, with at most one fault for each token.
 use Rattle.std.specs.Prelude.{◌≡◌, ℕ, List, [], ◌∷◌, Option, Some, None, ⊤}
 use Rattle.text_core.specs.Tokens.{Token}
 use Rattle.text_core.specs.Readers.{Fault, onto}
 use Rattle.text_grammar.specs.Grammars.{Grammar, Event, Read, Did}
 use Rattle.text_grammar.specs.Texts.{Text}
 
--- what is remembered of events: before the first one, behind a piece, behind a mark; the kind of what stands against a
--- piece that can follow, and where that stands; the floor; the tree at the end; and kinds
+-- a fold over events: its state before the first event, behind a piece and behind a mark; the kind and the position of
+-- the fault of a piece that can follow; the floor (no later fault is before it); the tree at the end; and the order of
+-- kinds
 pub record Fold (P S T K : Type 0) : Type 0 where
   pub begun : S
   pub read : P → S → S
@@ -47,7 +48,7 @@ module _ {P S T K : Type 0} (f : Fold P S T K) where
   after s (Did m ∷ es) = after (f.done m s) es
   after s (Read p ∷ es) = after (f.read p s) es
 
-  -- nothing stands against the pieces of events from a state on
+  -- the pieces of events have no fault, from a state on
   abbrev pub Passes : S → List (Event P) → Type 0
   Passes s [] = ⊤
   Passes s (Did m ∷ es) = Passes (f.done m s) es

@@ -1,11 +1,11 @@
--- What one token comes to, and what reading a text says.
+-- The effect of one token, and the meaning of the result of reading.
 use Rattle.std.specs.Prelude.{◌≡◌, List, ◌∷◌, Option, Some, None, Result, Ok, Err, ⊤}
 use Rattle.text_core.specs.Tokens.{Token}
 use Rattle.text_core.specs.Readers.{Fault}
 use Rattle.text_core.specs.Reading.{Answer, Stands, Refused, first_of}
 use Rattle.text_grammar.specs.declared.symbol.Symbol.{Symbol}
-use Rattle.text_grammar.specs.declared.reading.Followed as code
-use Rattle.text_grammar.specs.declared.reading.Followed.TheVariants.{Led, Off}
+use Rattle.text_grammar.specs.declared.reading.Advance as code
+use Rattle.text_grammar.specs.declared.reading.Advance.TheVariants.{Led, Off}
 use Rattle.text_grammar.specs.declared.token.Refusal as code_refusal
 use Rattle.text_grammar.specs.declared.token.Refusal.TheVariants.{Refuses, Memory}
 use Rattle.text_grammar.specs.Grammars.{Event, Read}
@@ -20,9 +20,9 @@ module _ {P T K : Type 0} (x : Text P T K) where
   first_of_two (Some a) None = Some a
   first_of_two (Some a) (Some b) = Some (first_of (reader x) (Some a) b)
 
-  -- a token comes to this, by the lead at it: it is read behind its marks, symbols are expected then, and the first of
-  -- what stands against it is told; or it can't follow
-  abbrev pub Follows : (List (Event P) → Type 0) → List (Event P) → Token P → Lead → List Symbol → code.Followed K
+  -- what a token with this lead does: it is read after its marks, the rest of the symbols is expected then, and the
+  -- first fault of the token is reported; or it can't follow
+  abbrev pub Follows : (List (Event P) → Type 0) → List (Event P) → Token P → Lead → List Symbol → code.Advance K
       → Type 0
   Follows Knows es t (Matches ms rest) expected (Led shown) =
       (expected ≡ rest) × Knows (Read t.piece ∷ did es ms)

@@ -1,4 +1,4 @@
--- Grammars as data, and what they derive.
+-- Grammars as data, and the texts that they derive.
 use Rattle.std.specs.Prelude.{ℕ, List, [], ◌∷◌, ◌++◌, slice_index_or}
 use Rattle.text_core.specs.Faults.{Among}
 use Rattle.text_grammar.specs.declared.symbol.Symbol.{Symbol}
@@ -45,6 +45,6 @@ rules_behind bodies body (AMark m ∷ items) = rules_behind bodies (body ++ Mark
 rules_behind bodies body (Or ∷ items) = rules_behind (bodies ++ body ∷ []) [] items
 rules_behind bodies body (End ∷ items) = (bodies ++ body ∷ []) ∷ rules_behind [] [] items
 
--- the rules that items spell: `Or` stands between alternatives, and `End` behind each rule
+-- the rules that items spell: `Or` separates alternatives, and `End` closes each rule
 abbrev pub rules_of : List Item → List (List (List Symbol))
 rules_of items = rules_behind [] [] items

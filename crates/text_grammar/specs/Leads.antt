@@ -1,4 +1,4 @@
--- What symbols lead to at a class of pieces, and tables of it.
+-- What symbols lead to at a class of pieces (the entries of an LL(1) table).
 use Rattle.std.specs.Prelude.{ℕ, zero, suc, ◌==◌, if◌then◌else◌, List, [], ◌∷◌, ◌++◌, map, slice_index_or}
 use Rattle.text_grammar.specs.declared.symbol.Symbol.{Symbol}
 use Rattle.text_grammar.specs.declared.symbol.Symbol.TheVariants.{Piece, Made, Mark}

@@ -15,6 +15,8 @@ pub mod Views
 pub mod Tabled
 pub mod SmallRows
 pub mod WorkedRows
+pub mod SmallSigns
+pub mod WorkedSigns
 pub mod WorkedValues
 pub mod Worked
 pub mod Marks

@@ -2,9 +2,9 @@
 use Rattle.std.specs.Prelude.{ℕ, List, Option, Some, None}
 use Rattle.text_core.specs.Tokens.{Token, Lexeme, Lexer, tokens_in}
 use Rattle.text_core.specs.Readers.{Fault}
-use Rattle.text_grammar.specs.declared.cut.Lexeme as code_lexeme
-use Rattle.text_grammar.specs.declared.cut.OneMode.{OneMode}
-use Rattle.text_grammar.specs.declared.cut.OneMode.TheVariants.{Plain}
+use Rattle.text_grammar.specs.declared.token_stream.Lexeme as code_lexeme
+use Rattle.text_grammar.specs.declared.token_stream.OneMode.{OneMode}
+use Rattle.text_grammar.specs.declared.token_stream.OneMode.TheVariants.{Plain}
 use Rattle.text_grammar.specs.declared.token.Token as code_token
 use Rattle.text_grammar.specs.declared.token.Fault as code_fault
 

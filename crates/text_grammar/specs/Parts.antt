@@ -1,17 +1,19 @@
--- What a text is made of: pieces, marks, and what is spelled by events of its own, as numbers are.
+-- The parts of a printed text: pieces, marks, and values that are written by events of their own, as numbers are.
 use Rattle.std.specs.Prelude.{◌≡◌, ℕ, List, [], ◌∷◌, ◌++◌, Option, Some, None, ⊤}
 use Rattle.text_grammar.specs.declared.symbol.Symbol.{Symbol}
 use Rattle.text_grammar.specs.declared.symbol.Symbol.TheVariants.{Piece, Made, Mark}
 use Rattle.text_grammar.specs.Grammars.{Grammar, Event, Read, Did, Derives, alternatives}
 use Rattle.text_grammar.specs.Folds.{Fold, after, Passes}
 
--- a piece is said, what a mark stands for is done, or something is put that events of its own spell
+-- a part of a printed text: a piece that is written, a mark whose effect is done, or a value that is written as a whole
+-- by events of its own
 pub data Part (P A : Type 0) : Type 0 where
   Says : P → Part P A
   Does : ℕ → Part P A
   Puts : A → Part P A
 
--- what can be put as a whole: the events and the pieces that spell it, when nothing stands against it, and what it does
+-- the values that can be written as a whole: the events and the pieces that spell one, when it has no fault, and its
+-- effect on the state
 pub record Wholes (P S A : Type 0) : Type 1 where
   pub events : A → List (Event P)
   pub text : A → List P
@@ -39,7 +41,7 @@ module _ {P S T K A : Type 0} (f : Fold P S T K) (a : Wholes P S A) where
   come s (Does m ∷ xs) = come (f.done m s) xs
   come s (Puts z ∷ xs) = come (a.put z s) xs
 
-  -- nothing stands against parts from a state on
+  -- parts have no fault, from a state on
   abbrev pub Stand : S → List (Part P A) → Type 0
   Stand s [] = ⊤
   Stand s (Says p ∷ xs) = (f.against s p ≡ None) × Stand (f.read p s) xs
@@ -86,7 +88,7 @@ module _ {P : Type 0} (g : Grammar P) (only : ℕ → Option P) where
     pub its : (c : ℕ) (p : P) → only c ≡ Some p → g.class_of p ≡ c
 
 module _ {P S T K A : Type 0} (f : Fold P S T K) (a : Wholes P S A) where
-  -- what can be put is put by its events, where nothing stands against it
+  -- a value that can be written as a whole is written by its events, where it has no fault
   pub record IsPut : Type 0 where
     pub each : (s : S) (z : A) → a.Fine s z → Passes f s (a.events z) × (after f s (a.events z) ≡ a.put z s)
 
@@ -106,7 +108,7 @@ module _ {P S T K A : Type 0} (f : Fold P S T K) (a : Wholes P S A) where
     AllGive n [] = ⊤
     AllGive n (body ∷ bodies) = Gives n body × AllGive n bodies
 
-    -- so it is with each alternative
+    -- the same for each alternative
     pub record AreMade : Type 0 where
       pub each : (n : ℕ) → AllGive n (alternatives g.rules n)
 

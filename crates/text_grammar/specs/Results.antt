@@ -9,7 +9,7 @@ use Rattle.text_grammar.specs.declared.token.Refusal.{Refusal}
 use Rattle.text_grammar.specs.declared.token.Refusal.TheVariants.{Refuses, Memory}
 use Rattle.text_grammar.specs.Marks.{refusal_of}
 
--- the refusal that reading tells, which is none where memory ran out
+-- the refusal that reading reports: none where memory ran out
 abbrev pub refused_in : {K : Type 0} → Refusal K → Option (Fault K)
 refused_in (Refuses y) = Some (refusal_of y)
 refused_in Memory = None

@@ -1,7 +1,7 @@
 -- A small text in single bytes, whole, with a use for each part of such a text: rows, each behind the word `row` with a
 -- number and so many values, and a last line `end`.
 use Rattle.std.specs.Prelude.{◌≡◌, ◌≤◌, ℕ, zero, suc, Bool, not, ◌||◌, ◌==◌, nat_lt, nat_le, if◌then◌else◌, List, []}
-use Rattle.std.specs.Prelude.{◌∷◌, ◌++◌, codes, length, ℤ, None, ⊤}
+use Rattle.std.specs.Prelude.{◌∷◌, ◌++◌, codes, length, ℤ, Some, None, ⊤}
 use Rattle.std.specs.Fmt.{decimal}
 use Rattle.text_core.specs.Choices.{when}
 use Rattle.text_core.specs.Reading.{Answer, Stands, answer}
@@ -11,6 +11,7 @@ use Rattle.text_grammar.specs.Parts.{Part, Says, Does, Puts}
 use Rattle.text_grammar.specs.Texts.{reader}
 use Rattle.text_grammar.specs.ByteTexts.{ByteText, Numbered, Natural, Line, says, tokens, texts_of, value_rule}
 use Rattle.text_grammar.specs.ByteTexts.{natural_rule, number_rule, positive_rule, digits_rule, line_rule, values_rule}
+use Rattle.text_grammar.specs.ByteTexts.{signed_rule}
 use Rattle.text_grammar.specs.ByteTexts.{line_text, AreSmall}
 
 -- a number and values
@@ -21,12 +22,12 @@ pub record Row : Type 0 where
 abbrev pub Rows : Type 0
 Rows = List Row
 
--- text = rows; the rules of numbers, and these of lines of values; rows = "row " natural line, mark 6, rows | "end" and
--- a line feed
+-- text = rows; the rules of numbers, and these of lines of values; rows = "row " natural line, mark 8, rows | "end" and
+-- a line feed. No signed number stands in it
 abbrev pub rules_with : List (List Symbol) → List (List Symbol) → List (List (List Symbol))
 rules_with line values =
-    ((Made 8 ∷ []) ∷ []) ∷ value_rule ∷ natural_rule ∷ number_rule ∷ positive_rule ∷ digits_rule ∷ line ∷ values
-    ∷ ((Piece 6 ∷ Piece 7 ∷ Piece 8 ∷ Piece 4 ∷ Made 2 ∷ Made 6 ∷ Mark 6 ∷ Made 8 ∷ [])
+    ((Made 9 ∷ []) ∷ []) ∷ value_rule ∷ natural_rule ∷ number_rule ∷ positive_rule ∷ digits_rule ∷ line ∷ values
+    ∷ signed_rule ∷ ((Piece 6 ∷ Piece 7 ∷ Piece 8 ∷ Piece 4 ∷ Made 2 ∷ Made 6 ∷ Mark 8 ∷ Made 9 ∷ [])
     ∷ (Piece 9 ∷ Piece 10 ∷ Piece 11 ∷ Piece 5 ∷ []) ∷ []) ∷ []
 
 -- the rows so far, and the number and the values that have been read of the next one
@@ -52,9 +53,11 @@ rows_bytes = record {
   rounds = 9;
   begun = record { rows = []; number = 0; values = [] };
   natural = λ n s. record s { number = n };
+  signed = λ z s. s;
   line = λ vs s. record s { values = vs };
-  done = λ m s. if m == 6 then with_row s else s;
+  done = λ m s. if m == 8 then with_row s else s;
   against_natural = λ s n. when (is_no_number n) 3;
+  against_signed = λ s z. Some 1;
   against_line = λ s n. when (not (n == s.number)) 4;
   against_byte = λ s b. if b == 114 then when (nat_le 3 (length s.rows)) 5 else None;
   tree = λ s. s.rows;
@@ -102,7 +105,7 @@ RowsValue (suc (suc n)) = ⊥
 
 abbrev pub rows_parts : Rows → List (Part ℕ Numbered)
 rows_parts [] = says (codes "end") (Says 10 ∷ [])
-rows_parts (r ∷ rs) = says (codes "row ") (Puts (Natural r.number) ∷ Puts (Line r.values) ∷ Does 6 ∷ rows_parts rs)
+rows_parts (r ∷ rs) = says (codes "row ") (Puts (Natural r.number) ∷ Puts (Line r.values) ∷ Does 8 ∷ rows_parts rs)
 
 abbrev pub own_parts : (n : ℕ) → RowsValue n → List (Part ℕ Numbered)
 own_parts zero rows = rows_parts rows

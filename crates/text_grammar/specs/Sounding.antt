@@ -1,4 +1,4 @@
--- Whether a grammar can be read from front to back with one piece ahead.
+-- The test whether a grammar can be read from front to back with one piece of lookahead.
 use Rattle.std.specs.Prelude.{ℕ, zero, suc, Bool, true, false, not, ◌&&◌, ◌||◌, ◌==◌, nat_lt, List, [], ◌∷◌, map}
 use Rattle.std.specs.Prelude.{slice_index_or}
 use Rattle.std.specs.List.{list_all, list_any}

@@ -5,7 +5,7 @@ use Rattle.text_grammar.specs.declared.symbol.Symbol.TheVariants.{Piece, Made, M
 use Rattle.text_grammar.specs.declared.symbol.Item.{Item}
 use Rattle.text_grammar.specs.declared.symbol.Item.TheVariants.{APiece, AMade, AMark, Or, End}
 
--- the body that items begin with: all that stands before the first `Or` or `End`, or all where there is none
+-- the body that items begin with: all items before the first `Or` or `End`, or all where there is none
 abbrev pub body_of : List Item → List Symbol
 body_of [] = []
 body_of (APiece c ∷ items) = Piece c ∷ body_of items

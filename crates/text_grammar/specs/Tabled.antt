@@ -1,4 +1,4 @@
--- Which grammar a table is of, and what of it is kept.
+-- Which grammar a table belongs to, and which of its entries are stored.
 use Rattle.std.specs.Prelude.{◌≡◌, ◌≢◌, ℕ, ◌+◌, ◌⊎◌, List, [], map, length, slice_index_or}
 use Rattle.text_grammar.specs.declared.symbol.Symbol.{Symbol}
 use Rattle.text_grammar.specs.declared.tables.Tables.{Tables}

@@ -1,4 +1,4 @@
--- Texts of a grammar: what their events stand for, what stands against them, and how they are read.
+-- Texts of a grammar: the trees of their events, the faults of their tokens, and how they are read.
 use Rattle.std.specs.Prelude.{◌≡◌, ℕ, ◌≤◌, ◌<◌, IsTrue, List, [], ◌∷◌, Option, Some, None, ⊤}
 use Rattle.text_core.specs.Tokens.{Token}
 use Rattle.text_core.specs.Readers.{Fault, Reader, onto}
@@ -15,7 +15,7 @@ pub record Text (P T K : Type 0) : Type 0 where
   pub grammar : Grammar P
   -- the tree that events stand for
   pub value : List (Event P) → T
-  -- what stands against a token that can follow, behind events, the last one first
+  -- the faults of a token that can follow, behind events, the last one first
   pub faults : List (Event P) → Token P → List (Fault K)
   -- behind events, the last one first, nothing is shown any more before this position, where the next token is at that
   pub floor : List (Event P) → ℕ → ℕ
@@ -61,7 +61,7 @@ module _ {P T K : Type 0} (x : Text P T K) where
   ended_by es (Matches ms rest) = None
   ended_by es Stuck = None
 
-  -- what stands against a token, by what it leads to
+  -- the faults of a token, by its lead
   abbrev pub shown_by : List (Event P) → Token P → Lead → List (Fault K)
   shown_by es t (Matches ms rest) = x.faults (did es ms) t
   shown_by es t (Passes ms) = []
@@ -100,7 +100,7 @@ module _ {P T K : Type 0} (x : Text P T K) where
     pub floor_read : (es : List (Event P)) (t : Token P) (at : ℕ) → t.at < t.upto → t.upto ≤ at
         → x.floor es t.at ≤ x.floor (Read t.piece ∷ es) at
 
-  -- nothing stands against the tokens of events, behind others, the last one first
+  -- the tokens of events have no fault, behind other events, the last one first
   abbrev pub IsSilent : List (Event P) → List (Event P) → List (Token P) → Type 0
   IsSilent before [] ts = ⊤
   IsSilent before (Did m ∷ es) ts = IsSilent (Did m ∷ before) es ts

@@ -1,4 +1,4 @@
--- What the types of the code are as plain data.
+-- The types of the code as plain data.
 use Rattle.std.specs.Prelude.{ℕ, List, [], map}
 use Rattle.std.specs.Prelude.{Option, Some, None}
 use Rattle.std.specs.Borrow.{Bor}
@@ -22,7 +22,7 @@ lead_of an.Stuck = Stuck
 abbrev pub leads_of : List code.Entry → List Lead
 leads_of entries = map lead_of entries
 
--- the lead that a meeting came to, with the marks that were noted and the stack that is left
+-- the lead that meeting the stack gave, with the marks that were passed and the stack that is left
 abbrev pub met : Meeting → List ℕ → List Symbol → Lead
 met Matched ms stack = Matches ms (onto stack [])
 met Passed ms stack = Passes ms

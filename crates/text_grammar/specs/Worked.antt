@@ -1,4 +1,4 @@
--- Which small grammars can be read, worked out by hand on both sides, and what texts of one of them come to.
+-- Worked values of which small grammars can be read, and of the answers to texts of one of them.
 use Rattle.std.specs.Prelude.{◌≡◌, ℕ, ◌+◌, ◌==◌, ◌&&◌, if◌then◌else◌, true, false, List, [], ◌∷◌, length, Option}
 use Rattle.std.specs.Prelude.{Some, None}
 use Rattle.text_core.specs.Laws.{Laws, AnswersAll, OneTree, OneFirst}
@@ -14,8 +14,9 @@ use Rattle.text_grammar.specs.Texts.{Text, Writes, reader}
 use Rattle.text_grammar.specs.Silence.{StandsWhereSilent, ShownWhereDerived}
 use Rattle.text_grammar.specs.ByteTexts.{tokens}
 use Rattle.text_grammar.specs.SmallRows.{RowsAreRead}
-use Rattle.text_grammar.specs.WorkedRows.{NumeralsAreTold, PartsAreTold, ByteTextsAreTold}
-use Rattle.text_grammar.specs.WorkedValues.{ValuesAreTold}
+use Rattle.text_grammar.specs.WorkedRows.{NumeralsAreWorkedOut, PartsAreWorked, ByteTextsAreWorkedOut}
+use Rattle.text_grammar.specs.WorkedSigns.{SignsAreTold}
+use Rattle.text_grammar.specs.WorkedValues.{ValuesAreWorkedOut}
 
 -- pieces 0 and 1, and all others as 2
 abbrev pub class_of : ℕ → ℕ
@@ -43,11 +44,11 @@ chain rounds = record (grammar_with (((Made 1 ∷ []) ∷ []) ∷ ((Made 2 ∷ [
 }
 
 -- which grammars can be read
-pub record GrammarsAreTold : Type 0 where
+pub record GrammarsAreWorkedOut : Type 0 where
   pub brackets_can : is_readable brackets ≡ true
   -- a row of 0 with 1 between: text = 0 more; more = 1 0 more | nothing
   pub row : Can (((Piece 0 ∷ Made 1 ∷ []) ∷ []) ∷ ((Piece 1 ∷ Piece 0 ∷ Made 1 ∷ []) ∷ [] ∷ []) ∷ [])
-  -- marks stand anywhere: text = a mark, 0, a mark, text | a mark, 1
+  -- marks may be anywhere: text = a mark, 0, a mark, text | a mark, 1
   pub marks : Can (((Mark 0 ∷ Piece 0 ∷ Mark 1 ∷ Made 0 ∷ []) ∷ (Mark 2 ∷ Piece 1 ∷ []) ∷ []) ∷ [])
   -- left recursion: text = text 0 | 0
   pub left_recursion : Cannot (((Made 0 ∷ Piece 0 ∷ []) ∷ (Piece 0 ∷ []) ∷ []) ∷ [])
@@ -95,8 +96,8 @@ pub record RulesAreSpelled : Type 0 where
 abbrev pub fault : ℕ → ℕ → Fault ℕ
 fault kind at = record { kind = kind; at = at }
 
--- against a 0 behind two pieces kinds 2 and 1 stand where it is; against a 1 behind three pieces kind 1 stands behind
--- its byte, and kind 2 at it
+-- a 0 behind two pieces has faults of kinds 2 and 1 at its own position; a 1 behind three pieces has kind 1 behind its
+-- byte, and kind 2 at it
 abbrev pub against : List (Event ℕ) → Token ℕ → List (Fault ℕ)
 against es t =
     if (length es == 2) && (t.piece == 0) then fault 2 t.at ∷ fault 1 t.at ∷ []
@@ -127,7 +128,7 @@ abbrev pub bracket_refused : ℕ → ℕ → Answer (List (Event ℕ)) ℕ
 bracket_refused kind at = Refused (fault kind at)
 
 -- what brackets derive: 0 0 1 1 and nothing at all, and neither 0 nor 1 0; pieces that are done have the last one first
-pub record BracketsAreTold : Type 0 where
+pub record BracketsAreWorkedOut : Type 0 where
   pub two : Writes bracket_text (Read 0 ∷ Read 0 ∷ Read 1 ∷ Read 1 ∷ []) (0 ∷ 0 ∷ 1 ∷ 1 ∷ [])
   pub nothing_at_all : Writes bracket_text [] []
   pub open_begins : IsBeginning (reader bracket_text) (0 ∷ [])
@@ -143,7 +144,8 @@ pub record BracketsAreAnswered : Type 0 where
   pub too_early : bracket_answer (0 ∷ []) ≡ bracket_refused 3 1
   pub other_piece : bracket_answer (0 ∷ 2 ∷ []) ≡ bracket_refused 4 1
   pub closed_first : bracket_answer (1 ∷ []) ≡ bracket_refused 4 0
-  -- of two refusals at one byte that of the lesser number counts, also where it is told second and the text breaks off
+  -- of two refusals at one byte the one with the lesser kind is reported, also where it is found second and the text
+  -- breaks off
   pub lesser : bracket_answer (0 ∷ 0 ∷ 0 ∷ 1 ∷ 1 ∷ 1 ∷ []) ≡ bracket_refused 1 2
   pub before_end : bracket_answer (0 ∷ 0 ∷ 0 ∷ []) ≡ bracket_refused 1 2
   -- of two positions the lesser one counts, whatever the numbers
@@ -151,8 +153,8 @@ pub record BracketsAreAnswered : Type 0 where
   -- against a piece that can't follow nothing else is shown
   pub not_shown : bracket_answer (0 ∷ 1 ∷ 0 ∷ []) ≡ bracket_refused 4 2
 
--- a lawful text is read as the laws of readers have it, a tree stands exactly where it is derived in silence, and a
--- refusal is shown exactly where it stands against a piece that is derived behind others
+-- a lawful text is read as the laws of readers say; a tree is accepted exactly where it is derived without faults; and
+-- a refusal is shown exactly where it is a fault of a piece that is derived behind others
 pub record TextsAreRead {P T K : Type 0} (x : Text P T K) : Type 0 where
   pub laws : Laws (reader x)
   pub answers : AnswersAll (reader x)
@@ -163,13 +165,14 @@ pub record TextsAreRead {P T K : Type 0} (x : Text P T K) : Type 0 where
 
 -- all of it, with a small text in single bytes; the laws hold of every lawful text
 pub record WorkedGrammars : Type 0 where
-  pub grammars : GrammarsAreTold
+  pub grammars : GrammarsAreWorkedOut
   pub spelled : RulesAreSpelled
-  pub brackets_told : BracketsAreTold
+  pub brackets_worked : BracketsAreWorkedOut
   pub brackets_answered : BracketsAreAnswered
   pub brackets_read : TextsAreRead bracket_text
   pub rows_read : RowsAreRead
-  pub numerals : NumeralsAreTold
-  pub parts : PartsAreTold
-  pub byte_texts : ByteTextsAreTold
-  pub values : ValuesAreTold
+  pub numerals : NumeralsAreWorkedOut
+  pub parts : PartsAreWorked
+  pub byte_texts : ByteTextsAreWorkedOut
+  pub signs : SignsAreTold
+  pub values : ValuesAreWorkedOut

@@ -3,7 +3,7 @@ use Rattle.std.specs.Prelude.{◌≡◌, ℕ, ◌^◌, ◌-◌, ◌==◌, not, t
 use Rattle.std.specs.Prelude.{None, map}
 use Rattle.text_core.specs.Choices.{when}
 use Rattle.text_core.specs.Reading.{Answer, Stands, Refused}
-use Rattle.text_grammar.specs.declared.numeral.Within.TheVariants.{Words}
+use Rattle.text_grammar.specs.declared.numeral.NumberContext.TheVariants.{Words}
 use Rattle.text_grammar.specs.Grammars.{Event, Read, Did}
 use Rattle.text_grammar.specs.Parts.{Part, Says, Does, Puts, events_of, spelled, come, Stand, ComesTo}
 use Rattle.text_grammar.specs.ByteTexts.{Numeral, Numbered, Spelling, Value, Natural, Line, class_of, only, fresh}
@@ -17,7 +17,7 @@ spelling m [] = m
 spelling m (b ∷ bytes) = spelling (with_byte b m) bytes
 
 -- bytes, and numbers that are spelled
-pub record NumeralsAreTold : Type 0 where
+pub record NumeralsAreWorkedOut : Type 0 where
   -- `0`, `1`, other digits, `-`, a blank, a line feed, the first and the last letter, and another byte
   pub classes : map (class_of (codes "rowend")) (codes "0159- \nrdz") ≡ 0 ∷ 1 ∷ 2 ∷ 2 ∷ 3 ∷ 4 ∷ 5 ∷ 6 ∷ 11 ∷ 12 ∷ []
   -- each class but two has one byte alone
@@ -61,17 +61,17 @@ abbrev pub Come : Spelling State → Spelling State → List ℕ → List (Part 
 Come s t bytes xs = ComesTo (fold_of rows_bytes) (numbers_of rows_bytes) s t bytes xs
 
 -- parts of rows: what is spelled, which events that is, what they come to, and what stands against them
-pub record PartsAreTold : Type 0 where
+pub record PartsAreWorked : Type 0 where
   pub text : spelled (fold_of rows_bytes) (numbers_of rows_bytes)
-      (Says 114 ∷ Does 6 ∷ Puts (Line (pos 1 ∷ negsuc 1 ∷ [])) ∷ Puts (Natural 30) ∷ Puts (Value (negsuc 4)) ∷ [])
+      (Says 114 ∷ Does 8 ∷ Puts (Line (pos 1 ∷ negsuc 1 ∷ [])) ∷ Puts (Natural 30) ∷ Puts (Value (negsuc 4)) ∷ [])
       ≡ codes "r 1 -2\n30-5"
-  pub value : events (Says 114 ∷ Puts (Value (negsuc 1)) ∷ Does 6 ∷ [])
-      ≡ Read 114 ∷ Did 0 ∷ Read 45 ∷ Read 50 ∷ Did 1 ∷ Did 6 ∷ []
+  pub value : events (Says 114 ∷ Puts (Value (negsuc 1)) ∷ Does 8 ∷ [])
+      ≡ Read 114 ∷ Did 0 ∷ Read 45 ∷ Read 50 ∷ Did 1 ∷ Did 8 ∷ []
   pub natural : events (Puts (Natural 30) ∷ []) ≡ Did 3 ∷ Read 51 ∷ Read 48 ∷ Did 2 ∷ []
   pub line : events (Puts (Line (pos 1 ∷ negsuc 1 ∷ [])) ∷ [])
       ≡ Did 4 ∷ Read 32 ∷ Did 0 ∷ Read 49 ∷ Did 1 ∷ Read 32 ∷ Did 0 ∷ Read 45 ∷ Read 50 ∷ Did 1 ∷ Read 10 ∷ Did 5 ∷ []
   -- a row is its number, its line and its mark; a value is one more of those that are read
-  pub row_comes : comes (between [] 0 []) (Puts (Natural 1) ∷ Puts (Line (pos 5 ∷ [])) ∷ Does 6 ∷ [])
+  pub row_comes : comes (between [] 0 []) (Puts (Natural 1) ∷ Puts (Line (pos 5 ∷ [])) ∷ Does 8 ∷ [])
       ≡ between (row 1 (pos 5 ∷ []) ∷ []) 1 (pos 5 ∷ [])
   pub value_comes : (comes (between [] 0 []) (Puts (Value (pos 5)) ∷ Puts (Value (negsuc 1)) ∷ [])).values
       ≡ pos 5 ∷ negsuc 1 ∷ []
@@ -138,13 +138,11 @@ cases =
     ∷ []
 
 -- what a text owes, and what it isn't without; and what bytes are answered with
-pub record ByteTextsAreTold : Type 0 where
+pub record ByteTextsAreWorkedOut : Type 0 where
   pub bounded : IsBounded rows_bytes
-  -- not where any number is taken, where 2 is taken and 1 isn't, and where a blank or a `-` is refused
+  -- not where any number is taken, and where 2 is taken and 1 isn't
   pub endless : ¬ IsBounded (record rows_bytes { against_natural = λ s n. None })
   pub gap : ¬ IsBounded (record rows_bytes { against_natural = λ s n. when (not (n == 2)) 3 })
-  pub no_blank : ¬ IsBounded (record rows_bytes { against_byte = λ s b. when (b == 32) 1 })
-  pub no_minus : ¬ IsBounded (record rows_bytes { against_byte = λ s b. when (b == 45) 1 })
   -- the rules of numbers are those, with both of lines of values in their place
   pub numbers : HasNumbers rows_bytes.rules
   pub no_numbers : ¬ HasNumbers []

@@ -1,4 +1,4 @@
--- Values of nonterminals, worked out by hand on both sides, at a small text of rows.
+-- Worked values of nonterminals, for a small text of rows.
 use Rattle.std.specs.Prelude.{ℕ, List, [], ◌∷◌, codes, pos, negsuc, Some, ⊤}
 use Rattle.text_grammar.specs.declared.symbol.Symbol.{Symbol}
 use Rattle.text_grammar.specs.declared.symbol.Symbol.TheVariants.{Piece, Made}
@@ -39,7 +39,7 @@ abbrev pub two_rows : Rows
 two_rows = row 2 (pos 1 ∷ negsuc 1 ∷ []) ∷ row 1 (pos 0 ∷ []) ∷ []
 
 -- what holds of the small text, and not without
-pub record ValuesAreTold : Type 0 where
+pub record ValuesAreWorkedOut : Type 0 where
   -- a class with one byte alone has that one, and not each has the `0`
   pub only_its : IsOnly (grammar_of rows_bytes) (only rows_bytes.letters)
   pub not_only : ¬ IsOnly (grammar_of rows_bytes) (λ c. Some 48)
@@ -55,10 +55,10 @@ pub record ValuesAreTold : Type 0 where
   pub no_value : ¬ AreMade (fold_of rows_bytes) (numbers_of rows_bytes) (grammar_of rows_bytes)
       (only rows_bytes.letters) (λ n. ⊥) (λ n v. [])
   -- the last line is rows, and nothing at all isn't
-  pub last_line : Valued 8 (reads (codes "end\n")) (codes "end\n")
-  pub no_line : ¬ Valued 8 [] []
+  pub last_line : Valued 9 (reads (codes "end\n")) (codes "end\n")
+  pub no_line : ¬ Valued 9 [] []
   -- rows are derived, also before a line feed; not, if they were made of nothing
-  pub derived : DerivedBy given_parts 8 two_rows
-  pub not_derived : ¬ DerivedBy no_parts 8 two_rows
-  pub all_derived : AllDerivedBy given_parts (Made 8 ∷ Piece 5 ∷ []) (two_rows, tt)
-  pub not_all_derived : ¬ AllDerivedBy no_parts (Piece 5 ∷ Made 8 ∷ []) (two_rows, tt)
+  pub derived : DerivedBy given_parts 9 two_rows
+  pub not_derived : ¬ DerivedBy no_parts 9 two_rows
+  pub all_derived : AllDerivedBy given_parts (Made 9 ∷ Piece 5 ∷ []) (two_rows, tt)
+  pub not_all_derived : ¬ AllDerivedBy no_parts (Piece 5 ∷ Made 9 ∷ []) (two_rows, tt)

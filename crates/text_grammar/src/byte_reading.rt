@@ -1,4 +1,4 @@
-//! From bytes to what their text stands for.
+//! Reads a text in bytes.
 
 ghost use Rattle.std.specs.Prelude.{◌≡◌, ◌+◌, ◌<◌, ◌^◌, length};
 ghost use Rattle.text_core.specs.Reading.{answer};
@@ -9,11 +9,11 @@ ghost use Rattle.text_grammar.specs.Results.{Tells, refused_in};
 
 use crate::byte_text::{ByteText, Spelling};
 use crate::bytes::Bytes;
-use crate::cut::{Cut, OneMode};
 use crate::reading::read;
 use crate::symbol::Item;
 use crate::tables::Tables;
 use crate::token::Refusal;
+use crate::token_stream::{OneMode, TokenStream};
 use std::alloc::Global;
 
 /// Reads bytes as a text of which nothing has been read yet, by the grammar that these items spell for so many classes,
@@ -40,7 +40,7 @@ pub fn read_bytes<X: ByteText + Drop>(
         (tokens bytes.now)) result }
 {
     let tables = Tables::new(alloc, items, classes, rounds)?;
-    let cut = Cut::new(Bytes, OneMode::Plain, bytes);
+    let cut = TokenStream::new(Bytes, OneMode::Plain, bytes);
     read(
         alloc,
         tables,

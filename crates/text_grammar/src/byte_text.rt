@@ -1,10 +1,10 @@
 //! Texts in bytes: what one brings of its own, and how its numbers are spelled for it.
 
-ghost use Rattle.std.specs.Prelude.{◌≡◌, ℕ, List, [], ◌∷◌, length, IfOk, OnOk};
+ghost use Rattle.std.specs.Prelude.{◌≡◌, ◌<◌, ◌^◌, ℕ, List, [], ◌∷◌, length, IfOk, OnOk};
 ghost use Rattle.text_grammar.specs.ByteTexts.{ByteText as ByteTextOf, class_of as class_at, fold_of, fresh, texts_of};
 ghost use Rattle.text_grammar.specs.ByteTexts.{against_in, against_feed as against_feed_in};
 ghost use Rattle.text_grammar.specs.ByteTexts.{against_other as against_other_in};
-ghost use Rattle.text_grammar.specs.declared.numeral.Within.TheVariants.{Words};
+ghost use Rattle.text_grammar.specs.declared.numeral.NumberContext.TheVariants.{Words};
 ghost use Rattle.text_grammar.specs.CodeBytes.{numeral_of};
 ghost use Rattle.text_grammar.specs.Folds.{state};
 ghost use Rattle.text_grammar.specs.Grammars.{Event, Read};
@@ -12,18 +12,19 @@ ghost use Rattle.text_grammar.specs.Marks.{fault_of, token_of};
 ghost use Rattle.text_grammar.specs.Texts.{first_shown};
 
 use crate::bytes::{
-    LINE_BEGINS, LINE_READ, LINE_VALUE_LIMIT, NATURAL_BEGINS, NATURAL_READ, VALUE_BEGINS,
-    VALUE_READ,
+    LINE_BEGINS, LINE_READ, LINE_VALUE_LIMIT, NATURAL_BEGINS, NATURAL_READ, SIGNED_BEGINS,
+    SIGNED_READ, VALUE_BEGINS, VALUE_READ, with_sign,
 };
-use crate::numeral::{Numeral, Within};
+use crate::numeral::{NumberContext, Numeral};
 use crate::text::Text;
 use crate::token::{Fault, Token};
 use std::alloc::{AllocError, Global};
 use std::mem::replace;
 
-/// A text in bytes: what it remembers of natural numbers, lines of values and marks of its own, what stands against
-/// them and against a byte, and what it makes of them all. Values come to it in lines alone, and the limit of each is
-/// `LINE_VALUE_LIMIT`; at the line feed of such a line `against_line` is asked, and `against_byte` isn't.
+/// A text in bytes: what it remembers of natural numbers, signed numbers, lines of values and marks of its own, what
+/// stands against them and against a byte, and what it makes of them all. Values come to it in lines alone, and the
+/// limit of each is `LINE_VALUE_LIMIT`; at the line feed of such a line `against_line` is asked, and `against_byte`
+/// isn't. `against_byte` is asked at each `-` and at each blank, also at those of numbers and lines.
 pub trait ByteText {
     type Kind: Copy;
 
@@ -54,6 +55,15 @@ pub trait ByteText {
         ensures same { bytes_of self.new ≡ bytes_of self.old }
         ensures known { OnOk result (own_of self.new ≡ (bytes_of self.old).natural number (own_of self.old)) };
 
+    /// Reads a signed number.
+    ///
+    /// # Errors
+    ///
+    /// `AllocError` where an allocation fails.
+    fn signed(&mut self, number: i128) -> Result<(), AllocError>
+        ensures same { bytes_of self.new ≡ bytes_of self.old }
+        ensures known { OnOk result (own_of self.new ≡ (bytes_of self.old).signed number (own_of self.old)) };
+
     /// Reads a line of values.
     ///
     /// # Errors
@@ -75,6 +85,11 @@ pub trait ByteText {
     /// What stands against a natural number of this value.
     fn against_natural(&self, number: u128) -> Option<Self::Kind>
         ensures { result ≡ (bytes_of self.now).against_natural (own_of self.now) number };
+
+    /// What stands against a signed number of this value, at its first byte, which is its `-` where it has one. It is
+    /// asked at each digit, with the number as far as it has been read.
+    fn against_signed(&self, number: i128) -> Option<Self::Kind>
+        ensures { result ≡ (bytes_of self.now).against_signed (own_of self.now) number };
 
     /// What stands against a line of so many values.
     fn against_line(&self, values: usize) -> Option<Self::Kind>
@@ -111,7 +126,7 @@ pub struct Spelling<X> {
     alloc: Global,
     text: X,
     numeral: Numeral,
-    within: Within,
+    within: NumberContext,
     values: Vec<i128>,
 }
 
@@ -127,17 +142,23 @@ impl<X: ByteText> Spelling<X> {
             alloc,
             text,
             numeral: Numeral::new(),
-            within: Within::Words,
+            within: NumberContext::Words,
             values: Vec::new(alloc),
         }
     }
 
     // What stands against a number of this value.
     fn against_number(&self, number: u128) -> Option<X::Kind>
-        ensures { result ≡ against_in (X.bytes_of self.now.text) self.now.within (X.own_of self.now.text) number }
+        requires { number < 2 ^ 127 }
+        ensures { result ≡ against_in (X.bytes_of self.now.text) self.now.within (X.own_of self.now.text)
+            self.now.numeral.negative number }
     {
         match self.within {
-            Within::Natural => self.text.against_natural(number),
+            NumberContext::Natural => self.text.against_natural(number),
+            NumberContext::Signed => {
+                let value = with_sign(self.numeral.negative, number);
+                self.text.against_signed(value)
+            }
             _ if number > LINE_VALUE_LIMIT => Some(self.text.too_large()),
             _ => None,
         }
@@ -149,7 +170,7 @@ impl<X: ByteText> Spelling<X> {
             (length self.now.values.items) }
     {
         match self.within {
-            Within::Line => self.text.against_line(self.values.len()),
+            NumberContext::Line => self.text.against_line(self.values.len()),
             _ => self.text.against_byte(b'\n'),
         }
     }
@@ -228,22 +249,32 @@ impl<X: ByteText> Text for Spelling<X> {
             NATURAL_READ => {
                 self.text.natural(self.numeral.number)?;
                 self.numeral = Numeral::new();
-                self.within = Within::Words;
+                self.within = NumberContext::Words;
             }
             NATURAL_BEGINS => {
                 self.numeral = Numeral::new();
-                self.within = Within::Natural;
+                self.within = NumberContext::Natural;
+            }
+            SIGNED_READ => {
+                let value = self.numeral.value();
+                self.text.signed(value)?;
+                self.numeral = Numeral::new();
+                self.within = NumberContext::Words;
+            }
+            SIGNED_BEGINS => {
+                self.numeral = Numeral::new();
+                self.within = NumberContext::Signed;
             }
             LINE_BEGINS => {
                 self.numeral = Numeral::new();
-                self.within = Within::Line;
+                self.within = NumberContext::Line;
                 self.values.clear();
             }
             LINE_READ => {
                 let values = replace(&mut self.values, Vec::new(self.alloc));
                 self.text.line(values)?;
                 self.numeral = Numeral::new();
-                self.within = Within::Words;
+                self.within = NumberContext::Words;
             }
             _ => self.text.done(mark)?,
         }

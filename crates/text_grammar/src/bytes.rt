@@ -3,11 +3,12 @@
 ghost use Rattle.std.specs.Prelude.{◌≡◌, ◌<◌, ◌≤◌, ◌+◌, ◌-◌, ◌*◌, ◌^◌, length, IsTrue};
 ghost use Rattle.std.specs.Char.{is_ascii_digit};
 ghost use Rattle.text_grammar.specs.ByteTexts.{bytes_lexer, bytes_within, fresh, signed, with_byte};
+ghost use Rattle.text_grammar.specs.ByteTexts.{with_sign as sign_put};
 ghost use Rattle.text_grammar.specs.ByteTexts.{class_of as class_at, position_of as position_at};
 ghost use Rattle.text_grammar.specs.CodeBytes.{numeral_of};
 
-use crate::cut::{Lexeme, Lexer, OneMode};
 use crate::numeral::Numeral;
+use crate::token_stream::{Lexeme, Lexer, OneMode};
 
 /// The classes of `0`, of `1`, of `2` to `9`, of `-`, of a blank, and of a line feed.
 pub const ZERO: u32 = 0;
@@ -22,9 +23,9 @@ pub const BLANK: u32 = 4;
 /// See `ZERO`.
 pub const LINE_FEED: u32 = 5;
 
-/// The nonterminals of a value with a sign, of a natural number, of what they are spelled by, of a line of values, and
-/// of such a line behind its beginning. What a text gets of values is its lines of them: a value that stands elsewhere
-/// is read and kept from it.
+/// The nonterminals of a value with a sign, of a natural number, of what they are spelled by, of a line of values, of
+/// such a line behind its beginning, and of a number with a sign that comes to the text by itself. What a text gets of
+/// values is its lines of them: a value that stands elsewhere is read and kept from it.
 pub const VALUE: u32 = 1;
 /// See `VALUE`.
 pub const NATURAL: u32 = 2;
@@ -38,8 +39,10 @@ pub const DIGITS: u32 = 5;
 pub const LINE: u32 = 6;
 /// See `VALUE`.
 pub const VALUES: u32 = 7;
+/// See `VALUE`.
+pub const SIGNED: u32 = 8;
 
-/// The marks before and behind a value, a natural number and a line of values.
+/// The marks before and behind a value, a natural number, a line of values and a signed number.
 pub const VALUE_BEGINS: u32 = 0;
 /// See `VALUE_BEGINS`.
 pub const VALUE_READ: u32 = 1;
@@ -51,6 +54,10 @@ pub const NATURAL_BEGINS: u32 = 3;
 pub const LINE_BEGINS: u32 = 4;
 /// See `VALUE_BEGINS`.
 pub const LINE_READ: u32 = 5;
+/// See `VALUE_BEGINS`.
+pub const SIGNED_BEGINS: u32 = 6;
+/// See `VALUE_BEGINS`.
+pub const SIGNED_READ: u32 = 7;
 
 /// A value is at most so large, in absolute value, whatever the text.
 pub const LINE_VALUE_LIMIT: u128 = (1 << 63) - 1;
@@ -114,6 +121,18 @@ pub fn class_of(letters: &[u8], byte: u8) -> u32
     }
 }
 
+/// A number with its sign.
+pub fn with_sign(negative: bool, number: u128) -> i128
+    requires { number < 2 ^ 127 }
+    ensures { result ≡ sign_put negative number }
+{
+    if negative {
+        -(number as i128)
+    } else {
+        number as i128
+    }
+}
+
 impl Numeral {
     /// No byte of a number has been read.
     pub fn new() -> Numeral
@@ -129,7 +148,8 @@ impl Numeral {
     /// The number with one digit more.
     pub fn more(&self, digit: u8) -> u128
         requires { IsTrue (is_ascii_digit digit) }
-        ensures { result ≡ self.now.number * 10 + (digit - 48) }
+        ensures value { result ≡ self.now.number * 10 + (digit - 48) }
+        ensures small { result < 2 ^ 127 }
     {
         self.number * 10 + u128::from(digit - b'0')
     }
@@ -153,11 +173,7 @@ impl Numeral {
     pub fn value(&self) -> i128
         ensures { result ≡ signed (numeral_of self.now) }
     {
-        if self.negative {
-            -(self.number as i128)
-        } else {
-            self.number as i128
-        }
+        with_sign(self.negative, self.number)
     }
 
     /// The position of the number's first byte, where the next token is at this one.

@@ -1,4 +1,4 @@
-//! The laws of grammars.
+//! Laws of grammars.
 
 ghost use Rattle.text_grammar.specs.Texts.{IsLawful};
 ghost use Rattle.text_grammar.specs.Worked.{TextsAreRead, WorkedGrammars};
@@ -13,9 +13,9 @@ pub fn worked_grammars_hold()
     ensures { WorkedGrammars }
 {}
 
-/// A lawful text is read as the laws of readers have it: it has one answer, the tree or the first fault; a tree stands
-/// exactly where it is derived with nothing against its tokens, and a refusal is shown at a token exactly where it
-/// stands against it behind what is derived. It has no code: its contract is the law.
+/// A lawful text is read as the laws of readers say: it has one answer, the tree or the first fault; a tree is accepted
+/// exactly where it is derived and its tokens have no fault; and a refusal is shown at a token exactly where it is a
+/// fault of the token behind what is derived. The function has no code: its contract is the law.
 pub fn lawful_texts_are_read<X: Text>(text: &X)
     requires { IsLawful (X.text_of text.now) }
     ensures { TextsAreRead (X.text_of text.now) }

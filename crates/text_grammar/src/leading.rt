@@ -1,4 +1,4 @@
-//! What nonterminals lead to at a class of pieces, by the rules of a grammar.
+//! Computes what nonterminals lead to at a class of pieces, from the rules of a grammar.
 
 ghost use Rattle.std.specs.Prelude.{◌≡◌, List, [], ◌∷◌, IfOk, IsTrue};
 ghost use Rattle.text_core.specs.Readers.{onto};
@@ -102,8 +102,9 @@ fn lead_of_body(
     Ok(Entry::Passes { marks })
 }
 
-// Whether what comes first in the body that items begin with, but for marks, is a piece of another class. No piece of
-// the class can follow then; most bodies are told so, without memory. It may say no where it could say yes.
+// Whether the first symbol of the body that items begin with, apart from marks, is a piece of another class. Then no
+// piece of the class can come first; for most bodies this quick test suffices, without memory. It may answer no where
+// yes would be true.
 fn begins_with_another(class: u32, body: &[Item]) -> bool
     ensures { IsTrue result → (row : List Lead) → lead class row (body_of body.now) ≡ Stuck }
 {

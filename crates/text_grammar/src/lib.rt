@@ -1,12 +1,13 @@
-//! One reader for every grammar that can be read from front to back with one piece ahead.
-//! Contract to the layers above: a grammar whose test is true, a fold of its events and faults at its tokens make a
-//! reader that answers exactly the tree or exactly the first fault (`specs/Texts`), and `read` is its code.
+//! One predictive parser for every grammar that can be read from front to back with one piece of lookahead (LL(1)).
+//!
+//! Builds on `text_core`. A text is a grammar as data, a fold over its events, and the faults of its tokens. Main
+//! guarantee: if the computed test of the grammar is true, these make a reader that answers exactly the tree or exactly
+//! the first fault (`specs/Texts`), and `read` is its code.
 #![tactic(auto)]
 
 mod byte_reading;
 mod byte_text;
 mod bytes;
-mod cut;
 mod entry;
 mod law;
 mod leading;
@@ -18,19 +19,20 @@ mod symbol;
 mod tables;
 mod text;
 mod token;
+mod token_stream;
 
 pub use byte_reading::read_bytes;
 pub use byte_text::{ByteText, Spelling};
 pub use bytes::{
     BLANK, Bytes, DIGITS, LINE, LINE_BEGINS, LINE_FEED, LINE_READ, LINE_VALUE_LIMIT, MINUS, MORE,
-    NATURAL, NATURAL_BEGINS, NATURAL_READ, NUMBER, ONE, POSITIVE, VALUE, VALUE_BEGINS, VALUE_READ,
-    VALUES, ZERO, class_of,
+    NATURAL, NATURAL_BEGINS, NATURAL_READ, NUMBER, ONE, POSITIVE, SIGNED, SIGNED_BEGINS,
+    SIGNED_READ, VALUE, VALUE_BEGINS, VALUE_READ, VALUES, ZERO, class_of,
 };
-pub use cut::{Cut, Lexeme, Lexer, OneMode};
 pub use law::{lawful_texts_are_read, worked_grammars_hold};
-pub use numeral::{Numeral, Within};
+pub use numeral::{NumberContext, Numeral};
 pub use reading::read;
 pub use symbol::{Item, Symbol};
 pub use tables::Tables;
 pub use text::{Text, Tokens};
 pub use token::{Fault, Refusal, Token};
+pub use token_stream::{Lexeme, Lexer, OneMode, TokenStream};

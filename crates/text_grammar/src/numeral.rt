@@ -13,11 +13,13 @@ pub struct Numeral {
 
 /// Within what a number or a byte stands.
 #[derive(Clone, Copy, Debug, PartialEq, Eq)]
-pub enum Within {
+pub enum NumberContext {
     /// The text's own words.
     Words,
     /// A natural number.
     Natural,
+    /// A number with a sign that comes to the text by itself.
+    Signed,
     /// A line of values.
     Line,
 }

@@ -1,4 +1,4 @@
-//! The reader of a grammar: tokens are pulled one by one, and none is kept.
+//! The parser of a grammar: tokens are pulled one by one, and none is stored.
 
 ghost use Rattle.std.specs.Prelude.{◌≡◌, [], ◌<◌, ◌≤◌, List, IfOk, IfSome, OnOk, Some, None, MatchOption};
 ghost use Rattle.text_core.specs.Readers.{onto};
@@ -19,8 +19,8 @@ use std::alloc::{AllocError, Global};
 
 /// What a token came to.
 #[derive(Clone, Copy, Debug, PartialEq, Eq)]
-pub enum Followed<K> {
-    /// It was read, and this is the first of what stands against it.
+pub enum Advance<K> {
+    /// The token was accepted; its first fault, if it has any.
     Led(Option<Fault<K>>),
     /// It can't follow.
     Off,
@@ -70,7 +70,7 @@ fn off<X: Text>(
     }
 }
 
-// The refusal so far, exactly where all that can still be shown stands behind it.
+// The refusal so far, exactly where every fault that can still be shown lies behind it.
 fn settled<X: Text>(text: &X, best: Option<Fault<X::Kind>>, at: u64) -> Option<Fault<X::Kind>>
     ensures { MatchOption result (IfSome (fault_of best) (λ y. (es : List (Event X.Piece)) → X.Knows text.now es
         → (X.text_of text.now).floor es at ≤ y.at)) (λ y. (fault_of best ≡ Some (refusal_of y))
@@ -101,7 +101,7 @@ fn follow<X: Text>(
     marks: &mut Vec<u32>,
     tables: &mut Tables<'_>,
     token: Token<X::Piece>,
-) -> Result<Followed<X::Kind>, AllocError>
+) -> Result<Advance<X::Kind>, AllocError>
     requires lawful { IsLawful (X.text_of text.old) }
     requires tabled { IsTableOf tables.old (X.text_of text.old).grammar }
     ensures same { X.text_of text.new ≡ X.text_of text.old }
@@ -116,19 +116,19 @@ fn follow<X: Text>(
     match meet(expected, marks, tables, class)? {
         Meeting::Matched => {
             do_all(text, marks)?;
-            Ok(Followed::Led(text.take(token)?))
+            Ok(Advance::Led(text.take(token)?))
         }
-        _ => Ok(Followed::Off),
+        _ => Ok(Advance::Off),
     }
 }
 
-/// Reads a text of so many bytes from its tokens, one after the other, by the table of its grammar, of which it works out
-/// the entries that it meets.
+/// Parses a text of this many bytes from its tokens, one after the other, by the table of its grammar; the entries of
+/// the table are computed when they are first used.
 ///
 /// # Errors
 ///
-/// The first refusal of the text, as its reader has it, and `Memory` where an allocation fails. Reading stops where
-/// nothing that is still to come can stand before the refusal so far.
+/// The first refusal of the text, as defined by its reader, and `Memory` where an allocation fails. Reading stops as
+/// soon as no later fault can precede the refusal so far.
 pub fn read<X: Text + Drop, L: Tokens<Piece = X::Piece> + Drop>(
     alloc: Global,
     tables: Tables<'_>,
@@ -154,8 +154,8 @@ pub fn read<X: Text + Drop, L: Tokens<Piece = X::Piece> + Drop>(
             return Err(Refusal::Refuses(fault));
         }
         match follow(&mut text, &mut expected, &mut marks, &mut tables, token)? {
-            Followed::Led(shown) => best = first_of_two(&text, best, shown),
-            Followed::Off => {
+            Advance::Led(shown) => best = first_of_two(&text, best, shown),
+            Advance::Off => {
                 return Err(Refusal::Refuses(off(&text, best, Some(token.piece), token.at)));
             }
         }

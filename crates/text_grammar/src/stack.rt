@@ -1,4 +1,4 @@
-//! Symbols that are expected, as a stack: the next one is the last.
+//! The stack of expected symbols: the next one is the last.
 
 ghost use Rattle.std.specs.Prelude.{◌≡◌, ◌≤◌, [], IfOk, OnOk};
 ghost use Rattle.text_core.specs.Readers.{onto};
@@ -18,12 +18,12 @@ pub enum Meeting {
     Matched,
     /// All symbols derive marks alone, and none is left.
     Passed,
-    /// No piece of the class can follow. Of the stack nothing is said.
+    /// No piece of the class can follow. The contents of the stack are then unspecified.
     Refused,
 }
 
-/// Meets what is expected with a class of pieces, by the table of a grammar, which keeps the entries that are met: marks
-/// are noted up to where a piece of the class is matched.
+/// Matches the expected symbols with a class of pieces, by the table of a grammar, which keeps the entries it has
+/// computed: marks are collected until a piece of the class is matched.
 ///
 /// # Errors
 ///

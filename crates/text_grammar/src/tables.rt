@@ -1,4 +1,4 @@
-//! The table of a grammar: what each nonterminal leads to at each class of pieces, and at the end of the text.
+//! The LL(1) table of a grammar: what each nonterminal leads to at each class of pieces, and at the end of the text.
 
 ghost use Rattle.std.specs.Prelude.{◌≡◌, ◌≢◌, ◌<◌, ◌≤◌, ◌^◌, ℕ, length, IfOk, OnOk, IsTrue, IsFalse};
 ghost use Rattle.text_grammar.specs.Leads.{Stuck, entry};
@@ -12,8 +12,8 @@ use crate::rules::rules_of;
 use crate::symbol::Item;
 use std::alloc::{AllocError, Global};
 
-/// The table of a grammar. An entry is worked out where it is asked for first, and is kept then, so that a short text pays
-/// for few; where none is kept a row has `Stuck`, or ends before it.
+/// The LL(1) table of a grammar. An entry is computed when it is first used, and then kept, so that a short text pays
+/// for few; where none is kept, a row has `Stuck`, or ends before it.
 #[derive(Drop)]
 pub struct Tables<'a> {
     alloc: Global,

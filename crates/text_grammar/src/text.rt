@@ -22,7 +22,7 @@ pub trait Tokens {
         ensures { MatchOption result (left self.old ≡ []) (λ t. left self.old ≡ token_of t ∷ left self.new) };
 }
 
-/// A text of a grammar: what it remembers of its events, what stands against a token, and what it makes of them all.
+/// A text of a grammar: what it remembers of its events, the faults of its tokens, and the tree that it makes of them.
 pub trait Text {
     type Piece: Copy;
 
@@ -54,8 +54,8 @@ pub trait Text {
         ensures known { OnOk result ((es : List (Event Self.Piece)) → Knows self.old es
             → Knows self.new (Did mark ∷ es)) };
 
-    /// Reads a token, and tells the first of what stands against it, `None` where nothing does. What it tells is owed
-    /// for every token, whether it can follow or not.
+    /// Reads a token and returns its first fault, or `None` where it has none. The answer is required for every token,
+    /// whether it can follow or not.
     ///
     /// # Errors
     ///

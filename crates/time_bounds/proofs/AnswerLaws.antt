@@ -4,40 +4,40 @@ use Rattle.std.proofs.lemmas.List.Elements.{All-nil, All-cons, All-head, All-tai
 use Rattle.model.specs.Programs.{Program}
 use Rattle.model.specs.Bounds.{Bound}
 use Rattle.its_model.specs.Valid.{IsValid}
-use Rattle.bound_table.specs.Within as within
-use Rattle.bound_table.specs.Within.{Fits, rewritten_within}
+use Rattle.bound_table.specs.RewriteResult as within
+use Rattle.bound_table.specs.RewriteResult.{Fits, rewritten_within}
 use Rattle.guard_prep.proofs.StepLaws.{few-places as few_places}
-use Rattle.proof_tree.specs.proof_nodes.AcceptsRank.{HasFormShape}
-use Rattle.proof_tree.specs.proof_nodes.Gaps.{SymbolPlace}
-use Rattle.proof_tree.specs.proof_nodes.Nodes.{Spot, RankNode}
-use Rattle.proof_tree.specs.proof_nodes.Composed.{time_of}
-use Rattle.proof_tree.specs.declared.answer.EmptyAnswer.{EmptyAnswer}
-use Rattle.proof_tree.specs.declared.rank.Form as code
-use Rattle.proof_tree.specs.declared.rank.RankNode as code_rank
-use Rattle.proof_tree.specs.declared.gap.Gap as code_gap
-use Rattle.proof_tree.specs.proof_nodes.AcceptsPlain.{IsRule}
-use Rattle.proof_tree.specs.proof_nodes.GapChecks.{GapHolds}
-use Rattle.proof_tree.specs.proof_nodes.Known.{IsKnown}
-use Rattle.proof_tree.specs.proof_setting.Setting.{setting_of}
-use Rattle.proof_tree.specs.AnswerViews.{gap_of}
-use Rattle.proof_tree.specs.Views.{form_of, rank_of}
-use Rattle.proof_tree.specs.Sizes.{IsShort}
-use Rattle.proof_tree.proofs.proof_setting.Small.{small-bounds}
+use Rattle.cert_types.specs.cert_rules.AcceptsRank.{HasFormShape}
+use Rattle.cert_types.specs.cert_rules.Gaps.{SymbolPlace}
+use Rattle.cert_types.specs.cert_rules.Nodes.{ResultVariable, RankNode}
+use Rattle.cert_types.specs.cert_rules.Composed.{time_of}
+use Rattle.cert_types.specs.declared.answer.GuardFeasibility.{GuardFeasibility}
+use Rattle.cert_types.specs.declared.rank.Form as code
+use Rattle.cert_types.specs.declared.rank.RankNode as code_rank
+use Rattle.cert_types.specs.declared.gap.Gap as code_gap
+use Rattle.cert_types.specs.cert_rules.AcceptsPlain.{IsRule}
+use Rattle.cert_types.specs.cert_rules.GapChecks.{GapHolds}
+use Rattle.cert_types.specs.cert_rules.Known.{IsKnown}
+use Rattle.cert_types.specs.cert_program.Setting.{setting_of}
+use Rattle.cert_types.specs.AnswerViews.{gap_of}
+use Rattle.cert_types.specs.Views.{form_of, rank_of}
+use Rattle.cert_types.specs.Sizes.{IsShort}
+use Rattle.cert_types.proofs.cert_program.Small.{small-bounds}
 use Rattle.rank_search.specs.declared.answer.RankAnswer.{RankAnswer}
 use Rattle.rank_search.specs.declared.answer.RankAnswer.TheVariants as ranks
 use Rattle.rank_search.specs.rule_questions.ProgramQuestions.{forms_at, ranked_set, places_of}
 use Rattle.rank_search.specs.rule_questions.RuleAnswers.{AreEmptyAnswers}
 use Rattle.rank_search.specs.RankAnswers.{IsRuleSet, IsRankAnswer}
 use Rattle.rank_search.proofs.Accepted.{nodes-accepted}
-use Rattle.bound_rounds.specs.Keys.{Bounds, is_untimed, lacks, over}
-use Rattle.bound_rounds.specs.Finds.{RankBy}
-use Rattle.bound_rounds.specs.Needs.{rank_needs}
+use Rattle.bound_fixpoint.specs.Keys.{Bounds, is_untimed, lacks, over}
+use Rattle.bound_fixpoint.specs.Derivations.{RankBy}
+use Rattle.bound_fixpoint.specs.Needs.{rank_premises}
 use Rattle.outcome.specs.Reports.{TimeLarge}
-use Rattle.bound_rounds.specs.Searches.{Ranked, Unranked, NoBound, OfTime}
-use Rattle.bound_rounds.specs.Answers.{Answer, Found, Lacks, AnsweredQuestion, TellsRanking, TellsTime}
-use Rattle.bound_rounds.specs.Right.{IsRightRanking}
-use Rattle.bound_rounds.proofs.AcceptedRanks.{is_question}
-use Rattle.time_bounds.specs.declared.asking.Asked.{Asked}
+use Rattle.bound_fixpoint.specs.Searches.{Ranked, Unranked, NoBound, OfTime}
+use Rattle.bound_fixpoint.specs.Answers.{Answer, Found, Lacks, AnsweredQuestion, TellsRanking, TellsTime}
+use Rattle.bound_fixpoint.specs.Right.{IsRightRanking}
+use Rattle.bound_fixpoint.proofs.AcceptedRanks.{is_question}
+use Rattle.time_bounds.specs.declared.asking.AnsweredRankQuestion.{AnsweredRankQuestion}
 use Rattle.time_bounds.specs.ProgramRules.{ranking_of}
 use Rattle.time_bounds.specs.ProgramSearches.{searches_of_program}
 use Rattle.time_bounds.specs.Questions.{HasShape, IsAsked, AnswersQuestion}
@@ -46,21 +46,21 @@ use Rattle.time_bounds.proofs.RightSizings.{program_searches_right}
 pub use Rattle.model.proofs.Cases.{IfOk-both as both}
 
 -- a composed time that fits is what the node composes
-pub found_told : (p : Program) (b : Bounds) (node : RankNode) (needs : List Spot) (x : Bound)
-    → Fits x ≡ rewritten_within (time_of p node (over b).time (over b).size) → needs ≡ rank_needs p node
-    → TellsRanking (setting_of p) b (Ranked node) (Found (RankBy node) needs x)
-found_told p b node needs x e same =
+pub found-sound : (p : Program) (b : Bounds) (node : RankNode) (premises : List ResultVariable) (x : Bound)
+    → Fits x ≡ rewritten_within (time_of p node (over b).time (over b).size) → premises ≡ rank_premises p node
+    → TellsRanking (setting_of p) b (Ranked node) (Found (RankBy node) premises x)
+found-sound p b node premises x e same =
     let h = (small-bounds.fits (time_of p node (over b).time (over b).size) x).0 (sym e) in (h.0, refl, same, h.1)
 
 -- one that is too large gives none
-pub large_told : (p : Program) (b : Bounds) (node : RankNode) (n : ℕ)
+pub large-sound : (p : Program) (b : Bounds) (node : RankNode) (n : ℕ)
     → within.TooLarge n ≡ rewritten_within (time_of p node (over b).time (over b).size)
     → TellsRanking (setting_of p) b (Ranked node) (Lacks (OfTime (TimeLarge n)))
-large_told p b node n e =
+large-sound p b node n e =
     let h = (small-bounds.large (time_of p node (over b).time (over b).size) n).0 (sym e) in (h.0, ap (λ (n : ℕ). OfTime (TimeLarge n)) h.1)
 
 -- a question that was answered is one of the relation
-pub asked_of : (p : Program) (b : Bounds) (pivots : ℕ) (empties : List EmptyAnswer) (t : ℕ) (a : Asked) → AreEmptyAnswers p pivots empties
+pub asked_of : (p : Program) (b : Bounds) (pivots : ℕ) (empties : List GuardFeasibility) (t : ℕ) (a : AnsweredRankQuestion) → AreEmptyAnswers p pivots empties
     → IsAsked p b t a → AnswersQuestion p pivots empties t a → AnsweredQuestion (searches_of_program p pivots) (setting_of p) b t
 asked_of p b pivots empties t a answers asked answered = record {
   set = a.set.items;
@@ -71,20 +71,20 @@ asked_of p b pivots empties t a answers asked answered = record {
   answered = (empties, answers, (a.answer, refl, answered.answer));
 }
 
--- what its answer tells is told of the time
-pub told_time : (p : Program) (b : Bounds) (pivots : ℕ) (empties : List EmptyAnswer) (t : ℕ) (a : Asked) (x : Answer)
+-- the result of its answer is that on the time
+pub time-sound : (p : Program) (b : Bounds) (pivots : ℕ) (empties : List GuardFeasibility) (t : ℕ) (a : AnsweredRankQuestion) (x : Answer)
     → AreEmptyAnswers p pivots empties → IsAsked p b t a → AnswersQuestion p pivots empties t a
     → TellsRanking (setting_of p) b (ranking_of a.answer) x → TellsTime (searches_of_program p pivots) (setting_of p) b t x
 unfolding asked_of
-told_time p b pivots empties t a x answers asked answered tells =
+time-sound p b pivots empties t a x answers asked answered tells =
     record { asked = asked_of p b pivots empties t a answers asked answered; tells = tells }
 
--- so is why it gives none
-pub missing_tells : (p : Program) (b : Bounds) (pivots : ℕ) (empties : List EmptyAnswer) (t : ℕ) (a : Asked)
+-- the same for why it gives none
+pub missing_tells : (p : Program) (b : Bounds) (pivots : ℕ) (empties : List GuardFeasibility) (t : ℕ) (a : AnsweredRankQuestion)
     → AreEmptyAnswers p pivots empties → (m : IsMissing p b pivots empties t a)
     → TellsTime (searches_of_program p pivots) (setting_of p) b t (Lacks m.why)
 missing_tells p b pivots empties t a answers m =
-    told_time p b pivots empties t a (Lacks m.why) answers m.asked m.answered m.tells
+    time-sound p b pivots empties t a (Lacks m.why) answers m.asked m.answered m.tells
 
 short_forms : (p : Program) (fs : List code.Form) → IsValid p → All (HasFormShape p) (map form_of fs) → All IsShort fs
 short_forms p [] v h = All-nil IsShort
@@ -94,26 +94,26 @@ short_forms p (f ∷ fs) v h =
     All-cons IsShort f fs (omega (arith, first.long, few)) (short_forms p fs v (All-tail (HasFormShape p) (form_of f) (map form_of fs) h))
 
 -- a node that was found has a denominator of at least 1, and forms with few coefficients
-pub shape_of : (p : Program) (set : List ℕ) (strict : ℕ) (shut : List SymbolPlace) (pivots : ℕ) (empties : List EmptyAnswer) (a : RankAnswer)
+pub shape_of : (p : Program) (set : List ℕ) (strict : ℕ) (shut : List SymbolPlace) (pivots : ℕ) (empties : List GuardFeasibility) (a : RankAnswer)
     → IsValid p → IsRuleSet p set strict → IsRankAnswer (ranked_set p set strict shut) shut pivots empties a → HasShape a
 shape_of p set strict shut pivots empties (ranks.Ranked node) v rules h =
     let shape = (nodes-accepted.shown p set strict shut pivots (rank_of node) v rules h.0).shape in
     (shape.den, short_forms p node.forms.items v shape.forms)
 shape_of p set strict shut pivots empties (ranks.NoRank gap) v rules h = tt
-shape_of p set strict shut pivots empties (ranks.Tripped t) v rules h = tt
+shape_of p set strict shut pivots empties (ranks.OutOfLimits t) v rules h = tt
 
 -- an answer to a question is one to a question that is the same
-pub answered_of : (p : Program) (pivots t : ℕ) (a : Asked) (empties : List EmptyAnswer) (set : List ℕ) (shut : List (ℕ × ℕ)) (answers : List EmptyAnswer)
+pub answered_of : (p : Program) (pivots t : ℕ) (a : AnsweredRankQuestion) (empties : List GuardFeasibility) (set : List ℕ) (shut : List (ℕ × ℕ)) (answers : List GuardFeasibility)
     → IsValid p → IsRuleSet p a.set.items t → set ≡ a.set.items → shut ≡ a.shut.items → answers ≡ empties
     → IsRankAnswer (ranked_set p set t (places_of shut)) (places_of shut) pivots answers a.answer → AnswersQuestion p pivots empties t a
 answered_of p pivots t a empties set shut answers v rules e f g h =
-    let moved = subst (λ (xs : List EmptyAnswer). IsRankAnswer (ranked_set p a.set.items t (places_of a.shut.items)) (places_of a.shut.items) pivots xs a.answer) g
+    let moved = subst (λ (xs : List GuardFeasibility). IsRankAnswer (ranked_set p a.set.items t (places_of a.shut.items)) (places_of a.shut.items) pivots xs a.answer) g
     (subst (λ (ys : List (ℕ × ℕ)). IsRankAnswer (ranked_set p a.set.items t (places_of ys)) (places_of ys) pivots answers a.answer) f
     (subst (λ (zs : List ℕ). IsRankAnswer (ranked_set p zs t (places_of shut)) (places_of shut) pivots answers a.answer) e h)) in
     record { answer = moved; shape = shape_of p a.set.items t (places_of a.shut.items) pivots empties a.answer v rules moved }
 
 -- what is missing, by an answer that gives no time
-pub missing_of : (p : Program) (b : Bounds) (pivots : ℕ) (empties : List EmptyAnswer) (t : ℕ) (a : Asked) (answer : RankAnswer) (why : NoBound)
+pub missing_of : (p : Program) (b : Bounds) (pivots : ℕ) (empties : List GuardFeasibility) (t : ℕ) (a : AnsweredRankQuestion) (answer : RankAnswer) (why : NoBound)
     → IsAsked p b t a → AnswersQuestion p pivots empties t a → a.answer ≡ answer
     → TellsRanking (setting_of p) b (ranking_of answer) (Lacks why)
     → IsMissing p b pivots empties t (record { set = a.set; shut = a.shut; answer = answer })
@@ -128,15 +128,15 @@ missing_of p b pivots empties t a answer why asked answered e tells = record {
 }
 
 -- where a time is missing the composed one doesn't fit
-pub missing_unfit : (p : Program) (b : Bounds) (pivots : ℕ) (empties : List EmptyAnswer) (t : ℕ) (a : Asked) (node : code_rank.RankNode) (x : Bound)
+pub missing_unfit : (p : Program) (b : Bounds) (pivots : ℕ) (empties : List GuardFeasibility) (t : ℕ) (a : AnsweredRankQuestion) (node : code_rank.RankNode) (x : Bound)
     → IsMissing p b pivots empties t a → a.answer ≡ ranks.Ranked node
     → Fits x ≡ rewritten_within (time_of p (rank_of node) (over b).time (over b).size) → ⊥
 missing_unfit p b pivots empties t a node x missing e fits =
     let tells = subst (λ (y : RankAnswer). TellsRanking (setting_of p) b (ranking_of y) (Lacks missing.why)) e missing.tells in
-    tells.0 (found_told p b (rank_of node) (rank_needs p (rank_of node)) x fits refl).0
+    tells.0 (found-sound p b (rank_of node) (rank_premises p (rank_of node)) x fits refl).0
 
 -- a gap that is answered holds
-pub gap_holds : (p : Program) (b : Bounds) (pivots : ℕ) (empties : List EmptyAnswer) (t : ℕ) (a : Asked) (g : code_gap.Gap) → IsValid p
+pub gap_holds : (p : Program) (b : Bounds) (pivots : ℕ) (empties : List GuardFeasibility) (t : ℕ) (a : AnsweredRankQuestion) (g : code_gap.Gap) → IsValid p
     → AreEmptyAnswers p pivots empties → is_untimed b 0 ≡ false → IsRule p t → IsMissing p b pivots empties t a → a.answer ≡ ranks.NoRank g
     → GapHolds p (forms_at p) (gap_of g)
 gap_holds p b pivots empties t a g valid answers start rule m e = told.0.holds

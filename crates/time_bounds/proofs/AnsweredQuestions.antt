@@ -3,24 +3,24 @@ use Rattle.std.proofs.Common.{◌≡◌, ℕ, zero, suc, ◌+◌, ◌<◌, List,
 use Rattle.std.proofs.Common.{Option, Some, None, subst, arith}
 use Rattle.std.specs.Prelude.{IfSome}
 use Rattle.model.specs.Programs.{Program}
-use Rattle.proof_tree.specs.declared.answer.EmptyAnswer.{EmptyAnswer}
-use Rattle.time_bounds.specs.declared.asking.Asked.{Asked}
+use Rattle.cert_types.specs.declared.answer.GuardFeasibility.{GuardFeasibility}
+use Rattle.time_bounds.specs.declared.asking.AnsweredRankQuestion.{AnsweredRankQuestion}
 use Rattle.time_bounds.specs.Questions.{AnswersQuestion, AreAnsweredFrom}
 
--- where nothing was asked nothing is kept
-pub none_kept : (p : Program) (pivots : ℕ) (empties : List EmptyAnswer) (k n : ℕ) → AreAnsweredFrom p pivots empties k (replicate n None)
+-- where nothing was queried nothing is kept
+pub none_kept : (p : Program) (pivots : ℕ) (empties : List GuardFeasibility) (k n : ℕ) → AreAnsweredFrom p pivots empties k (replicate n None)
 none_kept p pivots empties k zero = tt
 none_kept p pivots empties k (suc n) = none_kept p pivots empties (suc k) n
 
 -- a question that is kept of a rule, by what was kept of all
-pub kept_at : (p : Program) (pivots : ℕ) (empties : List EmptyAnswer) (k : ℕ) (kept : List (Option Asked)) (i : ℕ) (a : Asked)
+pub kept_at : (p : Program) (pivots : ℕ) (empties : List GuardFeasibility) (k : ℕ) (kept : List (Option AnsweredRankQuestion)) (i : ℕ) (a : AnsweredRankQuestion)
     → AreAnsweredFrom p pivots empties k kept → i < length kept → Some a ≡ get_or kept i (Some a) → AnswersQuestion p pivots empties (k + i) a
 kept_at p pivots empties k [] i a h l e = absurd (omega (arith, l))
 kept_at p pivots empties k (None ∷ kept) zero a h l e = absurd (let f : ⊥ = cc in f)
 kept_at p pivots empties k (Some b ∷ kept) zero a h l e =
     let same : b ≡ a = cc in
     subst (λ (n : ℕ). AnswersQuestion p pivots empties n a) (let z : k ≡ k + 0 = omega arith in z)
-    (subst (λ (x : Asked). AnswersQuestion p pivots empties k x) same h.0)
+    (subst (λ (x : AnsweredRankQuestion). AnswersQuestion p pivots empties k x) same h.0)
 kept_at p pivots empties k (None ∷ kept) (suc i) a h l e =
     subst (λ (n : ℕ). AnswersQuestion p pivots empties n a) (let z : suc k + i ≡ k + suc i = omega arith in z)
     (kept_at p pivots empties (suc k) kept i a h (omega (arith, l)) e)
@@ -28,8 +28,8 @@ kept_at p pivots empties k (Some b ∷ kept) (suc i) a h l e =
     subst (λ (n : ℕ). AnswersQuestion p pivots empties n a) (let z : suc k + i ≡ k + suc i = omega arith in z)
     (kept_at p pivots empties (suc k) kept i a h.1 (omega (arith, l)) e)
 
--- so of whatever was kept of a rule
-pub kept_read : (p : Program) (pivots : ℕ) (empties : List EmptyAnswer) (kept : List (Option Asked)) (i t : ℕ) (o : Option Asked)
+-- the same for whatever was kept of a rule
+pub kept_read : (p : Program) (pivots : ℕ) (empties : List GuardFeasibility) (kept : List (Option AnsweredRankQuestion)) (i t : ℕ) (o : Option AnsweredRankQuestion)
     → AreAnsweredFrom p pivots empties 1 kept → i < length kept → o ≡ get_or kept i o → t ≡ i + 1
     → IfSome o (λ a. AnswersQuestion p pivots empties t a)
 kept_read p pivots empties kept i t None h l e same = tt

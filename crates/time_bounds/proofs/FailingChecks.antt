@@ -3,16 +3,16 @@ use Rattle.std.proofs.Common.{◌≡◌, inl, inr, ℕ, List, [], ◌∷◌}
 use Rattle.std.specs.List.{AllByRecursion}
 use Rattle.model.specs.Bounds.{Bound}
 use Rattle.model.specs.Paths.{pre}
-use Rattle.proof_tree.specs.proof_nodes.AcceptsSizes.{IsStraightArm, spread_size, cycle_size}
-use Rattle.proof_tree.specs.proof_nodes.Checks.{large_nodes, check_size, check_time, check_up, check_low, check_small}
-use Rattle.proof_tree.specs.proof_nodes.Checks.{needed_into, needed_times, straight_from, straight_into, spread_checks}
-use Rattle.proof_tree.specs.proof_nodes.Checks.{cycle_checks}
-use Rattle.proof_tree.specs.proof_nodes.Known.{IsKnown, Table}
-use Rattle.proof_tree.specs.proof_nodes.Limits.{IsSmallComposed}
-use Rattle.proof_tree.specs.proof_nodes.Nodes.{Spot, Member}
-use Rattle.proof_tree.specs.proof_nodes.Reasons.{Reason, Shape, ArmUp, ArmLow, MissingTime, MissingSize, Bent, Large}
-use Rattle.proof_tree.specs.proof_nodes.Reasons.{Check, for_each, IsFirstAmong}
-use Rattle.proof_tree.specs.proof_nodes.Setting.{Setting}
+use Rattle.cert_types.specs.cert_rules.AcceptsSizes.{IsStraightSideBound, spread_size, cycle_size}
+use Rattle.cert_types.specs.cert_rules.Checks.{large_nodes, check_size, check_time, check_up, check_low, check_small}
+use Rattle.cert_types.specs.cert_rules.Checks.{needed_into, needed_times, straight_from, straight_into, spread_checks}
+use Rattle.cert_types.specs.cert_rules.Checks.{cycle_checks}
+use Rattle.cert_types.specs.cert_rules.Known.{IsKnown, Table}
+use Rattle.cert_types.specs.cert_rules.Limits.{IsSmallComposed}
+use Rattle.cert_types.specs.cert_rules.Nodes.{ResultVariable, Member}
+use Rattle.cert_types.specs.cert_rules.Reasons.{Reason, Shape, SideBoundUp, SideBoundLow, MissingTime, MissingSize, Nonlinear, Large}
+use Rattle.cert_types.specs.cert_rules.Reasons.{Check, for_each, IsFirstAmong}
+use Rattle.cert_types.specs.cert_rules.Setting.{Setting}
 
 -- what holds of each thing holds of all of a list
 pub of_all : {A : Type 0} (P : A → Type 0) → ((x : A) → P x) → (xs : List A) → AllByRecursion P xs
@@ -31,7 +31,7 @@ module _ (r : Reason) (S : Type 0) where
   first_gives (c ∷ cs) (inl h) all = all.0 h.0 h.1
   first_gives (c ∷ cs) (inr h) all = first_gives cs h.1 all.1
 
-  -- so it is of a check for each of a list
+  -- the same for a check for each element of a list
   pub each_gives : {A : Type 0} (f : A → Check) (xs : List A) (rest : List Check)
       → AllByRecursion (λ x. ((f x).holds → ⊥) → (f x).reason ≡ r → S) xs → AllGive rest → AllGive (for_each f xs rest)
   each_gives f [] rest h all = all
@@ -40,8 +40,8 @@ module _ (r : Reason) (S : Type 0) where
   module _ (s : Setting) (members : List Member) where
     -- of both arms of a member after a rule, if one bends with the reason, this follows
     abbrev pub BendGives : Member → ℕ → Type 0
-    BendGives m e = ((IsStraightArm s members m e m.local.up → ⊥) → Bent m.spot.rule m.spot.place ≡ r → S)
-        × ((IsStraightArm s members m e m.local.low → ⊥) → Bent m.spot.rule m.spot.place ≡ r → S)
+    BendGives m e = ((IsStraightSideBound s members m e m.local.up → ⊥) → Nonlinear m.result_variable.rule m.result_variable.place ≡ r → S)
+        × ((IsStraightSideBound s members m e m.local.low → ⊥) → Nonlinear m.result_variable.rule m.result_variable.place ≡ r → S)
 
     pub from_gives : (m : Member) (es : List ℕ) (rest : List Check) → AllByRecursion (BendGives m) es → AllGive rest
         → AllGive (straight_from s members m es rest)
@@ -49,16 +49,16 @@ module _ (r : Reason) (S : Type 0) where
     from_gives m (e ∷ es) rest h all = (h.0.0, (h.0.1, from_gives m es rest h.1 all))
 
     pub into_gives : (ms : List Member) (rest : List Check)
-        → AllByRecursion (λ m. AllByRecursion (BendGives m) (pre s.program m.spot.rule)) ms → AllGive rest
+        → AllByRecursion (λ m. AllByRecursion (BendGives m) (pre s.program m.result_variable.rule)) ms → AllGive rest
         → AllGive (straight_into s members ms rest)
     into_gives [] rest h all = all
     into_gives (m ∷ ms) rest h all =
-        from_gives m (pre s.program m.spot.rule) (straight_into s members ms rest) h.0 (into_gives ms rest h.1 all)
+        from_gives m (pre s.program m.result_variable.rule) (straight_into s members ms rest) h.0 (into_gives ms rest h.1 all)
 
   -- where neither the shape nor an arm is what fails, and what is missing, bends or is large gives this
-  module _ (s : Setting) (tab : Table) (shape : Shape ≡ r → ⊥) (up : (t i : ℕ) → ArmUp t i ≡ r → ⊥)
-      (low : (t i : ℕ) → ArmLow t i ≡ r → ⊥) where
-    abbrev pub SizeGives : Spot → Type 0
+  module _ (s : Setting) (tab : Table) (shape : Shape ≡ r → ⊥) (up : (t i : ℕ) → SideBoundUp t i ≡ r → ⊥)
+      (low : (t i : ℕ) → SideBoundLow t i ≡ r → ⊥) where
+    abbrev pub SizeGives : ResultVariable → Type 0
     SizeGives m = (IsKnown (tab.size m.rule m.place) → ⊥) → MissingSize m.rule m.place ≡ r → S
 
     abbrev pub TimeGives : ℕ → Type 0
@@ -74,9 +74,9 @@ module _ (r : Reason) (S : Type 0) where
         first_gives (spread_checks s tab m) h (
           (λ fails e. absurd (shape e)),
           (
-            (λ fails e. absurd (up m.spot.rule m.spot.place e)),
+            (λ fails e. absurd (up m.result_variable.rule m.result_variable.place e)),
             (
-              (λ fails e. absurd (low m.spot.rule m.spot.place e)),
+              (λ fails e. absurd (low m.result_variable.rule m.result_variable.place e)),
               each_gives (check_size tab) (needed_into s [] (m ∷ [])) (check_small s (spread_size s tab m) ∷ []) sizes (large, tt),
             ),
           ),
@@ -89,25 +89,25 @@ module _ (r : Reason) (S : Type 0) where
     abbrev time_checks : List Member → List Check
     time_checks ms = for_each (check_time tab) (needed_times s tab ms) (size_checks ms)
 
-    abbrev bent_checks : List Member → List Check
-    bent_checks ms = straight_into s ms ms (time_checks ms)
+    abbrev nonlinear_checks : List Member → List Check
+    nonlinear_checks ms = straight_into s ms ms (time_checks ms)
 
     abbrev needed_checks : List Member → List Check
-    needed_checks ms = for_each (check_size tab) (needed_into s ms ms) (bent_checks ms)
+    needed_checks ms = for_each (check_size tab) (needed_into s ms ms) (nonlinear_checks ms)
 
     -- and of members that do
     pub cycle_gives : (ms : List Member) → AllByRecursion SizeGives (needed_into s ms ms)
-        → AllByRecursion (λ m. AllByRecursion (BendGives s ms m) (pre s.program m.spot.rule)) ms
+        → AllByRecursion (λ m. AllByRecursion (BendGives s ms m) (pre s.program m.result_variable.rule)) ms
         → AllByRecursion TimeGives (needed_times s tab ms) → LargeGives (cycle_size s tab ms)
         → IsFirstAmong (cycle_checks s tab ms) r → S
     cycle_gives ms sizes bends times large h =
         first_gives (cycle_checks s tab ms) h (
           (λ fails e. absurd (shape e)),
           each_gives (check_up s) ms (for_each (check_low s) ms (needed_checks ms))
-              (of_all _ (λ m fails e. absurd (up m.spot.rule m.spot.place e)) ms)
+              (of_all _ (λ m fails e. absurd (up m.result_variable.rule m.result_variable.place e)) ms)
               (each_gives (check_low s) ms (needed_checks ms)
-              (of_all _ (λ m fails e. absurd (low m.spot.rule m.spot.place e)) ms)
-              (each_gives (check_size tab) (needed_into s ms ms) (bent_checks ms) sizes
+              (of_all _ (λ m fails e. absurd (low m.result_variable.rule m.result_variable.place e)) ms)
+              (each_gives (check_size tab) (needed_into s ms ms) (nonlinear_checks ms) sizes
               (into_gives s ms ms (time_checks ms) bends
               (each_gives (check_time tab) (needed_times s tab ms) (size_checks ms) times (large, tt))))),
         )

@@ -7,24 +7,24 @@ use Rattle.model.specs.Entries.{is_in}
 use Rattle.model.specs.Paths.{pre}
 use Rattle.model.specs.Programs.{Program}
 use Rattle.model.proofs.Membership.{filter-in}
-use Rattle.outcome.specs.Reports.{NoSize, SizeLoose, SizeTripped, SizeMissing, SizeBent, SizeUntimed, SizeLarge}
-use Rattle.proof_tree.specs.proof_nodes.AcceptsSizes.{IsStraight, spread_size, cycle_size}
-use Rattle.proof_tree.specs.proof_nodes.Checks.{large_nodes, needed_into, needed_times, spread_checks, cycle_checks}
-use Rattle.proof_tree.specs.proof_nodes.ComposedSizes.{rules_of, flows, multiplies, adds}
-use Rattle.proof_tree.specs.proof_nodes.Known.{IsKnown}
-use Rattle.proof_tree.specs.proof_nodes.Limits.{IsSmallComposed}
-use Rattle.proof_tree.specs.proof_nodes.Nodes.{Spot, Member}
-use Rattle.proof_tree.specs.proof_nodes.Reasons as reasons
-use Rattle.proof_tree.specs.proof_nodes.Reasons.{Reason}
-use Rattle.proof_tree.specs.proof_nodes.Setting.{Setting}
-use Rattle.proof_tree.specs.proof_setting.Setting.{setting_of}
-use Rattle.proof_tree.proofs.proof_nodes.CheckLists.{in-each}
-use Rattle.bound_rounds.specs.Keys.{Bounds, has_key, over}
-use Rattle.bound_rounds.specs.Loops.{do_loop}
-use Rattle.bound_rounds.specs.Right.{IsReasonFor}
-use Rattle.bound_rounds.specs.Searches.{Unsized}
-use Rattle.bound_rounds.proofs.Cases.{either}
-use Rattle.bound_rounds.proofs.ListMembers.{contains-cases, contains-none}
+use Rattle.outcome.specs.Reports.{NoSize, SizeUnbounded, SizeTripped, SizeMissing, SizeNonlinear, SizeUntimed, SizeLarge}
+use Rattle.cert_types.specs.cert_rules.AcceptsSizes.{IsStraight, spread_size, cycle_size}
+use Rattle.cert_types.specs.cert_rules.Checks.{large_nodes, needed_into, needed_times, spread_checks, cycle_checks}
+use Rattle.cert_types.specs.cert_rules.ComposedSizes.{rules_of, flows, multiplies, adds}
+use Rattle.cert_types.specs.cert_rules.Known.{IsKnown}
+use Rattle.cert_types.specs.cert_rules.Limits.{IsSmallComposed}
+use Rattle.cert_types.specs.cert_rules.Nodes.{ResultVariable, Member}
+use Rattle.cert_types.specs.cert_rules.Reasons as reasons
+use Rattle.cert_types.specs.cert_rules.Reasons.{Reason}
+use Rattle.cert_types.specs.cert_rules.Setting.{Setting}
+use Rattle.cert_types.specs.cert_program.Setting.{setting_of}
+use Rattle.cert_types.proofs.cert_rules.CheckLists.{in-each}
+use Rattle.bound_fixpoint.specs.Keys.{Bounds, has_key, over}
+use Rattle.bound_fixpoint.specs.Loops.{do_loop}
+use Rattle.bound_fixpoint.specs.Right.{IsReasonFor}
+use Rattle.bound_fixpoint.specs.Searches.{Unsized}
+use Rattle.bound_fixpoint.proofs.Cases.{either}
+use Rattle.bound_fixpoint.proofs.ListMembers.{contains-cases, contains-none}
 use Rattle.time_bounds.specs.ProgramSizes.{AnswersMembers}
 use Rattle.time_bounds.specs.SizeWhys.{IsComponentOf, LacksFirst, RestsOnSize}
 use Rattle.time_bounds.specs.SizeWhys.{TakesFrom, BendsAt, GrowsUntimed, composed_size, SizeIsLarge}
@@ -44,8 +44,8 @@ each_member P Q xs f h =
     from_both (Contains xs) P Q f xs (recursion_from_All (Contains xs) xs (All-contains_itself xs)) h
 
 -- spots with the same parts are the same
-same_spot : (m n : Spot) → m.rule ≡ n.rule → m.place ≡ n.place → m ≡ n
-same_spot m n rule place = λ i. record { rule = rule i; place = place i }
+same_result_variable : (m n : ResultVariable) → m.rule ≡ n.rule → m.place ≡ n.place → m ≡ n
+same_result_variable m n rule place = λ i. record { rule = rule i; place = place i }
 
 module _ (p : Program) (pivots : ℕ) where
   abbrev s : Setting
@@ -53,15 +53,15 @@ module _ (p : Program) (pivots : ℕ) where
 
   module _ (b : Bounds) (t i : ℕ) where
     -- a size that is needed and isn't known, where the places that are needed are no members
-    module _ (m : Spot) (members : List Member) (component : IsComponentOf p pivots t i members)
+    module _ (m : ResultVariable) (members : List Member) (component : IsComponentOf p pivots t i members)
         (first : LacksFirst s b members (SizeMissing m)) (inside : List Member)
-        (outer : (x : Spot) → IsNeeded s inside members x → has_key (map (λ k. k.spot) members) x.rule x.place ≡ false) where
-      rests : (x : Spot) → IsNeeded s inside members x → (IsKnown ((over b).size x.rule x.place) → ⊥)
+        (outer : (x : ResultVariable) → IsNeeded s inside members x → has_key (map (λ k. k.result_variable) members) x.rule x.place ≡ false) where
+      rests : (x : ResultVariable) → IsNeeded s inside members x → (IsKnown ((over b).size x.rule x.place) → ⊥)
           → reasons.MissingSize x.rule x.place ≡ reasons.MissingSize m.rule m.place → RestsOnSize p pivots b t i m
       rests x needed fails e =
           let rule : x.rule ≡ m.rule = cc in
           let place : x.place ≡ m.place = cc in
-          let there = subst (λ (k : Spot). IsNeeded s inside members k) (same_spot x m rule place) needed in
+          let there = subst (λ (k : ResultVariable). IsNeeded s inside members k) (same_result_variable x m rule place) needed in
           record {
             members = members;
             component = component;
@@ -69,19 +69,19 @@ module _ (p : Program) (pivots : ℕ) where
             among = there.among;
             takes = there.takes;
             outside = outer m there;
-            missing = subst (λ (k : Spot). b k.rule k.place ≡ None) (same_spot x m rule place)
+            missing = subst (λ (k : ResultVariable). b k.rule k.place ≡ None) (same_result_variable x m rule place)
                 (size_missing b x.rule x.place needed.takes.place fails);
             first = first;
           }
 
-      all_rest : (spots : List Spot) → AllByRecursion (IsNeeded s inside members) spots
+      all_rest : (result_variables : List ResultVariable) → AllByRecursion (IsNeeded s inside members) result_variables
           → AllByRecursion (λ x. (IsKnown ((over b).size x.rule x.place) → ⊥)
-          → reasons.MissingSize x.rule x.place ≡ reasons.MissingSize m.rule m.place → RestsOnSize p pivots b t i m) spots
+          → reasons.MissingSize x.rule x.place ≡ reasons.MissingSize m.rule m.place → RestsOnSize p pivots b t i m) result_variables
       all_rest [] h = tt
-      all_rest (x ∷ spots) h = (rests x h.0, all_rest spots h.1)
+      all_rest (x ∷ result_variables) h = (rests x h.0, all_rest result_variables h.1)
 
     -- a size that is the first to be missing
-    size_so : (m : Spot) (members : List Member) → IsComponentOf p pivots t i members → (v : Bool) → do_loop s members ≡ v
+    size_so : (m : ResultVariable) (members : List Member) → IsComponentOf p pivots t i members → (v : Bool) → do_loop s members ≡ v
         → AnswersMembers v s (over b) members (Unsized (SizeMissing m)) → RestsOnSize p pivots b t i m
     size_so m [] component false e h = absurd h
     size_so m (n ∷ []) component false e (r, is, failed) =
@@ -94,7 +94,7 @@ module _ (p : Program) (pivots : ℕ) where
         (λ fails k. absurd (let none : ⊥ = cc in none))
         (subst (λ (q : Reason). reasons.IsFirstAmong (spread_checks s (over b) n) q) is failed)
       where
-        alone : (x : Spot) → IsNeeded s [] (n ∷ []) x → has_key (map (λ k. k.spot) (n ∷ [])) x.rule x.place ≡ false
+        alone : (x : ResultVariable) → IsNeeded s [] (n ∷ []) x → has_key (map (λ k. k.result_variable) (n ∷ [])) x.rule x.place ≡ false
         alone x needed =
             let only = either (contains-cases needed.member n [] needed.among) (λ f. sym f)
             (λ later. absurd (contains-none needed.member later)) in
@@ -111,52 +111,52 @@ module _ (p : Program) (pivots : ℕ) where
         (of_all _ (λ n. of_all _ (λ u. (
           (λ fails k. absurd (let none : ⊥ = cc in none)),
           λ fails k. absurd (let none : ⊥ = cc in none),
-        )) (pre p n.spot.rule)) members)
+        )) (pre p n.result_variable.rule)) members)
         (of_all _ (λ u fails k. absurd (let none : ⊥ = cc in none)) (needed_times s (over b) members))
         (λ fails k. absurd (let none : ⊥ = cc in none))
         (subst (λ (q : Reason). reasons.IsFirstAmong (cycle_checks s (over b) members) q) is failed)
 
     -- a member that bends first
-    bent_so : (m : Spot) (members : List Member) → IsComponentOf p pivots t i members → (v : Bool) → do_loop s members ≡ v
-        → AnswersMembers v s (over b) members (Unsized (SizeBent m)) → BendsAt p pivots b t i m
-    bent_so m [] component false e h = absurd h
-    bent_so m (n ∷ []) component false e (r, is, failed) =
-        spread_gives (reasons.Bent m.rule m.place) (BendsAt p pivots b t i m) s (over b)
+    nonlinear_so : (m : ResultVariable) (members : List Member) → IsComponentOf p pivots t i members → (v : Bool) → do_loop s members ≡ v
+        → AnswersMembers v s (over b) members (Unsized (SizeNonlinear m)) → BendsAt p pivots b t i m
+    nonlinear_so m [] component false e h = absurd h
+    nonlinear_so m (n ∷ []) component false e (r, is, failed) =
+        spread_gives (reasons.Nonlinear m.rule m.place) (BendsAt p pivots b t i m) s (over b)
         (λ k. let none : ⊥ = cc in none) (λ a c k. let none : ⊥ = cc in none) (λ a c k. let none : ⊥ = cc in none) n
         (of_all _ (λ x fails k. absurd (let none : ⊥ = cc in none)) (needed_into s [] (n ∷ [])))
         (λ fails k. absurd (let none : ⊥ = cc in none))
         (subst (λ (q : Reason). reasons.IsFirstAmong (spread_checks s (over b) n) q) is failed)
-    bent_so m (n ∷ k ∷ members) component false e h = absurd h
-    bent_so m members component true e (r, is, failed) =
-        cycle_gives (reasons.Bent m.rule m.place) (BendsAt p pivots b t i m) s (over b)
+    nonlinear_so m (n ∷ k ∷ members) component false e h = absurd h
+    nonlinear_so m members component true e (r, is, failed) =
+        cycle_gives (reasons.Nonlinear m.rule m.place) (BendsAt p pivots b t i m) s (over b)
         (λ k. let none : ⊥ = cc in none) (λ a c k. let none : ⊥ = cc in none) (λ a c k. let none : ⊥ = cc in none) members
         (of_all _ (λ x fails k. absurd (let none : ⊥ = cc in none)) (needed_into s members members))
-        (each_member (λ n. Unit {0}) (λ n. AllByRecursion (BendGives (reasons.Bent m.rule m.place) (BendsAt p pivots b t i m) s members n)
-        (pre p n.spot.rule)) members (λ n among one. bends n among) (of_all (λ n. Unit {0}) (λ n. tt) members))
+        (each_member (λ n. Unit {0}) (λ n. AllByRecursion (BendGives (reasons.Nonlinear m.rule m.place) (BendsAt p pivots b t i m) s members n)
+        (pre p n.result_variable.rule)) members (λ n among one. bends n among) (of_all (λ n. Unit {0}) (λ n. tt) members))
         (of_all _ (λ u fails k. absurd (let none : ⊥ = cc in none)) (needed_times s (over b) members))
         (λ fails k. absurd (let none : ⊥ = cc in none))
         (subst (λ (q : Reason). reasons.IsFirstAmong (cycle_checks s (over b) members) q) is failed)
       where
         bends_at : (n : Member) → Contains members n → (IsStraight s members n → ⊥)
-            → reasons.Bent n.spot.rule n.spot.place ≡ reasons.Bent m.rule m.place → BendsAt p pivots b t i m
+            → reasons.Nonlinear n.result_variable.rule n.result_variable.place ≡ reasons.Nonlinear m.rule m.place → BendsAt p pivots b t i m
         bends_at n among fails k =
-            let rule : n.spot.rule ≡ m.rule = cc in
-            let place : n.spot.place ≡ m.place = cc in
+            let rule : n.result_variable.rule ≡ m.rule = cc in
+            let place : n.result_variable.place ≡ m.place = cc in
             record {
               members = members;
               component = component;
               member = n;
               among = among;
-              same = same_spot n.spot m rule place;
+              same = same_result_variable n.result_variable m rule place;
               loop = e;
-              bent = fails;
-              first = subst (λ (w : Bool). AnswersMembers w s (over b) members (Unsized (SizeBent m))) (sym e) (r, is, failed);
+              nonlinear = fails;
+              first = subst (λ (w : Bool). AnswersMembers w s (over b) members (Unsized (SizeNonlinear m))) (sym e) (r, is, failed);
             }
 
         bends : (n : Member) → Contains members n
-            → AllByRecursion (BendGives (reasons.Bent m.rule m.place) (BendsAt p pivots b t i m) s members n) (pre p n.spot.rule)
+            → AllByRecursion (BendGives (reasons.Nonlinear m.rule m.place) (BendsAt p pivots b t i m) s members n) (pre p n.result_variable.rule)
         bends n among =
-            in-each (BendGives (reasons.Bent m.rule m.place) (BendsAt p pivots b t i m) s members n) (pre p n.spot.rule)
+            in-each (BendGives (reasons.Nonlinear m.rule m.place) (BendsAt p pivots b t i m) s members n) (pre p n.result_variable.rule)
             (λ u k. (
               (λ fails same. bends_at n among (λ straight. fails (straight.up u k)) same),
               λ fails same. bends_at n among (λ straight. fails (straight.low u k)) same,
@@ -180,7 +180,7 @@ module _ (p : Program) (pivots : ℕ) where
         (of_all _ (λ n. of_all _ (λ w. (
           (λ fails k. absurd (let none : ⊥ = cc in none)),
           λ fails k. absurd (let none : ⊥ = cc in none),
-        )) (pre p n.spot.rule)) members)
+        )) (pre p n.result_variable.rule)) members)
         (in-each (λ w. (IsKnown ((over b).time w) → ⊥) → reasons.MissingTime w ≡ reasons.MissingTime u → GrowsUntimed p pivots b t i u)
         (needed_times s (over b) members) grows)
         (λ fails k. absurd (let none : ⊥ = cc in none))
@@ -233,7 +233,7 @@ module _ (p : Program) (pivots : ℕ) where
         (of_all _ (λ m. of_all _ (λ w. (
           (λ fails k. absurd (let none : ⊥ = cc in none)),
           λ fails k. absurd (let none : ⊥ = cc in none),
-        )) (pre p m.spot.rule)) members)
+        )) (pre p m.result_variable.rule)) members)
         (of_all _ (λ u fails k. absurd (let none : ⊥ = cc in none)) (needed_times s (over b) members)) large
         (subst (λ (q : Reason). reasons.IsFirstAmong (cycle_checks s (over b) members) q) is failed)
       where
@@ -262,11 +262,11 @@ module _ (p : Program) (pivots : ℕ) where
     -- what is judged of members with local bounds
     pub judged_so : (why : NoSize) (members : List Member) → IsComponentOf p pivots t i members
         → AnswersMembers (do_loop s members) s (over b) members (Unsized why) → HasNoSize p pivots b t i why
-    judged_so (SizeLoose side ray kept) members component h =
-        absurd (never (SizeLoose side ray kept) (λ r k. k) members (do_loop s members) h)
+    judged_so (SizeUnbounded side ray kept) members component h =
+        absurd (never (SizeUnbounded side ray kept) (λ r k. k) members (do_loop s members) h)
     judged_so (SizeTripped x) members component h =
         absurd (never (SizeTripped x) (λ r k. k) members (do_loop s members) h)
     judged_so (SizeMissing m) members component h = size_so m members component (do_loop s members) refl h
-    judged_so (SizeBent m) members component h = bent_so m members component (do_loop s members) refl h
+    judged_so (SizeNonlinear m) members component h = nonlinear_so m members component (do_loop s members) refl h
     judged_so (SizeUntimed u) members component h = untimed_so u members component (do_loop s members) refl h
     judged_so (SizeLarge n) members component h = large_so n members component (do_loop s members) refl h

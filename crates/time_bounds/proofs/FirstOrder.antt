@@ -8,32 +8,32 @@ use Rattle.model.specs.Paths.{target_in, target_of}
 use Rattle.model.proofs.Cases.{none_some, some_same}
 use Rattle.model.proofs.Membership.{no_is_not_yes, slice_get-below}
 use Rattle.guard_prep.specs.Prepared.{prepared}
-use Rattle.proof_tree.specs.proof_nodes.AcceptsPlain.{IsRule, IsUnreached, places_at}
-use Rattle.proof_tree.specs.proof_nodes.Nodes.{Spot}
-use Rattle.proof_tree.specs.declared.answer.EmptyAnswer.{EmptyAnswer}
-use Rattle.proof_tree.specs.declared.answer.EmptyAnswer.TheVariants as answers
+use Rattle.cert_types.specs.cert_rules.AcceptsPlain.{IsRule, IsUnreached, places_at}
+use Rattle.cert_types.specs.cert_rules.Nodes.{ResultVariable}
+use Rattle.cert_types.specs.declared.answer.GuardFeasibility.{GuardFeasibility}
+use Rattle.cert_types.specs.declared.answer.GuardFeasibility.TheVariants as answers
 use Rattle.rank_search.specs.rule_questions.EmptyAnswers.{IsEmptyAnswer}
 use Rattle.rank_search.specs.rule_questions.RuleAnswers.{AreEmptyAnswers}
 use Rattle.rank_search.proofs.rule_questions.Exact.{answers-exact}
 use Rattle.model.specs.Bounds.{Constant}
-use Rattle.bound_rounds.specs.Keys.{key, time_key, rule_numbers}
-use Rattle.bound_rounds.specs.Finds.{Find, NeverBy}
-use Rattle.bound_rounds.specs.Searches.{Searches, NoPoint}
-use Rattle.bound_rounds.specs.Components.{IsEmpty, IsDead}
-use Rattle.bound_rounds.specs.Beginning.{AreEmptyFinds, AreFirst, unreached_find, never_find, is_cut, is_dead, has_places}
-use Rattle.time_bounds.specs.declared.fates.Fate.{Fate}
-use Rattle.time_bounds.specs.declared.fates.Fate.TheVariants.{Empty, Unreached, Live}
-use Rattle.time_bounds.specs.Beginning.{empty_finds, empty_keys, unreached_finds}
-use Rattle.time_bounds.specs.Beginning.{never_here, never_finds, sized_find}
-use Rattle.time_bounds.specs.Fates.{says_empty, fate_at, is_empty_fate, is_dead_fate, AreFates}
+use Rattle.bound_fixpoint.specs.Keys.{key, time_key, rule_numbers}
+use Rattle.bound_fixpoint.specs.Derivations.{Derivation, NeverBy}
+use Rattle.bound_fixpoint.specs.Searches.{Searches, NoPoint}
+use Rattle.bound_fixpoint.specs.Components.{IsEmpty, IsDead}
+use Rattle.bound_fixpoint.specs.Beginning.{AreEmptyDerivations, AreFirst, unreached_derivation, never_derivation, is_cut, is_dead, has_places}
+use Rattle.time_bounds.specs.declared.rule_statuses.RuleStatus.{RuleStatus}
+use Rattle.time_bounds.specs.declared.rule_statuses.RuleStatus.TheVariants.{Empty, Unreached, Live}
+use Rattle.time_bounds.specs.Beginning.{empty_derivations, empty_keys, unreached_derivations}
+use Rattle.time_bounds.specs.Beginning.{never_here, never_derivations, sized_derivation}
+use Rattle.time_bounds.specs.RuleStatuses.{says_empty, rule_status_at, is_empty_rule_status, is_dead_rule_status, AreRuleStatuses}
 use Rattle.time_bounds.specs.ProgramSearches.{searches_of_program}
-use Rattle.time_bounds.proofs.FateLaws.{bool_same, says, shown, shown_says}
+use Rattle.time_bounds.proofs.RuleStatusLaws.{bool_same, says, shown, shown_says}
 use Rattle.time_bounds.proofs.RuleNumbers.{rule_there}
 
-abbrev pub is_unreached_fate : Fate → Bool
-is_unreached_fate Empty = false
-is_unreached_fate Unreached = true
-is_unreached_fate Live = false
+abbrev pub is_unreached_rule_status : RuleStatus → Bool
+is_unreached_rule_status Empty = false
+is_unreached_rule_status Unreached = true
+is_unreached_rule_status Live = false
 
 -- whether a number of places isn't zero
 abbrev pub some_places : ℕ → Bool
@@ -41,103 +41,103 @@ some_places zero = false
 some_places (suc n) = true
 
 module _ (ie iu : ℕ → Bool) where
-  -- what tests tell of a rule with this fate
-  abbrev pub Told : ℕ → Fate → Type 0
-  Told t f = (ie t ≡ is_empty_fate f) × (iu t ≡ is_unreached_fate f)
+  -- the results of the tests for a rule with this status
+  abbrev pub Told : ℕ → RuleStatus → Type 0
+  Told t f = (ie t ≡ is_empty_rule_status f) × (iu t ≡ is_unreached_rule_status f)
 
   -- and of these rules from t on
-  abbrev pub AreTold : ℕ → List Fate → Type 0
-  AreTold t fs = (i : ℕ) (f : Fate) → slice_get fs i ≡ Some f → Told (t + i) f
+  abbrev pub AreTold : ℕ → List RuleStatus → Type 0
+  AreTold t fs = (i : ℕ) (f : RuleStatus) → slice_get fs i ≡ Some f → Told (t + i) f
 
-  told_head : (t : ℕ) (f : Fate) (fs : List Fate) → AreTold t (f ∷ fs) → Told t f
+  told_head : (t : ℕ) (f : RuleStatus) (fs : List RuleStatus) → AreTold t (f ∷ fs) → Told t f
   told_head t f fs h = subst (λ (n : ℕ). Told n f) (let z : t + 0 ≡ t = omega arith in z) (h 0 f refl)
 
-  told_rest : (t : ℕ) (f : Fate) (fs : List Fate) → AreTold t (f ∷ fs) → AreTold (t + 1) fs
+  told_rest : (t : ℕ) (f : RuleStatus) (fs : List RuleStatus) → AreTold t (f ∷ fs) → AreTold (t + 1) fs
   told_rest t f fs h i g e = subst (λ (n : ℕ). Told n g) (let z : t + suc i ≡ t + 1 + i = omega arith in z) (h (suc i) g e)
 
-  -- the keys of empty rules by fates are those of the rules that a test tells to be empty
-  pub empty_keys_are : (t : ℕ) (fs : List Fate) → AreTold t fs
+  -- the keys of empty rules, by status, are those of the rules that the test finds empty
+  pub empty_keys_are : (t : ℕ) (fs : List RuleStatus) → AreTold t fs
       → empty_keys t fs ≡ map time_key (filter ie (range_with_len t (length fs)))
   empty_keys_are t [] h = refl
   empty_keys_are t (f ∷ fs) h = go f (told_head t f fs h) (empty_keys_are (t + 1) fs (told_rest t f fs h))
     where
-      go : (g : Fate) → Told t g → empty_keys (t + 1) fs ≡ map time_key (filter ie (range_with_len (t + 1) (length fs)))
+      go : (g : RuleStatus) → Told t g → empty_keys (t + 1) fs ≡ map time_key (filter ie (range_with_len (t + 1) (length fs)))
           → empty_keys t (g ∷ fs) ≡ map time_key (filter ie (range_with_len t (suc (length fs))))
-      go Empty a ih = rw a.0 (ap (λ (ks : List Spot). time_key t ∷ ks) ih)
+      go Empty a ih = rw a.0 (ap (λ (ks : List ResultVariable). time_key t ∷ ks) ih)
       go Unreached a ih = rw a.0 ih
       go Live a ih = rw a.0 ih
 
-  -- the finds of unreached rules by fates are those of the rules that tests tell to be cut off
-  pub unreached_are : (dead : List Spot) (t : ℕ) (fs : List Fate) → AreTold t fs
-      → unreached_finds dead t fs ≡ map (unreached_find dead) (filter (is_cut ie iu) (range_with_len t (length fs)))
+  -- the finds of unreached rules, by status, are those of the rules that the tests find cut off
+  pub unreached_are : (dead : List ResultVariable) (t : ℕ) (fs : List RuleStatus) → AreTold t fs
+      → unreached_derivations dead t fs ≡ map (unreached_derivation dead) (filter (is_cut ie iu) (range_with_len t (length fs)))
   unreached_are dead t [] h = refl
   unreached_are dead t (f ∷ fs) h = go f (told_head t f fs h) (unreached_are dead (t + 1) fs (told_rest t f fs h))
     where
-      go : (g : Fate) → Told t g
-          → unreached_finds dead (t + 1) fs ≡ map (unreached_find dead) (filter (is_cut ie iu) (range_with_len (t + 1) (length fs)))
-          → unreached_finds dead t (g ∷ fs) ≡ map (unreached_find dead) (filter (is_cut ie iu) (range_with_len t (suc (length fs))))
+      go : (g : RuleStatus) → Told t g
+          → unreached_derivations dead (t + 1) fs ≡ map (unreached_derivation dead) (filter (is_cut ie iu) (range_with_len (t + 1) (length fs)))
+          → unreached_derivations dead t (g ∷ fs) ≡ map (unreached_derivation dead) (filter (is_cut ie iu) (range_with_len t (suc (length fs))))
       go Empty a ih = rw a.0 ih
-      go Unreached a ih = rw (a.0, a.1) (ap (λ (gs : List Find). unreached_find dead t ∷ gs) ih)
+      go Unreached a ih = rw (a.0, a.1) (ap (λ (gs : List Derivation). unreached_derivation dead t ∷ gs) ih)
       go Live a ih = rw (a.0, a.1) ih
 
-  -- the finds of sizes by fates are those of the rules told to be dead whose targets have places
-  pub never_are : (p : Program) (has : ℕ → Bool) (t : ℕ) (fs : List Fate) (rs : List Rule) → length fs ≡ length rs
+  -- the finds of sizes, by status, are those of the rules found dead whose targets have places
+  pub never_are : (p : Program) (has : ℕ → Bool) (t : ℕ) (fs : List RuleStatus) (rs : List Rule) → length fs ≡ length rs
       → AreTold t fs → ((i : ℕ) (r : Rule) → slice_get rs i ≡ Some r
-      → (has (t + i) ≡ some_places (arity_of p r.target)) × (never_find p (t + i) ≡ sized_find (t + i) (arity_of p r.target)))
-      → never_finds p t fs rs ≡ map (never_find p) (filter has (filter (is_dead ie iu) (range_with_len t (length fs))))
+      → (has (t + i) ≡ some_places (arity_of p r.target)) × (never_derivation p (t + i) ≡ sized_derivation (t + i) (arity_of p r.target)))
+      → never_derivations p t fs rs ≡ map (never_derivation p) (filter has (filter (is_dead ie iu) (range_with_len t (length fs))))
   never_are p has t [] rs e h g = refl
   never_are p has t (f ∷ fs) [] e h g = absurd (omega (arith, e))
   never_are p has t (f ∷ fs) (r ∷ rs) e h g =
       go f (arity_of p r.target) (told_head t f fs h)
-      (subst (λ (n : ℕ). (has n ≡ some_places (arity_of p r.target)) × (never_find p n ≡ sized_find n (arity_of p r.target)))
+      (subst (λ (n : ℕ). (has n ≡ some_places (arity_of p r.target)) × (never_derivation p n ≡ sized_derivation n (arity_of p r.target)))
       (let z : t + 0 ≡ t = omega arith in z) (g 0 r refl))
       (never_are p has (t + 1) fs rs (let z : length fs ≡ length rs = omega (arith, e) in z) (told_rest t f fs h)
-      (λ i s k. subst (λ (n : ℕ). (has n ≡ some_places (arity_of p s.target)) × (never_find p n ≡ sized_find n (arity_of p s.target)))
+      (λ i s k. subst (λ (n : ℕ). (has n ≡ some_places (arity_of p s.target)) × (never_derivation p n ≡ sized_derivation n (arity_of p s.target)))
       (let z : t + suc i ≡ t + 1 + i = omega arith in z) (g (suc i) s k)))
     where
-      go : (d : Fate) (a : ℕ) → Told t d → (has t ≡ some_places a) × (never_find p t ≡ sized_find t a)
-          → never_finds p (t + 1) fs rs ≡ map (never_find p) (filter has (filter (is_dead ie iu) (range_with_len (t + 1) (length fs))))
-          → never_here t d a ++ never_finds p (t + 1) fs rs
-          ≡ map (never_find p) (filter has (filter (is_dead ie iu) (range_with_len t (suc (length fs)))))
+      go : (d : RuleStatus) (a : ℕ) → Told t d → (has t ≡ some_places a) × (never_derivation p t ≡ sized_derivation t a)
+          → never_derivations p (t + 1) fs rs ≡ map (never_derivation p) (filter has (filter (is_dead ie iu) (range_with_len (t + 1) (length fs))))
+          → never_here t d a ++ never_derivations p (t + 1) fs rs
+          ≡ map (never_derivation p) (filter has (filter (is_dead ie iu) (range_with_len t (suc (length fs)))))
       go Empty zero b k ih = rw (b.0, k.0) ih
       go Empty (suc a) b k ih =
-          rw (b.0, k.0) (ap (λ (f : Find). f ∷ never_finds p (t + 1) fs rs) (sym k.1) ∙ ap (λ (gs : List Find). never_find p t ∷ gs) ih)
+          rw (b.0, k.0) (ap (λ (f : Derivation). f ∷ never_derivations p (t + 1) fs rs) (sym k.1) ∙ ap (λ (gs : List Derivation). never_derivation p t ∷ gs) ih)
       go Unreached zero b k ih = rw (b.0, b.1, k.0) ih
       go Unreached (suc a) b k ih =
-          rw (b.0, b.1, k.0) (ap (λ (f : Find). f ∷ never_finds p (t + 1) fs rs) (sym k.1) ∙ ap (λ (gs : List Find). never_find p t ∷ gs) ih)
+          rw (b.0, b.1, k.0) (ap (λ (f : Derivation). f ∷ never_derivations p (t + 1) fs rs) (sym k.1) ∙ ap (λ (gs : List Derivation). never_derivation p t ∷ gs) ih)
       go Live a b k ih = rw (b.0, b.1) ih
 
--- an answer that the rows of a rule have no point is told to the searches
-abbrev Tells : Searches → ℕ → EmptyAnswer → Type 0
+-- an answer that the rows of a rule have no point is one of the searches
+abbrev Tells : Searches → ℕ → GuardFeasibility → Type 0
 Tells q t (answers.Empty n) = q.Empties t (NoPoint n.multipliers.items)
 Tells q t (answers.Point z) = Unit {0}
-Tells q t (answers.Tripped x) = Unit {0}
+Tells q t (answers.OutOfLimits x) = Unit {0}
 
 -- the finds of empty rules by their answers
-pub empties_are : (q : Searches) (test : ℕ → Bool) (t : ℕ) (xs : List EmptyAnswer)
-    → ((i : ℕ) (a : EmptyAnswer) → slice_get xs i ≡ Some a → (test (t + i) ≡ says_empty a) × Tells q (t + i) a)
-    → AreEmptyFinds q (filter test (range_with_len t (length xs))) (empty_finds t xs)
+pub empties_are : (q : Searches) (test : ℕ → Bool) (t : ℕ) (xs : List GuardFeasibility)
+    → ((i : ℕ) (a : GuardFeasibility) → slice_get xs i ≡ Some a → (test (t + i) ≡ says_empty a) × Tells q (t + i) a)
+    → AreEmptyDerivations q (filter test (range_with_len t (length xs))) (empty_derivations t xs)
 empties_are q test t [] h = refl
 empties_are q test t (a ∷ xs) h =
     go a (subst (λ (n : ℕ). (test n ≡ says_empty a) × Tells q n a) (let z : t + 0 ≡ t = omega arith in z) (h 0 a refl))
     (empties_are q test (t + 1) xs
     (λ i b e. subst (λ (n : ℕ). (test n ≡ says_empty b) × Tells q n b) (let z : t + suc i ≡ t + 1 + i = omega arith in z) (h (suc i) b e)))
   where
-    go : (b : EmptyAnswer) → (test t ≡ says_empty b) × Tells q t b
-        → AreEmptyFinds q (filter test (range_with_len (t + 1) (length xs))) (empty_finds (t + 1) xs)
-        → AreEmptyFinds q (filter test (range_with_len t (suc (length xs)))) (empty_finds t (b ∷ xs))
-    go (answers.Empty n) k ih = rw k.0 (n.multipliers.items, k.1, (empty_finds (t + 1) xs, refl, ih))
+    go : (b : GuardFeasibility) → (test t ≡ says_empty b) × Tells q t b
+        → AreEmptyDerivations q (filter test (range_with_len (t + 1) (length xs))) (empty_derivations (t + 1) xs)
+        → AreEmptyDerivations q (filter test (range_with_len t (suc (length xs)))) (empty_derivations t (b ∷ xs))
+    go (answers.Empty n) k ih = rw k.0 (n.multipliers.items, k.1, (empty_derivations (t + 1) xs, refl, ih))
     go (answers.Point z) k ih = rw k.0 ih
-    go (answers.Tripped x) k ih = rw k.0 ih
+    go (answers.OutOfLimits x) k ih = rw k.0 ih
 
 -- a fate is at the number of its rule
-fate_there : (fs : List Fate) (i : ℕ) (f : Fate) → slice_get fs i ≡ Some f → fate_at fs (suc i) ≡ f
-fate_there [] i f e = absurd (none_some f e)
-fate_there (g ∷ fs) zero f e = some_same g f e
-fate_there (g ∷ fs) (suc i) f e = fate_there fs i f e
+rule_status_there : (fs : List RuleStatus) (i : ℕ) (f : RuleStatus) → slice_get fs i ≡ Some f → rule_status_at fs (suc i) ≡ f
+rule_status_there [] i f e = absurd (none_some f e)
+rule_status_there (g ∷ fs) zero f e = some_same g f e
+rule_status_there (g ∷ fs) (suc i) f e = rule_status_there fs i f e
 
 -- a rule that isn't empty never runs where it is unreached
-not_empty : (f : Fate) → is_empty_fate f ≡ false → is_dead_fate f ≡ is_unreached_fate f
+not_empty : (f : RuleStatus) → is_empty_rule_status f ≡ false → is_dead_rule_status f ≡ is_unreached_rule_status f
 not_empty Empty e = absurd (no_is_not_yes true e refl)
 not_empty Unreached e = refl
 not_empty Live e = refl
@@ -147,46 +147,46 @@ positive : (n : ℕ) → nat_lt 0 n ≡ some_places n
 positive zero = refl
 positive (suc n) = grind arith
 
-module _ (p : Program) (pivots : ℕ) (fates : List Fate) (are : AreFates (searches_of_program p pivots) p fates)
-    (empties : List EmptyAnswer) (answered : AreEmptyAnswers p pivots empties) where
+module _ (p : Program) (pivots : ℕ) (rule_statuses : List RuleStatus) (are : AreRuleStatuses (searches_of_program p pivots) p rule_statuses)
+    (empties : List GuardFeasibility) (answered : AreEmptyAnswers p pivots empties) where
   abbrev ie : ℕ → Bool
-  ie e = is_empty_fate (fate_at fates e)
+  ie e = is_empty_rule_status (rule_status_at rule_statuses e)
 
   abbrev iu : ℕ → Bool
-  iu e = is_unreached_fate (fate_at fates e)
+  iu e = is_unreached_rule_status (rule_status_at rule_statuses e)
 
   abbrev has : ℕ → Bool
   has t = has_places p (target_of p t)
 
-  -- the tests tell the fates
-  told : AreTold ie iu 1 fates
+  -- the tests agree with the status of each rule
+  told : AreTold ie iu 1 rule_statuses
   told i f e =
       let at_i : 1 + i ≡ suc i = omega arith in (
-        ap (λ (n : ℕ). is_empty_fate (fate_at fates n)) at_i ∙ ap is_empty_fate (fate_there fates i f e),
-        ap (λ (n : ℕ). is_unreached_fate (fate_at fates n)) at_i ∙ ap is_unreached_fate (fate_there fates i f e),
+        ap (λ (n : ℕ). is_empty_rule_status (rule_status_at rule_statuses n)) at_i ∙ ap is_empty_rule_status (rule_status_there rule_statuses i f e),
+        ap (λ (n : ℕ). is_unreached_rule_status (rule_status_at rule_statuses n)) at_i ∙ ap is_unreached_rule_status (rule_status_there rule_statuses i f e),
       )
 
   -- and each rule has the places of its target
   places_told : (i : ℕ) (r : Rule) → slice_get p.rules i ≡ Some r
-      → (has (1 + i) ≡ some_places (arity_of p r.target)) × (never_find p (1 + i) ≡ sized_find (1 + i) (arity_of p r.target))
+      → (has (1 + i) ≡ some_places (arity_of p r.target)) × (never_derivation p (1 + i) ≡ sized_derivation (1 + i) (arity_of p r.target))
   places_told i r e = subst
-      (λ (n : ℕ). (has n ≡ some_places (arity_of p r.target)) × (never_find p n ≡ sized_find n (arity_of p r.target)))
+      (λ (n : ℕ). (has n ≡ some_places (arity_of p r.target)) × (never_derivation p n ≡ sized_derivation n (arity_of p r.target)))
       (let at_i : suc i ≡ 1 + i = omega arith in at_i) (
         ap (λ (o : Option Rule). has_places p (target_in o)) e ∙ positive (arity_of p r.target),
         ap (λ (o : Option Rule). record {
           keys = map (λ j. key (suc i) j) (places_at p (target_in o));
           node = NeverBy (suc i);
-          needs = time_key (suc i) ∷ [];
+          premises = time_key (suc i) ∷ [];
           bound = Constant 0;
         }) e,
       )
 
   -- a rule is empty by its fate where its answer says so
-  fate_tells : (i : ℕ) (a : EmptyAnswer) → slice_get empties i ≡ Some a → is_empty_fate (fate_at fates (suc i)) ≡ says_empty a
-  fate_tells i a e =
+  rule_status_tells : (i : ℕ) (a : GuardFeasibility) → slice_get empties i ≡ Some a → is_empty_rule_status (rule_status_at rule_statuses (suc i)) ≡ says_empty a
+  rule_status_tells i a e =
       let rule = rule_there p i (omega (arith, slice_get-below empties i a e, answered.one_each)) in
       let answer = answered.each (suc i) rule.rule a rule.numbered e in
-      bool_same (is_empty_fate (fate_at fates (suc i))) (says_empty a)
+      bool_same (is_empty_rule_status (rule_status_at rule_statuses (suc i))) (says_empty a)
       (λ h. other rule.rule rule.numbered answer ((are.empty (suc i) rule).0 h))
       (λ h. (are.empty (suc i) rule).1 (shown p pivots (suc i) rule.rule a rule.numbered answer h))
     where
@@ -199,24 +199,24 @@ module _ (p : Program) (pivots : ℕ) (fates : List Fate) (are : AreFates (searc
           let cause = (answers-exact.empty (prepared r) (suc i) pivots there.0 found).0 (shown_says there.0 m.multipliers there.1) in
           says a ((answers-exact.empty (prepared r) (suc i) pivots a answer).1 cause)
 
-  -- each answer is told
-  answer_told : (i : ℕ) (a : EmptyAnswer) → slice_get empties i ≡ Some a
+  -- each answer is that of the searches
+  answer_told : (i : ℕ) (a : GuardFeasibility) → slice_get empties i ≡ Some a
       → (ie (1 + i) ≡ says_empty a) × Tells (searches_of_program p pivots) (1 + i) a
   answer_told i a e = subst (λ (n : ℕ). (ie n ≡ says_empty a) × Tells (searches_of_program p pivots) n a)
-      (let at_i : suc i ≡ 1 + i = omega arith in at_i) (fate_tells i a e, tells a e)
+      (let at_i : suc i ≡ 1 + i = omega arith in at_i) (rule_status_tells i a e, tells a e)
     where
-      tells : (b : EmptyAnswer) → slice_get empties i ≡ Some b → Tells (searches_of_program p pivots) (suc i) b
+      tells : (b : GuardFeasibility) → slice_get empties i ≡ Some b → Tells (searches_of_program p pivots) (suc i) b
       tells (answers.Empty n) k =
           let rule = rule_there p i (omega (arith, slice_get-below empties i (answers.Empty n) k, answered.one_each)) in
           (rule.rule, rule.numbered, (answers.Empty n, refl, answered.each (suc i) rule.rule (answers.Empty n) rule.numbered k))
       tells (answers.Point z) k = tt
-      tells (answers.Tripped x) k = tt
+      tells (answers.OutOfLimits x) k = tt
 
-  -- an unreached rule that isn't empty is told to be
+  -- the test of an unreached rule that isn't empty succeeds
   unreached_told : (t : ℕ) → IsRule p t → ie t ≡ false → (iu t ≡ true) ↔ IsUnreached p (λ e. not (ie e)) t
   unreached_told t rule live = (
-    λ h. by ((are.dead t rule).0 (not_empty (fate_at fates t) live ∙ h)),
-    λ h. sym (not_empty (fate_at fates t) live) ∙ (are.dead t rule).1 (inr h),
+    λ h. by ((are.dead t rule).0 (not_empty (rule_status_at rule_statuses t) live ∙ h)),
+    λ h. sym (not_empty (rule_status_at rule_statuses t) live) ∙ (are.dead t rule).1 (inr h),
   )
     where
       by : IsDead p ie t → IsUnreached p (λ e. not (ie e)) t
@@ -224,35 +224,35 @@ module _ (p : Program) (pivots : ℕ) (fates : List Fate) (are : AreFates (searc
       by (inr u) = u
 
   -- the finds by fates are those before the first round
-  pub first_of_fates : (fs : List Find)
-      → fs ≡ empty_finds 1 empties ++ (unreached_finds (empty_keys 1 fates) 1 fates ++ never_finds p 1 fates p.rules)
+  pub first_of_rule_statuses : (fs : List Derivation)
+      → fs ≡ empty_derivations 1 empties ++ (unreached_derivations (empty_keys 1 rule_statuses) 1 rule_statuses ++ never_derivations p 1 rule_statuses p.rules)
       → AreFirst (searches_of_program p pivots) p fs
-  first_of_fates fs is = record {
+  first_of_rule_statuses fs is = record {
     is_empty = ie;
     empty = are.empty;
     is_unreached = iu;
     unreached = unreached_told;
-    empties = empty_finds 1 empties;
-    are_empties = subst (λ (n : ℕ). AreEmptyFinds (searches_of_program p pivots) (filter ie (range_with_len 1 n)) (empty_finds 1 empties))
+    empties = empty_derivations 1 empties;
+    are_empties = subst (λ (n : ℕ). AreEmptyDerivations (searches_of_program p pivots) (filter ie (range_with_len 1 n)) (empty_derivations 1 empties))
         answered.one_each (empties_are (searches_of_program p pivots) ie 1 empties answer_told);
-    in_order = is ∙ ap (λ (gs : List Find). empty_finds 1 empties ++ gs)
-        (ap (λ (gs : List Find). gs ++ never_finds p 1 fates p.rules) cut
-        ∙ ap (λ (gs : List Find). map (unreached_find (map time_key (filter ie (rule_numbers p)))) (filter (is_cut ie iu) (rule_numbers p)) ++ gs)
+    in_order = is ∙ ap (λ (gs : List Derivation). empty_derivations 1 empties ++ gs)
+        (ap (λ (gs : List Derivation). gs ++ never_derivations p 1 rule_statuses p.rules) cut
+        ∙ ap (λ (gs : List Derivation). map (unreached_derivation (map time_key (filter ie (rule_numbers p)))) (filter (is_cut ie iu) (rule_numbers p)) ++ gs)
         never);
   }
     where
-      keys : empty_keys 1 fates ≡ map time_key (filter ie (rule_numbers p))
-      keys = empty_keys_are ie iu 1 fates told ∙ ap (λ (n : ℕ). map time_key (filter ie (range_with_len 1 n))) are.one_each
+      keys : empty_keys 1 rule_statuses ≡ map time_key (filter ie (rule_numbers p))
+      keys = empty_keys_are ie iu 1 rule_statuses told ∙ ap (λ (n : ℕ). map time_key (filter ie (range_with_len 1 n))) are.one_each
 
-      cut : unreached_finds (empty_keys 1 fates) 1 fates
-          ≡ map (unreached_find (map time_key (filter ie (rule_numbers p)))) (filter (is_cut ie iu) (rule_numbers p))
+      cut : unreached_derivations (empty_keys 1 rule_statuses) 1 rule_statuses
+          ≡ map (unreached_derivation (map time_key (filter ie (rule_numbers p)))) (filter (is_cut ie iu) (rule_numbers p))
       cut =
-          unreached_are ie iu (empty_keys 1 fates) 1 fates told
-          ∙ (ap (λ (ks : List Spot). map (unreached_find ks) (filter (is_cut ie iu) (range_with_len 1 (length fates)))) keys
-          ∙ ap (λ (n : ℕ). map (unreached_find (map time_key (filter ie (rule_numbers p)))) (filter (is_cut ie iu) (range_with_len 1 n)))
+          unreached_are ie iu (empty_keys 1 rule_statuses) 1 rule_statuses told
+          ∙ (ap (λ (ks : List ResultVariable). map (unreached_derivation ks) (filter (is_cut ie iu) (range_with_len 1 (length rule_statuses)))) keys
+          ∙ ap (λ (n : ℕ). map (unreached_derivation (map time_key (filter ie (rule_numbers p)))) (filter (is_cut ie iu) (range_with_len 1 n)))
           are.one_each)
 
-      never : never_finds p 1 fates p.rules ≡ map (never_find p) (filter has (filter (is_dead ie iu) (rule_numbers p)))
+      never : never_derivations p 1 rule_statuses p.rules ≡ map (never_derivation p) (filter has (filter (is_dead ie iu) (rule_numbers p)))
       never =
-          never_are ie iu p has 1 fates p.rules are.one_each told places_told
-          ∙ ap (λ (n : ℕ). map (never_find p) (filter has (filter (is_dead ie iu) (range_with_len 1 n)))) are.one_each
+          never_are ie iu p has 1 rule_statuses p.rules are.one_each told places_told
+          ∙ ap (λ (n : ℕ). map (never_derivation p) (filter has (filter (is_dead ie iu) (range_with_len 1 n)))) are.one_each

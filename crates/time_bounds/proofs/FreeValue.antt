@@ -9,14 +9,14 @@ use Rattle.its_model.specs.linear_forms.Forms.{at, form_value}
 use Rattle.its_model.specs.linear_forms.Points.{IsPoint}
 use Rattle.guard_prep.specs.Prepared.{prepared}
 use Rattle.guard_prep.specs.Tightening.{divisor_of}
-use Rattle.proof_tree.specs.rule_forms.Bounds.{HasNone}
-use Rattle.proof_tree.specs.rule_forms.Kinds.{Affine}
-use Rattle.proof_tree.specs.rule_forms.Worked.{line_form, free_value}
-use Rattle.proof_tree.proofs.rule_forms.Rays.{loose-has-none}
-use Rattle.proof_tree.proofs.rule_forms.Worked.{worked}
-use Rattle.proof_tree.specs.proof_nodes.AcceptsSizes.{Up}
-use Rattle.proof_tree.specs.proof_nodes.Gaps.{ScaledPoint}
-use Rattle.proof_tree.specs.proof_nodes.WorkedGaps.{guessed}
+use Rattle.cert_types.specs.rule_forms.Bounds.{HasNone}
+use Rattle.cert_types.specs.rule_forms.Kinds.{Affine}
+use Rattle.cert_types.specs.rule_forms.Worked.{line_form, free_value}
+use Rattle.cert_types.proofs.rule_forms.Rays.{unbounded-has-none}
+use Rattle.cert_types.proofs.rule_forms.Worked.{worked}
+use Rattle.cert_types.specs.cert_rules.AcceptsSizes.{Up}
+use Rattle.cert_types.specs.cert_rules.Gaps.{ScaledPoint}
+use Rattle.cert_types.specs.cert_rules.WorkedGaps.{guessed}
 use Rattle.local_size.specs.Places.{value_on}
 use Rattle.time_bounds.specs.SizeWhys.{PassesEveryForm}
 use Rattle.time_bounds.specs.WorkedReports.{along_free, from_one}
@@ -34,8 +34,8 @@ free_point = record {
 
 pub free_none : HasNone [] 1 free_value Affine
 free_none =
-    loose-has-none [] 1 free_value (at along_free) (record { z = at from_one.parts; d = pos from_one.den; point = free_point })
-    worked.rays.loose
+    unbounded-has-none [] 1 free_value (at along_free) (record { z = at from_one.parts; d = pos from_one.den; point = free_point })
+    worked.rays.unbounded
 
 -- a form in one argument is affine
 line_affine : (u : ℕ) → 1 ≤ u → at (pos 1 ∷ []) u ≡ pos 0

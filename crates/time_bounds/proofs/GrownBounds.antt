@@ -10,24 +10,24 @@ use Rattle.model.specs.Paths.{pre}
 use Rattle.model.specs.Polynomials.{Polynomial}
 use Rattle.model.proofs.Membership.{is_in-filter}
 use Rattle.its_model.specs.linear_forms.Forms.{at}
-use Rattle.proof_tree.specs.rule_forms.Bounds.{height}
-use Rattle.proof_tree.specs.proof_nodes.Nodes.{Arm, Linear, Poly, Member}
-use Rattle.proof_tree.specs.proof_nodes.Known.{IsKnown, Table, known}
-use Rattle.proof_tree.specs.proof_nodes.Numbers.{rounded_up}
-use Rattle.proof_tree.specs.proof_nodes.Composed.{both_parts, parts_for, place_parts, no_place, sizes_after}
-use Rattle.proof_tree.specs.proof_nodes.ComposedSizes.{monomial_parts, polynomial_bound, arm_bound, has_variable, reads}
-use Rattle.proof_tree.specs.proof_nodes.ComposedSizes.{poly_at}
-use Rattle.proof_tree.specs.proof_nodes.ComposedSizes.{spread_part, is_member, slope_of, offset_of, Flow, flow}
-use Rattle.proof_tree.specs.proof_nodes.ComposedSizes.{flows_from}
-use Rattle.proof_tree.specs.proof_nodes.ComposedSizes.{flows_into, flows, factor_of, addition_of, base_of, rules_of}
-use Rattle.proof_tree.specs.proof_nodes.ComposedSizes.{multiplies}
-use Rattle.proof_tree.specs.proof_nodes.ComposedSizes.{adds, growth_parts, addition_parts, loop_bound}
-use Rattle.proof_tree.specs.proof_nodes.AcceptsSizes.{ArmHasSizes, HasSizesAfter, HasSizesBefore, IsStraightArm}
-use Rattle.proof_tree.specs.proof_nodes.AcceptsSizes.{IsStraight}
-use Rattle.proof_tree.specs.proof_nodes.AcceptsSizes.{spread_size, cycle_size}
-use Rattle.proof_tree.specs.proof_nodes.Setting.{Setting}
-use Rattle.proof_tree.proofs.proof_nodes.CheckLists.{each-in, in-each}
-use Rattle.bound_rounds.specs.Keys.{Bounds, over, size_by}
+use Rattle.cert_types.specs.rule_forms.Bounds.{height}
+use Rattle.cert_types.specs.cert_rules.Nodes.{SideBound, Linear, Poly, Member}
+use Rattle.cert_types.specs.cert_rules.Known.{IsKnown, Table, known}
+use Rattle.cert_types.specs.cert_rules.Numbers.{rounded_up}
+use Rattle.cert_types.specs.cert_rules.Composed.{both_parts, parts_for, place_parts, no_place, sizes_after}
+use Rattle.cert_types.specs.cert_rules.ComposedSizes.{monomial_parts, polynomial_bound, composed_side_bound, has_variable, reads}
+use Rattle.cert_types.specs.cert_rules.ComposedSizes.{poly_at}
+use Rattle.cert_types.specs.cert_rules.ComposedSizes.{spread_part, is_member, slope_of, offset_of, Flow, flow}
+use Rattle.cert_types.specs.cert_rules.ComposedSizes.{flows_from}
+use Rattle.cert_types.specs.cert_rules.ComposedSizes.{flows_into, flows, factor_of, addition_of, base_of, rules_of}
+use Rattle.cert_types.specs.cert_rules.ComposedSizes.{multiplies}
+use Rattle.cert_types.specs.cert_rules.ComposedSizes.{adds, growth_parts, addition_parts, loop_bound}
+use Rattle.cert_types.specs.cert_rules.AcceptsSizes.{SideBoundHasSizes, HasSizesAfter, HasSizesBefore, IsStraightSideBound}
+use Rattle.cert_types.specs.cert_rules.AcceptsSizes.{IsStraight}
+use Rattle.cert_types.specs.cert_rules.AcceptsSizes.{spread_size, cycle_size}
+use Rattle.cert_types.specs.cert_rules.Setting.{Setting}
+use Rattle.cert_types.proofs.cert_rules.CheckLists.{each-in, in-each}
+use Rattle.bound_fixpoint.specs.Keys.{Bounds, over, size_by}
 use Rattle.time_bounds.specs.EarlierAnswers.{HasGrown}
 
 -- all times and sizes that were known in a table are
@@ -35,7 +35,7 @@ pub record TableHasGrown (old new : Table) : Type 0 where
   pub times : (t : ℕ) (b : Bound) → old.time t ≡ Some b → new.time t ≡ Some b
   pub sizes : (t i : ℕ) (b : Bound) → old.size t i ≡ Some b → new.size t i ≡ Some b
 
--- so it is of the tables of bounds, of which all that was known is
+-- the same for tables of bounds in which all that was known still is
 pub table_grown : (old new : Bounds) → HasGrown old new → TableHasGrown (over old) (over new)
 table_grown old new h = record { times = λ t b e. h.each t 0 b e; sizes = sizes }
   where
@@ -81,13 +81,13 @@ polynomial-agrees : (o : Option Polynomial) (a b : ℕ → Bound) → ((j : ℕ)
 polynomial-agrees None a b h = refl
 polynomial-agrees (Some q) a b h = ap SumOf (monomials-agree q a b h)
 
--- so do an arm's where those of the places that it reads do
-arm-agrees : (o : Option Polynomial) (arm : Arm) (a b : ℕ → Bound) → ((j : ℕ) → reads o arm j ≡ true → a j ≡ b j)
-    → arm_bound o arm a ≡ arm_bound o arm b
-arm-agrees o (Linear den form multipliers) a b h =
+-- the same for an arm's where those of the places that it reads do
+side_bound-agrees : (o : Option Polynomial) (side_bound : SideBound) (a b : ℕ → Bound) → ((j : ℕ) → reads o side_bound j ≡ true → a j ≡ b j)
+    → composed_side_bound o side_bound a ≡ composed_side_bound o side_bound b
+side_bound-agrees o (Linear den form multipliers) a b h =
     let places = place_parts-agree form.coefs den no_place a b (λ j r n. h j r) in
     λ i. SumOf (Part (Constant (rounded_up (height form.constant) den)) (places i))
-arm-agrees o Poly a b h = polynomial-agrees o a b h
+side_bound-agrees o Poly a b h = polynomial-agrees o a b h
 
 module _ (s : Setting) (old new : Table) (grown : TableHasGrown old new) where
   -- a known size stays, and so does a known time
@@ -100,40 +100,40 @@ module _ (s : Setting) (old new : Table) (grown : TableHasGrown old new) where
   -- the size of a place that doesn't loop stays
   pub spread-stays : (m : Member) → HasSizesBefore s old [] m → spread_size s old m ≡ spread_size s new m
   spread-stays m h =
-      ap MaximumOf (parts_for-agree (spread_part s m old.size) (spread_part s m new.size) (pre s.program m.spot.rule)
-      (in-each (λ e. spread_part s m old.size e ≡ spread_part s m new.size e) (pre s.program m.spot.rule)
+      ap MaximumOf (parts_for-agree (spread_part s m old.size) (spread_part s m new.size) (pre s.program m.result_variable.rule)
+      (in-each (λ e. spread_part s m old.size e ≡ spread_part s m new.size e) (pre s.program m.result_variable.rule)
       (λ e k. part e (h e k))))
     where
       part : (e : ℕ) → HasSizesAfter s old [] m e → spread_part s m old.size e ≡ spread_part s m new.size e
       part e k =
-          let up = arm-agrees (poly_at s m.spot) m.local.up (sizes_after old.size e) (sizes_after new.size e)
+          let up = side_bound-agrees (poly_at s m.result_variable) m.local.up (sizes_after old.size e) (sizes_after new.size e)
           (λ j r. size-stays e j (k.up j r refl)) in
-          let low = arm-agrees (poly_at s m.spot) m.local.low (sizes_after old.size e) (sizes_after new.size e)
+          let low = side_bound-agrees (poly_at s m.result_variable) m.local.low (sizes_after old.size e) (sizes_after new.size e)
           (λ j r. size-stays e j (k.low j r refl)) in
           λ i. MaximumOf (both_parts (up i) (low i))
 
   module _ (members : List Member) where
     -- neither arm of a member is bent after a rule
     abbrev pub AreStraight : Member → ℕ → Type 0
-    AreStraight m e = IsStraightArm s members m e m.local.up × IsStraightArm s members m e m.local.low
+    AreStraight m e = IsStraightSideBound s members m e m.local.up × IsStraightSideBound s members m e m.local.low
 
     -- what an arm adds stays, and so does what flows by it
-    offset-stays : (m : Member) (arm : Arm) (e : ℕ) → ArmHasSizes s old members m.spot arm e → IsStraightArm s members m e arm
-        → offset_of (poly_at s m.spot) arm (is_member members e) (sizes_after old.size e)
-        ≡ offset_of (poly_at s m.spot) arm (is_member members e) (sizes_after new.size e)
+    offset-stays : (m : Member) (side_bound : SideBound) (e : ℕ) → SideBoundHasSizes s old members m.result_variable side_bound e → IsStraightSideBound s members m e side_bound
+        → offset_of (poly_at s m.result_variable) side_bound (is_member members e) (sizes_after old.size e)
+        ≡ offset_of (poly_at s m.result_variable) side_bound (is_member members e) (sizes_after new.size e)
     offset-stays m (Linear den form multipliers) e h k =
         let places = place_parts-agree form.coefs den (is_member members e) (sizes_after old.size e) (sizes_after new.size e)
         (λ j r n. size-stays e j (h j r n)) in
         λ i. SumOf (Part (Constant (rounded_up (height form.constant) den)) (places i))
     offset-stays m Poly e h k =
-        polynomial-agrees (poly_at s m.spot) (sizes_after old.size e) (sizes_after new.size e)
+        polynomial-agrees (poly_at s m.result_variable) (sizes_after old.size e) (sizes_after new.size e)
         (λ j r. size-stays e j (h j r (k j r)))
 
-    flow-stays : (m : Member) (arm : Arm) (e : ℕ) → ArmHasSizes s old members m.spot arm e → IsStraightArm s members m e arm
-        → flow s members old.size m arm e ≡ flow s members new.size m arm e
-    flow-stays m arm e h k =
-        let offset = offset-stays m arm e h k in
-        λ i. record { rule = m.spot.rule; slope = slope_of arm (is_member members e); offset = offset i }
+    flow-stays : (m : Member) (side_bound : SideBound) (e : ℕ) → SideBoundHasSizes s old members m.result_variable side_bound e → IsStraightSideBound s members m e side_bound
+        → flow s members old.size m side_bound e ≡ flow s members new.size m side_bound e
+    flow-stays m side_bound e h k =
+        let offset = offset-stays m side_bound e h k in
+        λ i. record { rule = m.result_variable.rule; slope = slope_of side_bound (is_member members e); offset = offset i }
 
     from-stays : (m : Member) (es : List ℕ) → AllByRecursion (HasSizesAfter s old members m) es → AllByRecursion (AreStraight m) es
         → flows_from s members old.size m es ≡ flows_from s members new.size m es
@@ -149,7 +149,7 @@ module _ (s : Setting) (old new : Table) (grown : TableHasGrown old new) where
         → flows_into s members old.size ms ≡ flows_into s members new.size ms
     into-stays [] h k = refl
     into-stays (m ∷ ms) h k =
-        let es = pre s.program m.spot.rule in
+        let es = pre s.program m.result_variable.rule in
         let here = from-stays m es (in-each (HasSizesAfter s old members m) es h.0)
         (in-each (AreStraight m) es (λ e l. (k.0.up e l, k.0.low e l))) in
         let rest = into-stays ms h.1 k.1 in
@@ -194,12 +194,12 @@ module _ (s : Setting) (old new : Table) (grown : TableHasGrown old new) where
       fs : List Flow
       fs = flows s ms old.size
 
-      needs : ℕ → Bool
-      needs t = multiplies fs t || adds s fs t
+      premises : ℕ → Bool
+      premises t = multiplies fs t || adds s fs t
 
       timed : AllByRecursion (HasItsTime fs) (rules_of s ms)
       timed = in-each (HasItsTime fs) (rules_of s ms)
-          (λ t i k. each-in (λ u. IsKnown (old.time u)) (filter needs (rules_of s ms)) h t (is_in-filter needs (rules_of s ms) t i k))
+          (λ t i k. each-in (λ u. IsKnown (old.time u)) (filter premises (rules_of s ms)) h t (is_in-filter premises (rules_of s ms) t i k))
 
       additions : addition_parts s fs old.time (rules_of s ms) ≡ addition_parts s fs new.time (rules_of s ms)
       additions = additions-stay fs (rules_of s ms) timed

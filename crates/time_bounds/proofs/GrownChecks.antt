@@ -1,25 +1,26 @@
--- The first check of a size that fails over a table stays the first over one that has grown, while its reason stands.
+-- The first check of a size that fails over a table is the first over one that has grown, while its reason remains
+-- true.
 use Rattle.std.proofs.Common.{◌≡◌, inl, inr, ℕ, ◌||◌, List, [], ◌∷◌, filter, Some, None, sym, ◌∙◌, ap, subst}
 use Rattle.std.specs.Prelude.{⊤}
 use Rattle.std.specs.List.{AllByRecursion}
 use Rattle.std.proofs.lemmas.List.Elements.{recursion_from_All}
 use Rattle.model.specs.Bounds.{Bound}
 use Rattle.model.specs.Paths.{pre}
-use Rattle.proof_tree.specs.proof_nodes.Nodes.{Spot, Member}
-use Rattle.proof_tree.specs.proof_nodes.Known.{IsKnown, Table}
-use Rattle.proof_tree.specs.proof_nodes.Setting.{Setting}
-use Rattle.proof_tree.specs.proof_nodes.ComposedSizes.{Flow, flows, rules_of, multiplies, adds}
-use Rattle.proof_tree.specs.proof_nodes.AcceptsSizes.{HasMemberShape, IsStraight, spread_size, cycle_size}
-use Rattle.proof_tree.specs.proof_nodes.Reasons.{Reason, Shape, NotEmpty, Reached, NotZero, Move, Floor, ArmUp, ArmLow}
-use Rattle.proof_tree.specs.proof_nodes.Reasons.{MissingTime, MissingSize, Bent, Large, NotWeaker}
-use Rattle.proof_tree.specs.proof_nodes.Reasons.{Check, for_each, IsFirstAmong}
-use Rattle.proof_tree.specs.proof_nodes.Checks.{check_up, check_low, check_size, check_time, check_small, needed_into}
-use Rattle.proof_tree.specs.proof_nodes.Checks.{needed_times, straight_from, straight_into, spread_checks, cycle_checks}
-use Rattle.proof_tree.proofs.proof_nodes.CheckLists.{each-in}
-use Rattle.proof_tree.proofs.proof_nodes.SizeReasons.{members-known}
+use Rattle.cert_types.specs.cert_rules.Nodes.{ResultVariable, Member}
+use Rattle.cert_types.specs.cert_rules.Known.{IsKnown, Table}
+use Rattle.cert_types.specs.cert_rules.Setting.{Setting}
+use Rattle.cert_types.specs.cert_rules.ComposedSizes.{Flow, flows, rules_of, multiplies, adds}
+use Rattle.cert_types.specs.cert_rules.AcceptsSizes.{HasMemberShape, IsStraight, spread_size, cycle_size}
+use Rattle.cert_types.specs.cert_rules.Reasons.{Reason, Shape, NotEmpty, Reached, NotZero, Move, Floor, SideBoundUp, SideBoundLow}
+use Rattle.cert_types.specs.cert_rules.Reasons.{MissingTime, MissingSize, Nonlinear, Large, NotWeaker}
+use Rattle.cert_types.specs.cert_rules.Reasons.{Check, for_each, IsFirstAmong}
+use Rattle.cert_types.specs.cert_rules.Checks.{check_up, check_low, check_size, check_time, check_small, needed_into}
+use Rattle.cert_types.specs.cert_rules.Checks.{needed_times, straight_from, straight_into, spread_checks, cycle_checks}
+use Rattle.cert_types.proofs.cert_rules.CheckLists.{each-in}
+use Rattle.cert_types.proofs.cert_rules.SizeReasons.{members-known}
 use Rattle.time_bounds.proofs.GrownBounds.{TableHasGrown, spread-stays, AreStraight, into-stays, cycle-stays}
 
--- the reason of a check stands over a table: what was missing is missing
+-- the reason of a check remains true over a table: what was missing is missing
 abbrev pub StandsFor : Table → Reason → Type 0
 StandsFor tab Shape = ⊤
 StandsFor tab NotEmpty = ⊤
@@ -27,11 +28,11 @@ StandsFor tab Reached = ⊤
 StandsFor tab NotZero = ⊤
 StandsFor tab (Move t) = ⊤
 StandsFor tab Floor = ⊤
-StandsFor tab (ArmUp t i) = ⊤
-StandsFor tab (ArmLow t i) = ⊤
+StandsFor tab (SideBoundUp t i) = ⊤
+StandsFor tab (SideBoundLow t i) = ⊤
 StandsFor tab (MissingTime t) = tab.time t ≡ None
 StandsFor tab (MissingSize t i) = tab.size t i ≡ None
-StandsFor tab (Bent t i) = ⊤
+StandsFor tab (Nonlinear t i) = ⊤
 StandsFor tab (Large n) = ⊤
 StandsFor tab NotWeaker = ⊤
 
@@ -56,12 +57,12 @@ none-some b e = cc
 
 module _ (s : Setting) (old new : Table) (grown : TableHasGrown old new) (r : Reason) (stands : StandsFor new r) where
   -- the checks of sizes, and those of times
-  sizes-still : (spots : List Spot) (rest later : List Check) → IsFirstAmong (for_each (check_size old) spots rest) r
-      → (AllByRecursion (λ m. IsKnown (old.size m.rule m.place)) spots → IsFirstAmong rest r → IsFirstAmong later r)
-      → IsFirstAmong (for_each (check_size new) spots later) r
-  sizes-still spots rest later h k =
+  sizes-still : (result_variables : List ResultVariable) (rest later : List Check) → IsFirstAmong (for_each (check_size old) result_variables rest) r
+      → (AllByRecursion (λ m. IsKnown (old.size m.rule m.place)) result_variables → IsFirstAmong rest r → IsFirstAmong later r)
+      → IsFirstAmong (for_each (check_size new) result_variables later) r
+  sizes-still result_variables rest later h k =
       each-still (check_size old) (check_size new) r (λ m y. (y.0, grown.sizes m.rule m.place y.0 y.1))
-      (λ m n e. ((λ y. none-some y.0 (sym (subst (StandsFor new) (sym e) stands) ∙ y.1)), e)) spots rest later h k
+      (λ m n e. ((λ y. none-some y.0 (sym (subst (StandsFor new) (sym e) stands) ∙ y.1)), e)) result_variables rest later h k
 
   times-still : (ts : List ℕ) (rest later : List Check) → IsFirstAmong (for_each (check_time old) ts rest) r
       → (AllByRecursion (λ t. IsKnown (old.time t)) ts → IsFirstAmong rest r → IsFirstAmong later r)
@@ -110,13 +111,13 @@ module _ (s : Setting) (old new : Table) (grown : TableHasGrown old new) (r : Re
         → IsFirstAmong (straight_into s ms ns later) r
     into-still [] rest later h k = k tt h
     into-still (m ∷ ns) rest later h k =
-        from-still m (pre s.program m.spot.rule) (straight_into s ms ns rest) (straight_into s ms ns later) h
+        from-still m (pre s.program m.result_variable.rule) (straight_into s ms ns rest) (straight_into s ms ns later) h
         (λ here left. into-still ns rest later left (λ all first. k (straight m here, all) first))
       where
-        straight : (m : Member) → AllByRecursion (AreStraight s old new grown ms m) (pre s.program m.spot.rule) → IsStraight s ms m
+        straight : (m : Member) → AllByRecursion (AreStraight s old new grown ms m) (pre s.program m.result_variable.rule) → IsStraight s ms m
         straight m here = record {
-          up = λ e i. (each-in (AreStraight s old new grown ms m) (pre s.program m.spot.rule) here e i).0;
-          low = λ e i. (each-in (AreStraight s old new grown ms m) (pre s.program m.spot.rule) here e i).1;
+          up = λ e i. (each-in (AreStraight s old new grown ms m) (pre s.program m.result_variable.rule) here e i).0;
+          low = λ e i. (each-in (AreStraight s old new grown ms m) (pre s.program m.result_variable.rule) here e i).1;
         }
 
     -- the checks behind those of the sizes, of the bends
@@ -126,11 +127,11 @@ module _ (s : Setting) (old new : Table) (grown : TableHasGrown old new) (r : Re
     abbrev time_checks : Table → List Check
     time_checks tab = for_each (check_time tab) (needed_times s tab ms) (small_checks tab)
 
-    abbrev bent_checks : Table → List Check
-    bent_checks tab = straight_into s ms ms (time_checks tab)
+    abbrev nonlinear_checks : Table → List Check
+    nonlinear_checks tab = straight_into s ms ms (time_checks tab)
 
     abbrev size_checks : Table → List Check
-    size_checks tab = for_each (check_size tab) (needed_into s ms ms) (bent_checks tab)
+    size_checks tab = for_each (check_size tab) (needed_into s ms ms) (nonlinear_checks tab)
 
     timed-still : flows s ms old.size ≡ flows s ms new.size → IsFirstAmong (time_checks old) r → IsFirstAmong (time_checks new) r
     timed-still same h =
@@ -147,7 +148,7 @@ module _ (s : Setting) (old new : Table) (grown : TableHasGrown old new) (r : Re
           shape,
           same-still (check_up s) r ms (for_each (check_low s) ms (size_checks old)) (for_each (check_low s) ms (size_checks new)) h
               (λ ups behind_ups. same-still (check_low s) r ms (size_checks old) (size_checks new) behind_ups
-              (λ lows behind_lows. sizes-still (needed_into s ms ms) (bent_checks old) (bent_checks new) behind_lows
+              (λ lows behind_lows. sizes-still (needed_into s ms ms) (nonlinear_checks old) (nonlinear_checks new) behind_lows
               (λ sizes behind_sizes. into-still ms (time_checks old) (time_checks new) behind_sizes
               (λ straight first. timed-still (into-stays s old new grown ms ms
               (members-known s old ms ms (recursion_from_All (HasMemberShape s) ms shape.each) ups lows sizes) straight) first)))),

@@ -9,8 +9,8 @@ use Rattle.model.specs.Bounds.{SumOf, Parts, NoParts, Part}
 use Rattle.bound_expr.specs.declared.bound.Bound.{Bound}
 use Rattle.bound_expr.specs.Views.{bound_of, bounds_of, parts_of}
 use Rattle.bound_table.specs.InForce.{rewritten}
-use Rattle.proof_tree.specs.Sizes.{joined}
-use Rattle.proof_tree.proofs.Parts.{joined-nothing, joined_assoc, parts_of-more}
+use Rattle.cert_types.specs.Sizes.{joined}
+use Rattle.cert_types.proofs.Parts.{joined-nothing, joined_assoc, parts_of-more}
 use Rattle.outcome.specs.declared.entry.TimeEntry.{TimeEntry}
 use Rattle.time_bounds.specs.Totals.{time_in, before, known_parts, total_of}
 

@@ -1,12 +1,12 @@
--- What is told as large has more than 200 nodes.
+-- A bound that is called large has more than 200 nodes.
 use Rattle.std.proofs.Common.{◌≡◌, ◌<◌, ◌≤◌, Bool, true, false, refl, arith}
 use Rattle.std.specs.Prelude.{nat_lt}
 use Rattle.std.proofs.lemmas.Bool.{ltb-true}
 use Rattle.model.specs.Bounds.{Bound, Constant, Input, SumOf, ProductOf, MaximumOf, PowerOf, Parts, NoParts, Part}
 use Rattle.bound_expr.specs.Limits.{node_limit, depth_limit}
 use Rattle.bound_expr.specs.Measure.{node_count, node_count_of_all, depth_of, maximum_depth, is_large, capped_node_count}
-use Rattle.proof_tree.specs.proof_nodes.Checks.{large_nodes}
-use Rattle.proof_tree.specs.proof_nodes.Limits.{IsSmallComposed}
+use Rattle.cert_types.specs.cert_rules.Checks.{large_nodes}
+use Rattle.cert_types.specs.cert_rules.Limits.{IsSmallComposed}
 
 -- a bound has at least as many nodes as levels
 mutual
@@ -23,7 +23,7 @@ mutual
   all_deep NoParts = omega arith
   all_deep (Part b bs) = let h = deep b in let k = all_deep bs in omega (arith, h, k)
 
--- so a large one has more than 200, as they are told, too
+-- so a large one has more than 200, also by the capped count
 many : (b : Bound) → is_large b ≡ true → 200 < capped_node_count b
 many b large = go (nat_lt node_limit (node_count b)) refl
   where

@@ -9,14 +9,14 @@ pub mod ShutByPlace
 -- rules, their ends and their fates
 pub mod RuleNumbers
 pub mod RuleSymbols
-pub mod FateLaws
-pub mod FateLists
+pub mod RuleStatusLaws
+pub mod RuleStatusLists
 pub mod RowLaws
 pub mod UntimedRules
 -- the searches of a program are right
 pub mod RightSearches
-pub mod SpotLists
-pub mod LiveSpots
+pub mod ResultVariableLists
+pub mod LiveResultVariables
 pub mod RightComponents
 pub mod RightSizings
 -- and a program has one analysis
@@ -33,8 +33,8 @@ pub mod StartLists
 pub mod FirstOrder
 pub mod FirstKeys
 -- finds that are taken one after the other
-pub mod OpenFinds
-pub mod TriedFinds
+pub mod OpenDerivations
+pub mod TriedDerivations
 pub mod NeedLists
 -- one more rule
 pub mod NumberedLists
@@ -42,28 +42,28 @@ pub mod NamedGaps
 pub mod AnswerLaws
 pub mod AnsweredQuestions
 pub mod TimeRounds
--- what stands at places
+-- elements at places
 pub mod PlaceAnswers
 pub mod LocalLists
 pub mod LiveLocals
 pub mod LoneComponents
 pub mod CandidateLaws
-pub mod ArmLists
-pub mod ComponentArms
+pub mod SideBoundLists
+pub mod ComponentSideBounds
 pub mod PlacedLaws
 -- what components answer
 pub mod MemberLoops
 pub mod PolynomialUpdates
 pub mod CandidateComponents
 pub mod ComponentTries
--- answers of earlier rounds stand
+-- answers of earlier rounds that remain valid
 pub mod GrownBounds
 pub mod GrownChecks
 pub mod OpenPlaces
 pub mod StandingAnswers
 pub mod SizeRounds
 pub mod MadeRounds
--- what is said of sizes
+-- the entries of sizes
 pub mod SizeReasons
 pub mod SaidSizes
 pub mod SaidRows
@@ -72,11 +72,11 @@ pub mod TimeNumbers
 pub mod SizeNumbers
 -- what is found of a program is its analysis
 pub mod ReportEntries
-pub mod AnalysisOfFinds
+pub mod AnalysisOfDerivations
 pub mod WholeAnalysis
 pub mod OutcomeLemmas
--- each reason in a report is so of the program
-pub mod FindKeys
+-- each reason in a report is true of the program
+pub mod DerivationKeys
 pub mod SaidKnown
 pub mod FailingChecks
 pub mod NeededMembers

@@ -15,12 +15,12 @@ use Rattle.guard_prep.specs.Views.{prepared_of}
 use Rattle.guard_prep.proofs.StepLaws.{preparable}
 use Rattle.local_size.specs.declared.answer.LocalAnswer.{LocalAnswer}
 use Rattle.its_model.specs.poly_terms.Views.{form_of}
-use Rattle.proof_tree.specs.Composing.{AreRowsOf}
-use Rattle.proof_tree.specs.declared.answer.EmptyAnswer.{EmptyAnswer}
+use Rattle.cert_types.specs.Composing.{AreRowsOf}
+use Rattle.cert_types.specs.declared.answer.GuardFeasibility.{GuardFeasibility}
 use Rattle.rank_search.specs.rule_questions.EmptyAnswers.{IsPrepared}
 use Rattle.rank_search.specs.rule_questions.RuleAnswers.{AreEmptyAnswers}
 use Rattle.rank_search.proofs.RankSets.{rule-of}
-use Rattle.time_bounds.specs.declared.fates.Fate.{Fate}
+use Rattle.time_bounds.specs.declared.rule_statuses.RuleStatus.{RuleStatus}
 use Rattle.time_bounds.specs.Locals.{AreAnswersAt, AreAnswersAfter}
 use Rattle.time_bounds.proofs.RuleSymbols.{target_read, arity_read}
 use Rattle.time_bounds.proofs.LocalLists.{answers_after}
@@ -28,13 +28,13 @@ use Rattle.time_bounds.proofs.RowLaws.{RowsAt, rows_at, rows_length, rule_read}
 pub use Rattle.model.proofs.Cases.{IfOk-both as all_two}
 use Rattle.model.proofs.Cases.{some_same}
 
-module _ (p : Program) (pivots : ℕ) (valid : IsValid (program_of p)) (preps : List RuleRows) (rows : AreRowsOf preps (program_of p))
-    (empties : List EmptyAnswer) (known : AreEmptyAnswers (program_of p) pivots empties) (i : ℕ) (low : i < length p.rules.items) (r : Rule)
-    (r_is : r ≡ get_or p.rules.items i r) (m : RuleRows) (m_is : m ≡ get_or preps i m) (e : EmptyAnswer) (e_is : e ≡ get_or empties i e) where
+module _ (p : Program) (pivots : ℕ) (valid : IsValid (program_of p)) (prepared_rules : List RuleRows) (rows : AreRowsOf prepared_rules (program_of p))
+    (empties : List GuardFeasibility) (known : AreEmptyAnswers (program_of p) pivots empties) (i : ℕ) (low : i < length p.rules.items) (r : Rule)
+    (r_is : r ≡ get_or p.rules.items i r) (m : RuleRows) (m_is : m ≡ get_or prepared_rules i m) (e : GuardFeasibility) (e_is : e ≡ get_or empties i e) where
   at : RowsAt (program_of p).rules i m
   at =
       subst (λ (x : RuleRows). RowsAt (program_of p).rules i x) (sym m_is)
-      (rows_at preps (program_of p).rules i m rows (omega (arith, low, rows_length (program_of p) preps rows, length-map p.rules.items rule_of)))
+      (rows_at prepared_rules (program_of p).rules i m rows (omega (arith, low, rows_length (program_of p) prepared_rules rows, length-map p.rules.items rule_of)))
 
   numbered : rule_at (program_of p) (suc i) ≡ Some (rule_of r)
   numbered = rule_read p i r low r_is
@@ -46,14 +46,14 @@ module _ (p : Program) (pivots : ℕ) (valid : IsValid (program_of p)) (preps : 
   same = at.same ∙ ap prepared same_rule
 
   -- the rows that are read are prepared from a rule
-  pub prep_prepared : IsPrepared m
-  prep_prepared = record { rule = rule_of r; preparable = preparable (program_of p) (suc i) (rule_of r) valid numbered; same = same }
+  pub prepared_rule_prepared : IsPrepared m
+  prepared_rule_prepared = record { rule = rule_of r; preparable = preparable (program_of p) (suc i) (rule_of r) valid numbered; same = same }
 
   -- the rows have a new value for each place
-  pub prep_places : (x : Symbol) → x ≡ get_or p.symbols.items r.target x → length m.news.items ≡ x.arity
-  prep_places x k =
-      sym (length-map m.news.items form_of)
-      ∙ (ap (λ (y : Prepared). length y.news) same
+  pub prepared_rule_places : (x : Symbol) → x ≡ get_or p.symbols.items r.target x → length m.new_values.items ≡ x.arity
+  prepared_rule_places x k =
+      sym (length-map m.new_values.items form_of)
+      ∙ (ap (λ (y : Prepared). length y.new_values) same
       ∙ ((rule-of (program_of p) [] 0 [] (suc i) (rule_of r) valid numbered).values
       ∙ arity_read p r.target x (target_read p valid i r low r_is) k))
 
@@ -63,7 +63,7 @@ module _ (p : Program) (pivots : ℕ) (valid : IsValid (program_of p)) (preps : 
       slice_get_read empties (length empties) i e refl (omega (arith, low, known.one_each, length-map p.rules.items rule_of)) e_is
 
   -- so these answers are those of the rule
-  pub live_after : (f : Fate) (answers : List LocalAnswer) (x : Symbol) → x ≡ get_or p.symbols.items r.target x → length answers ≡ x.arity
+  pub live_after : (f : RuleStatus) (answers : List LocalAnswer) (x : Symbol) → x ≡ get_or p.symbols.items r.target x → length answers ≡ x.arity
       → AreAnswersAt (prepared_of m) (i + 1) pivots e 1 answers → AreAnswersAfter (program_of p) pivots (i + 1) f answers
   live_after f answers x k long h =
       let next : i + 1 ≡ suc i = omega arith in

@@ -4,16 +4,16 @@ use Rattle.std.proofs.Common.{length, map, refl, sym, ◌∙◌, ap, subst, arit
 use Rattle.std.specs.List.{list_any}
 use Rattle.std.proofs.lemmas.List.{append_assoc}
 use Rattle.model.specs.Paths.{Path, Here, Onward}
-use Rattle.model.proofs.Membership.{same_number, told_same, no_is_not_yes}
+use Rattle.model.proofs.Membership.{same_number, same_number-sound, no_is_not_yes}
 use Rattle.its_graph.specs.Components.{IsNext, IsListing}
-use Rattle.proof_tree.specs.proof_nodes.Nodes.{Spot}
-use Rattle.proof_tree.specs.proof_nodes.Setting.{Setting}
-use Rattle.bound_rounds.specs.Components.{IsOneOf}
-use Rattle.bound_rounds.specs.Keys.{has_key}
-use Rattle.rvg_components.specs.Flows.{Locals, value_flows, live_spots, loops}
-use Rattle.rvg_components.specs.Listing.{spot_at, HasFlow, AreComponents}
+use Rattle.cert_types.specs.cert_rules.Nodes.{ResultVariable}
+use Rattle.cert_types.specs.cert_rules.Setting.{Setting}
+use Rattle.bound_fixpoint.specs.Components.{IsOneOf}
+use Rattle.bound_fixpoint.specs.Keys.{has_key}
+use Rattle.rvg_components.specs.Flows.{Locals, value_flows, live_result_variables, loops}
+use Rattle.rvg_components.specs.Listing.{result_variable_at, HasFlow, AreComponents}
 use Rattle.model.proofs.PathLaws.{Path-then as joined}
-use Rattle.time_bounds.proofs.SpotLists.{chosen-told}
+use Rattle.time_bounds.proofs.ResultVariableLists.{chosen-sound}
 
 -- a path to another node ends with an edge
 record LastEdge (E : ℕ → ℕ → Type 0) (a b : ℕ) : Type 0 where
@@ -40,14 +40,14 @@ any_of f g (p ∷ ps) x (suc n, l, same) h = later (g (f p)) (list_any g (map f 
     later false w e = e
 
 module _ (s : Setting) (is_live : ℕ → Bool) (local : Locals) where
-  abbrev all : List Spot
-  all = live_spots s.program is_live
+  abbrev all : List ResultVariable
+  all = live_result_variables s.program is_live
 
   abbrev flow : ℕ → ℕ → Type 0
-  flow = HasFlow s local (live_spots s.program is_live)
+  flow = HasFlow s local (live_result_variables s.program is_live)
 
-  abbrev at : ℕ → Spot
-  at = spot_at (live_spots s.program is_live)
+  abbrev at : ℕ → ResultVariable
+  at = result_variable_at (live_result_variables s.program is_live)
 
   -- two members of one component loop
   two_loop : (ps : List ℕ) (nodes : ℕ) (before : List (List ℕ)) → IsNext flow nodes before ps → (a b : ℕ) → Contains ps a → Contains ps b → (a ≡ b → ⊥)
@@ -65,7 +65,7 @@ module _ (s : Setting) (is_live : ℕ → Bool) (local : Locals) where
 
   -- so one that doesn't has one member
   one_member : (ps : List ℕ) (nodes : ℕ) (before : List (List ℕ)) → IsNext flow nodes before ps → loops s local (map at ps) ≡ false
-      → (m : Spot) × (map at ps ≡ m ∷ [])
+      → (m : ResultVariable) × (map at ps ≡ m ∷ [])
   one_member [] nodes before next h =
       absurd (let x = (next.members next.least).1 (record { onward = Here refl; back = Here refl }) in none x)
     where
@@ -77,8 +77,8 @@ module _ (s : Setting) (is_live : ℕ → Bool) (local : Locals) where
       absurd (no_is_not_yes (loops s local (map at (a ∷ b ∷ ps))) h
       (two_loop (a ∷ b ∷ ps) nodes before next a b (0, omega arith, refl) (1, omega arith, refl) (λ e. omega (arith, less, e))))
 
-  found_member : (positions before rest : List (List ℕ)) → positions ≡ before ++ rest → IsListing flow (length all) positions → (c : List Spot)
-      → IsOneOf (map (map at) rest) c → loops s local c ≡ false → (m : Spot) × (c ≡ m ∷ [])
+  found_member : (positions before rest : List (List ℕ)) → positions ≡ before ++ rest → IsListing flow (length all) positions → (c : List ResultVariable)
+      → IsOneOf (map (map at) rest) c → loops s local c ≡ false → (m : ResultVariable) × (c ≡ m ∷ [])
   found_member positions before [] e listing c one h = absurd one
   found_member positions before (ps ∷ rest) e listing c (inl same) h =
       let r = one_member ps (length all) before (listing.each before rest ps e) (ap (loops s local) same ∙ h) in (r.0, sym same ∙ r.1)
@@ -86,10 +86,10 @@ module _ (s : Setting) (is_live : ℕ → Bool) (local : Locals) where
       found_member positions (before ++ ps ∷ []) rest (e ∙ sym (append_assoc before (ps ∷ []) rest)) listing c one h
 
   -- a component that doesn't loop has one member
-  pub lone : (cs : List (List Spot)) → AreComponents s is_live local cs → (c : List Spot) → IsOneOf cs c → loops s local c ≡ false
-      → (m : Spot) × (c ≡ m ∷ [])
+  pub lone : (cs : List (List ResultVariable)) → AreComponents s is_live local cs → (c : List ResultVariable) → IsOneOf cs c → loops s local c ≡ false
+      → (m : ResultVariable) × (c ≡ m ∷ [])
   lone cs found c one h =
-      found_member found.positions [] found.positions refl found.listing c (subst (λ (ds : List (List Spot)). IsOneOf ds c) found.spots one) h
+      found_member found.positions [] found.positions refl found.listing c (subst (λ (ds : List (List ResultVariable)). IsOneOf ds c) found.result_variables one) h
 
   -- a member into which no value flows has no other beside it
   alone_at : (ps : List ℕ) (nodes : ℕ) (before : List (List ℕ)) → IsNext flow nodes before ps → (b : ℕ) → Contains ps b
@@ -97,7 +97,7 @@ module _ (s : Setting) (is_live : ℕ → Bool) (local : Locals) where
   alone_at ps nodes before next b in_b none a in_a = go (a == b) refl
     where
       go : (v : Bool) → (a == b) ≡ v → a ≡ b
-      go true e = told_same a b e
+      go true e = same_number-sound a b e
       go false e =
           let to_a = (next.members a).0 in_a in
           let to_b = (next.members b).0 in_b in
@@ -117,23 +117,23 @@ module _ (s : Setting) (is_live : ℕ → Bool) (local : Locals) where
       absurd (omega (arith, less, first, second))
 
   -- no value flows into this place
-  abbrev TakesNothing : Spot → Type 0
-  TakesNothing m = (k : Spot) → value_flows s local k m ≡ true → ⊥
+  abbrev TakesNothing : ResultVariable → Type 0
+  TakesNothing m = (k : ResultVariable) → value_flows s local k m ≡ true → ⊥
 
-  found_alone : (positions before rest : List (List ℕ)) → positions ≡ before ++ rest → IsListing flow (length all) positions → (c : List Spot)
-      → IsOneOf (map (map at) rest) c → (m : Spot) → has_key c m.rule m.place ≡ true → TakesNothing m → c ≡ m ∷ []
+  found_alone : (positions before rest : List (List ℕ)) → positions ≡ before ++ rest → IsListing flow (length all) positions → (c : List ResultVariable)
+      → IsOneOf (map (map at) rest) c → (m : ResultVariable) → has_key c m.rule m.place ≡ true → TakesNothing m → c ≡ m ∷ []
   found_alone positions before [] e listing c one m h none = absurd one
   found_alone positions before (ps ∷ rest) e listing c (inl same) m h none =
-      let there = chosen-told all ps m.rule m.place (subst (λ (x : List Spot). has_key x m.rule m.place ≡ true) (sym same) h) in
+      let there = chosen-sound all ps m.rule m.place (subst (λ (x : List ResultVariable). has_key x m.rule m.place ≡ true) (sym same) h) in
       let alone = one_alone ps (length all) before (listing.each before rest ps e) there.0 there.1
-      (λ a k. none (at a) (subst (λ (x : Spot). value_flows s local (at a) x ≡ true) there.2 k.flow)) in
-      sym same ∙ (ap (map at) alone ∙ ap (λ (x : Spot). x ∷ []) there.2)
+      (λ a k. none (at a) (subst (λ (x : ResultVariable). value_flows s local (at a) x ≡ true) there.2 k.flow)) in
+      sym same ∙ (ap (map at) alone ∙ ap (λ (x : ResultVariable). x ∷ []) there.2)
   found_alone positions before (ps ∷ rest) e listing c (inr one) m h none =
       found_alone positions (before ++ ps ∷ []) rest (e ∙ sym (append_assoc before (ps ∷ []) rest)) listing c one m h none
 
   -- a component with a member into which no value flows has no other
-  pub taking_none : (cs : List (List Spot)) → AreComponents s is_live local cs → (c : List Spot) → IsOneOf cs c → (m : Spot)
+  pub taking_none : (cs : List (List ResultVariable)) → AreComponents s is_live local cs → (c : List ResultVariable) → IsOneOf cs c → (m : ResultVariable)
       → has_key c m.rule m.place ≡ true → TakesNothing m → c ≡ m ∷ []
   taking_none cs found c one m h none =
       found_alone found.positions [] found.positions refl found.listing c
-      (subst (λ (ds : List (List Spot)). IsOneOf ds c) found.spots one) m h none
+      (subst (λ (ds : List (List ResultVariable)). IsOneOf ds c) found.result_variables one) m h none

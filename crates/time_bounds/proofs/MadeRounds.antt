@@ -1,29 +1,29 @@
 -- What a round makes of finds.
 use Rattle.std.proofs.Common.{◌≡◌, ◌⊎◌, inl, inr, ℕ, ◌+◌, ◌<◌, List, [], ◌∷◌, ◌++◌, length, refl, sym, ◌∙◌, ap, subst, arith}
 use Rattle.std.proofs.lemmas.List.{append-nil, length-append, length-map}
-use Rattle.proof_tree.specs.proof_setting.Setting.{setting_of}
-use Rattle.bound_rounds.specs.Finds as plain
-use Rattle.bound_rounds.specs.Finds.{bounds_of}
-use Rattle.bound_rounds.specs.Laws.{missing}
-use Rattle.bound_rounds.specs.Rounds.{IsRound, IsMade, IsLast, Made}
-use Rattle.bound_rounds.proofs.RoundsEnd.{round_ends}
-use Rattle.bound_book.specs.declared.find.Find.{Find}
-use Rattle.bound_book.specs.Views.{find_of, finds_of}
+use Rattle.cert_types.specs.cert_program.Setting.{setting_of}
+use Rattle.bound_fixpoint.specs.Derivations as plain
+use Rattle.bound_fixpoint.specs.Derivations.{bounds_of}
+use Rattle.bound_fixpoint.specs.Laws.{missing}
+use Rattle.bound_fixpoint.specs.Rounds.{IsRound, IsMade, IsLast, Made}
+use Rattle.bound_fixpoint.proofs.RoundsEnd.{round_ends}
+use Rattle.bound_derivations.specs.declared.derivation.Derivation.{Derivation}
+use Rattle.bound_derivations.specs.Views.{derivation_of, derivations_of}
 use Rattle.time_bounds.specs.declared.candidates.Candidate.{Candidate}
 use Rattle.time_bounds.specs.declared.context.Context.{Context}
-use Rattle.time_bounds.specs.declared.rounds.Kept.{Kept}
+use Rattle.time_bounds.specs.declared.rounds.LastRound.{LastRound}
 use Rattle.time_bounds.specs.ProgramSearches.{searches_of_program}
 use Rattle.time_bounds.specs.Questions.{program_in}
 use Rattle.time_bounds.specs.RoundsMade.{known_with, AreMade, AreKeptFor, IsRoundMade}
 use Rattle.time_bounds.specs.EarlierAnswers.{WereAttempts}
 use Rattle.time_bounds.specs.TriedRules.{AreAskedOver}
-use Rattle.time_bounds.proofs.TriedFinds.{kept_asked}
+use Rattle.time_bounds.proofs.TriedDerivations.{kept_asked}
 
-module _ (cx : Context) (cs : List Candidate) (old new : List Find) (kept : Kept) where
+module _ (cx : Context) (cs : List Candidate) (old new : List Derivation) (kept : LastRound) where
   -- the finds after a round are made by rounds
   pub round_made : AreMade cx old → IsRoundMade cx cs old new kept → AreMade cx new
   round_made made h =
-      subst (λ (fs : List plain.Find). IsMade (searches_of_program (program_in cx) cx.pivots) (setting_of (program_in cx)) fs) (sym h.grown)
+      subst (λ (fs : List plain.Derivation). IsMade (searches_of_program (program_in cx) cx.pivots) (setting_of (program_in cx)) fs) (sym h.grown)
       (Made made h.round)
 
   -- and what is kept of it is kept for the next
@@ -35,39 +35,39 @@ module _ (cx : Context) (cs : List Candidate) (old new : List Find) (kept : Kept
     attempts = h.attempts;
   }
 
-  -- so many were found
+  -- this many were found
   count : (h : IsRoundMade cx cs old new kept) → length new ≡ length old + length h.more
   count h =
-      sym (length-map new find_of)
-      ∙ (ap (λ (fs : List plain.Find). length fs) h.grown
-      ∙ (length-append (finds_of old) h.more ∙ ap (λ (n : ℕ). n + length h.more) (length-map old find_of)))
+      sym (length-map new derivation_of)
+      ∙ (ap (λ (fs : List plain.Derivation). length fs) h.grown
+      ∙ (length-append (derivations_of old) h.more ∙ ap (λ (n : ℕ). n + length h.more) (length-map old derivation_of)))
 
   -- where there are no more finds than before, none was found
   nothing_more : (h : IsRoundMade cx cs old new kept) → length new ≡ length old → h.more ≡ []
   nothing_more h e = none h.more (omega (arith, count h, e))
     where
-      none : (fs : List plain.Find) → length fs ≡ 0 → fs ≡ []
+      none : (fs : List plain.Derivation) → length fs ≡ 0 → fs ≡ []
       none [] l = refl
       none (f ∷ fs) l = absurd (omega (arith, l))
 
   -- so a round that finds nothing is one over the finds that it leaves
-  pub same_finds : (h : IsRoundMade cx cs old new kept) → length new ≡ length old → IsRoundMade cx cs new new kept
-  same_finds h e =
-      let same : finds_of new ≡ finds_of old =
-      h.grown ∙ (ap (λ (fs : List plain.Find). finds_of old ++ fs) (nothing_more h e) ∙ append-nil (finds_of old)) in
+  pub same_derivations : (h : IsRoundMade cx cs old new kept) → length new ≡ length old → IsRoundMade cx cs new new kept
+  same_derivations h e =
+      let same : derivations_of new ≡ derivations_of old =
+      h.grown ∙ (ap (λ (fs : List plain.Derivation). derivations_of old ++ fs) (nothing_more h e) ∙ append-nil (derivations_of old)) in
       record {
         more = h.more;
         round =
-            subst (λ (fs : List plain.Find). IsRound (searches_of_program (program_in cx) cx.pivots) (setting_of (program_in cx)) fs h.more)
+            subst (λ (fs : List plain.Derivation). IsRound (searches_of_program (program_in cx) cx.pivots) (setting_of (program_in cx)) fs h.more)
             (sym same) h.round;
-        grown = h.grown ∙ ap (λ (fs : List plain.Find). fs ++ h.more) (sym same);
+        grown = h.grown ∙ ap (λ (fs : List plain.Derivation). fs ++ h.more) (sym same);
         one_each = h.one_each;
         asked =
-            subst (λ (fs : List plain.Find). AreAskedOver (program_in cx) (bounds_of (program_in cx) fs) (known_with cx new) cx.pivots
+            subst (λ (fs : List plain.Derivation). AreAskedOver (program_in cx) (bounds_of (program_in cx) fs) (known_with cx new) cx.pivots
             cx.empties.items 1 kept.asked.items) (sym same) h.asked;
         tried = h.tried;
         attempts =
-            subst (λ (fs : List plain.Find). WereAttempts (program_in cx) cx.pivots (bounds_of (program_in cx) fs) (known_with cx new) cs
+            subst (λ (fs : List plain.Derivation). WereAttempts (program_in cx) cx.pivots (bounds_of (program_in cx) fs) (known_with cx new) cs
             kept.attempts.items) (sym same) h.attempts;
       }
 
@@ -75,23 +75,23 @@ module _ (cx : Context) (cs : List Candidate) (old new : List Find) (kept : Kept
   pub fewer_missing : (h : IsRoundMade cx cs old new kept) → (¬ (length new ≡ length old))
       → missing (program_in cx) (known_with cx new) < missing (program_in cx) (known_with cx old)
   fewer_missing h more =
-      by (round_ends (searches_of_program (program_in cx) cx.pivots) (setting_of (program_in cx)) (finds_of old) h.more h.round)
+      by (round_ends (searches_of_program (program_in cx) cx.pivots) (setting_of (program_in cx)) (derivations_of old) h.more h.round)
     where
-      by : (missing (program_in cx) (bounds_of (program_in cx) (finds_of old ++ h.more)) < missing (program_in cx) (known_with cx old))
+      by : (missing (program_in cx) (bounds_of (program_in cx) (derivations_of old ++ h.more)) < missing (program_in cx) (known_with cx old))
           ⊎ (h.more ≡ []) → missing (program_in cx) (known_with cx new) < missing (program_in cx) (known_with cx old)
       by (inl l) =
-          subst (λ (fs : List plain.Find). missing (program_in cx) (bounds_of (program_in cx) fs) < missing (program_in cx) (known_with cx old))
+          subst (λ (fs : List plain.Derivation). missing (program_in cx) (bounds_of (program_in cx) fs) < missing (program_in cx) (known_with cx old))
           (sym h.grown) l
       by (inr none) =
-          let found : length h.more ≡ 0 = ap (λ (fs : List plain.Find). length fs) none in
+          let found : length h.more ≡ 0 = ap (λ (fs : List plain.Derivation). length fs) none in
           absurd (more (omega (arith, count h, found)))
 
 -- finds over which a round finds nothing are the last
-pub round_closed : (cx : Context) (cs : List Candidate) (fs : List Find) (kept : Kept) → AreMade cx fs → IsRoundMade cx cs fs fs kept
-    → IsLast (searches_of_program (program_in cx) cx.pivots) (setting_of (program_in cx)) (finds_of fs)
+pub round_closed : (cx : Context) (cs : List Candidate) (fs : List Derivation) (kept : LastRound) → AreMade cx fs → IsRoundMade cx cs fs fs kept
+    → IsLast (searches_of_program (program_in cx) cx.pivots) (setting_of (program_in cx)) (derivations_of fs)
 round_closed cx cs fs kept made h = record {
   made = made;
   closed =
-      subst (λ (more : List plain.Find). IsRound (searches_of_program (program_in cx) cx.pivots) (setting_of (program_in cx)) (finds_of fs) more)
+      subst (λ (more : List plain.Derivation). IsRound (searches_of_program (program_in cx) cx.pivots) (setting_of (program_in cx)) (derivations_of fs) more)
       (nothing_more cx cs fs fs kept h refl) h.round;
 }

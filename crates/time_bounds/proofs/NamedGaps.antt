@@ -1,7 +1,7 @@
--- Gaps that entries name stay where one more comes, and so does what is said.
+-- Gaps that entries name stay where one more is appended, and the entries stay right.
 use Rattle.std.proofs.Common.{◌≡◌, inl, inr, ℕ, zero, suc, ◌+◌, ◌≤◌, List, [], ◌∷◌, ◌++◌}
 use Rattle.std.proofs.Common.{length, map, All, refl, sym, ◌∙◌, ap, subst, arith}
-use Rattle.proof_tree.specs.AnswerViews.{gap_of}
+use Rattle.cert_types.specs.AnswerViews.{gap_of}
 use Rattle.std.proofs.lemmas.List.{length-append, length-map, map-append}
 use Rattle.std.proofs.lemmas.List.Elements.{All-nil, All-cons, All-head, All-tail}
 use Rattle.model.specs.Programs.{Program}
@@ -10,9 +10,9 @@ use Rattle.outcome.specs.Views.{numbered_gap, time_of}
 use Rattle.outcome.specs.Printing.{HasItsGap}
 use Rattle.outcome.specs.declared.entry.TimeEntry.{TimeEntry}
 use Rattle.outcome.specs.declared.entry.TimeEntry.TheVariants as entries
-use Rattle.proof_tree.specs.declared.gap.Gap.{Gap}
-use Rattle.bound_rounds.specs.Keys.{Bounds}
-use Rattle.bound_rounds.specs.Searches.{Searches}
+use Rattle.cert_types.specs.declared.gap.Gap.{Gap}
+use Rattle.bound_fixpoint.specs.Keys.{Bounds}
+use Rattle.bound_fixpoint.specs.Searches.{Searches}
 use Rattle.time_bounds.specs.TriedRules.{IsGrown}
 use Rattle.time_bounds.specs.TimesSaid.{IsTimeOver, AreTimesOver}
 use Rattle.time_bounds.proofs.NumberedLists.{each_pushed}
@@ -29,21 +29,21 @@ pub gap_added : (gaps : List Gap) (g : Gap) → numbered_gap (gaps ++ g ∷ []) 
 gap_added [] g = refl
 gap_added (h ∷ gaps) g = gap_added gaps g
 
--- so what is said stays
+-- so the entry stays right
 pub entry_kept : (gaps more : List Gap) (e : TimeEntry) → HasItsGap (length gaps) e → time_of (gaps ++ more) e ≡ time_of gaps e
 entry_kept gaps more (entries.Known s) h = refl
 entry_kept gaps more (entries.Gap n) h = ap (λ g. Untimed (NoFunction g)) (gap_kept gaps more n h.0 h.1)
-entry_kept gaps more (entries.Tripped t) h = refl
+entry_kept gaps more (entries.OutOfLimits t) h = refl
 entry_kept gaps more (entries.Large n) h = refl
 
--- an entry whose gap is one of so many has it among more
+-- an entry whose gap is one of this many has it among more
 pub gap_weaker : (n m : ℕ) (e : TimeEntry) → n ≤ m → HasItsGap n e → HasItsGap m e
 gap_weaker n m (entries.Known s) l h = tt
 gap_weaker n m (entries.Gap g) l h = (h.0, omega (arith, l, h.1))
-gap_weaker n m (entries.Tripped t) l h = tt
+gap_weaker n m (entries.OutOfLimits t) l h = tt
 gap_weaker n m (entries.Large k) l h = tt
 
--- where a list of gaps grows, what is said stays, and so does that each gap is there
+-- where a list of gaps grows, the entries stay right, and each gap that is named still exists
 grown_long : (gaps new : List Gap) → IsGrown gaps new → length gaps ≤ length new
 grown_long gaps new (inl e) = omega (arith, ap (λ (gs : List Gap). length gs) e)
 grown_long gaps new (inr h) = omega (arith, ap (λ (gs : List Gap). length gs) h.1, length-append gaps (h.0 ∷ []))
@@ -59,7 +59,7 @@ entries_grown gaps new (e ∷ times) g h =
     ap (λ (x : Time). x ∷ map (time_of new) times) (entry_grown gaps new e g (All-head (HasItsGap (length gaps)) e times h))
     ∙ ap (λ (xs : List Time). time_of gaps e ∷ xs) (entries_grown gaps new times g (All-tail (HasItsGap (length gaps)) e times h))
 
--- where the list of gaps grows, what is said stays, and what is said of the next rule stands behind it
+-- where the list of gaps grows, the entries stay right, and the next rule's entry is appended
 pub said_grown : (q : Searches) (p : Program) (b : Bounds) (gaps new : List Gap) (times : List TimeEntry) (x : TimeEntry) (t : ℕ)
     → IsGrown gaps new → All (HasItsGap (length gaps)) times → AreTimesOver q p b 1 (map (time_of gaps) times) → t ≡ 1 + length times
     → IsTimeOver q p b t (time_of new x) → AreTimesOver q p b 1 (map (time_of new) (times ++ x ∷ []))

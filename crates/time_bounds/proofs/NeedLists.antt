@@ -5,9 +5,9 @@ use Rattle.std.specs.Prelude.{ℤ}
 use Rattle.std.proofs.lemmas.List.{map-append, append_assoc, append-nil, take_more, length-take-le}
 use Rattle.its_model.specs.int_laws.NormalForm.{is_zero}
 use Rattle.model.specs.Programs.{Program}
-use Rattle.proof_tree.specs.proof_nodes.Nodes.{Spot, RankNode}
-use Rattle.bound_rounds.specs.Keys.{key}
-use Rattle.bound_rounds.specs.Needs.{read_places, entry_needs, needs_of_all}
+use Rattle.cert_types.specs.cert_rules.Nodes.{ResultVariable, RankNode}
+use Rattle.bound_fixpoint.specs.Keys.{key}
+use Rattle.bound_fixpoint.specs.Needs.{read_places, entry_premises, premises_of_all}
 use Rattle.time_bounds.specs.Needs.{read_here}
 
 -- the places that a form reads, with one coefficient more
@@ -25,12 +25,12 @@ read-append (b ∷ cs) k c = go (is_zero b) refl (read-append cs (suc k) c)
         rw e (ap (λ (zs : List ℕ). k ∷ zs) (h ∙ ap (λ (i : ℕ). read_places (suc k) cs ++ cond (is_zero c) [] (i ∷ [])) next))
 
 -- the sizes after an entry, with one coefficient more
-pub read-more : (e : ℕ) (xs : List Spot) (cs : List ℤ) (i : ℕ) (d : ℤ) → i < length cs
+pub read-more : (e : ℕ) (xs : List ResultVariable) (cs : List ℤ) (i : ℕ) (d : ℤ) → i < length cs
     → (xs ++ map (λ j. key e j) (read_places 1 (take i cs))) ++ map (λ j. key e j) (read_here (get_or cs i d) (i + 1))
     ≡ xs ++ map (λ j. key e j) (read_places 1 (take (i + 1) cs))
 read-more e xs cs i d low =
     append_assoc xs (map (λ j. key e j) (read_places 1 (take i cs))) (map (λ j. key e j) (read_here (get_or cs i d) (i + 1)))
-    ∙ ap (λ (ms : List Spot). xs ++ ms)
+    ∙ ap (λ (ms : List ResultVariable). xs ++ ms)
     (sym (map-append (λ (j : ℕ). key e j) (read_places 1 (take i cs)) (read_here (get_or cs i d) (i + 1)))
     ∙ ap (map (λ j. key e j)) (sym all_read))
   where
@@ -44,9 +44,9 @@ read-more e xs cs i d low =
         ∙ ap (λ (j : ℕ). read_places 1 (take i cs) ++ read_here (get_or cs i d) j) (let at_last : 1 + length (take i cs) ≡ i + 1 = omega (arith, long) in at_last))
 
 -- what a node needs of one entry more
-pub needs-append : (p : Program) (node : RankNode) (es : List ℕ) (e : ℕ)
-    → needs_of_all p node (es ++ e ∷ []) ≡ needs_of_all p node es ++ entry_needs p node e
-needs-append p node [] e = append-nil (entry_needs p node e)
-needs-append p node (x ∷ es) e =
-    ap (λ (ks : List Spot). entry_needs p node x ++ ks) (needs-append p node es e)
-    ∙ sym (append_assoc (entry_needs p node x) (needs_of_all p node es) (entry_needs p node e))
+pub premises-append : (p : Program) (node : RankNode) (es : List ℕ) (e : ℕ)
+    → premises_of_all p node (es ++ e ∷ []) ≡ premises_of_all p node es ++ entry_premises p node e
+premises-append p node [] e = append-nil (entry_premises p node e)
+premises-append p node (x ∷ es) e =
+    ap (λ (ks : List ResultVariable). entry_premises p node x ++ ks) (premises-append p node es e)
+    ∙ sym (append_assoc (entry_premises p node x) (premises_of_all p node es) (entry_premises p node e))

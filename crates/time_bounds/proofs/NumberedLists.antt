@@ -2,7 +2,7 @@
 use Rattle.std.proofs.Common.{◌≡◌, ℕ, zero, suc, ◌+◌, ◌<◌, List, [], ◌∷◌, ◌++◌, length, get_or, sym, subst, arith}
 use Rattle.time_bounds.specs.Numbered.{EachNumbered}
 
--- one more stands behind those before it
+-- one more element is appended to those before it
 pub each_pushed : {A : Type 0} (P : ℕ → A → Type 0) (k : ℕ) (xs : List A) (x : A) → EachNumbered P k xs
     → P (k + length xs) x → EachNumbered P k (xs ++ x ∷ [])
 each_pushed P k [] x h g = (subst (λ (n : ℕ). P n x) (let z : k + 0 ≡ k = omega arith in z) g, tt)

@@ -3,14 +3,14 @@ use Rattle.std.proofs.Common.{◌≡◌, ℕ, suc, List, [], ◌∷◌, length, 
 use Rattle.model.specs.Programs.{Program}
 use Rattle.model.specs.Bounds.{Bound}
 use Rattle.outcome.specs.Reports.{Time, Timed, Untimed, NoTime, Size, Sized, Unsized, NoSize, Report}
-use Rattle.proof_tree.specs.proof_nodes.Nodes.{Spot}
-use Rattle.proof_tree.specs.proof_setting.Setting.{setting_of}
-use Rattle.bound_rounds.specs.Components.{AreApart}
-use Rattle.bound_rounds.specs.Right.{AreOne}
-use Rattle.bound_rounds.specs.Finds.{Find}
-use Rattle.bound_rounds.specs.Searches as searches
-use Rattle.bound_rounds.specs.Searches.{OfTime, OfSize}
-use Rattle.bound_rounds.proofs.FindsAreOne.{last_one, time_reason, reason_one}
+use Rattle.cert_types.specs.cert_rules.Nodes.{ResultVariable}
+use Rattle.cert_types.specs.cert_program.Setting.{setting_of}
+use Rattle.bound_fixpoint.specs.Components.{AreApart}
+use Rattle.bound_fixpoint.specs.Right.{AreOne}
+use Rattle.bound_fixpoint.specs.Derivations.{Derivation}
+use Rattle.bound_fixpoint.specs.Searches as searches
+use Rattle.bound_fixpoint.specs.Searches.{OfTime, OfSize}
+use Rattle.bound_fixpoint.proofs.DerivationsAreOne.{last_one, time_reason, reason_one}
 use Rattle.time_bounds.specs.ProgramSearches.{searches_of_program}
 use Rattle.time_bounds.specs.Analysis.{bound_in, IsTimeOf, AreTimesOf, IsSizeOf, AreSizesOf, AreSizeRowsOf, IsAnalysis}
 use Rattle.time_bounds.specs.Totals.{total_of}
@@ -27,7 +27,7 @@ joined {A} x y xs ys e h = ap (λ (z : A). z ∷ xs) e ∙ ap (λ (zs : List A).
 same_report : (r q : Report) → r.times ≡ q.times → r.total ≡ q.total → r.sizes ≡ q.sizes → r ≡ q
 same_report r q times total sizes = λ i. record { times = times i; total = total i; sizes = sizes i }
 
--- one reason of a time is told in one way, and so is one of a size
+-- one reason for a time has one form, and so has one for a size
 one_time : (v w : NoTime) → OfTime v ≡ OfTime w → v ≡ w
 one_time v w e = cc
 
@@ -38,8 +38,8 @@ module _ (p : Program) (pivots : ℕ) (one : AreOne (searches_of_program p pivot
   abbrev q : searches.Searches
   q = searches_of_program p pivots
 
-  -- one thing is said of each rule
-  said_one : (fs : List Find) (t : ℕ) (x y : Time) → IsTimeOf q p fs t x → IsTimeOf q p fs t y → x ≡ y
+  -- each rule has one entry
+  said_one : (fs : List Derivation) (t : ℕ) (x y : Time) → IsTimeOf q p fs t x → IsTimeOf q p fs t y → x ≡ y
   said_one fs t (Timed b) (Timed c) h k = ap (λ (d : Bound). Timed d) (same_bound b c (sym h ∙ k))
   said_one fs t (Timed b) (Untimed w) h k = absurd (some_none b (sym h ∙ k.missing))
   said_one fs t (Untimed v) (Timed c) h k = absurd (some_none c (sym k ∙ h.missing))
@@ -47,7 +47,7 @@ module _ (p : Program) (pivots : ℕ) (one : AreOne (searches_of_program p pivot
       ap (λ (n : NoTime). Untimed n)
       (one_time v w (time_reason q one (setting_of p) fs t (OfTime v) (OfTime w) h k))
 
-  all_one : (fs : List Find) (k : ℕ) (xs ys : List Time) → length xs ≡ length ys → AreTimesOf q p fs k xs
+  all_one : (fs : List Derivation) (k : ℕ) (xs ys : List Time) → length xs ≡ length ys → AreTimesOf q p fs k xs
       → AreTimesOf q p fs k ys → xs ≡ ys
   all_one fs k [] [] e h g = refl
   all_one fs k [] (y ∷ ys) e h g = let none : 0 ≡ suc (length ys) = e in absurd (omega (arith, none))
@@ -57,8 +57,8 @@ module _ (p : Program) (pivots : ℕ) (one : AreOne (searches_of_program p pivot
       joined x y xs ys (said_one fs k x y h.0 g.0) (all_one fs (suc k) xs ys (omega (arith, long)) h.1 g.1)
 
   -- and of each place after it, by one list of components
-  module _ (cs : List (List Spot)) (are : (searches_of_program p pivots).AreComponents cs) (apart : AreApart cs)
-      (fs : List Find) where
+  module _ (cs : List (List ResultVariable)) (are : (searches_of_program p pivots).AreComponents cs) (apart : AreApart cs)
+      (fs : List Derivation) where
     size_one : (t i : ℕ) (x y : Size) → IsSizeOf q p fs t i x → IsSizeOf q p fs t i y → x ≡ y
     size_one t i (Sized b) (Sized c) h k = ap (λ (d : Bound). Sized d) (same_bound b c (sym h ∙ k))
     size_one t i (Sized b) (Unsized w) h k = absurd (some_none b (sym h ∙ k.missing))
@@ -89,12 +89,12 @@ module _ (p : Program) (pivots : ℕ) (one : AreOne (searches_of_program p pivot
   -- two analyses of a program, within the same number of pivots, are the same
   pub analysis_one : (r s : Report) → IsAnalysis p pivots r → IsAnalysis p pivots s → r ≡ s
   analysis_one r s h k =
-      let finds = last_one q one (setting_of p) h.finds k.finds h.last k.last in
-      let said = subst (λ (fs : List Find). AreTimesOf q p fs 1 r.times) finds h.times in
-      let sized = subst (λ (fs : List Find). AreSizeRowsOf q p fs 1 r.sizes) finds h.sizes in
-      let times = all_one k.finds 1 r.times s.times (h.one_each ∙ sym k.one_each) said k.times in
+      let derivations = last_one q one (setting_of p) h.derivations k.derivations h.last k.last in
+      let said = subst (λ (fs : List Derivation). AreTimesOf q p fs 1 r.times) derivations h.times in
+      let sized = subst (λ (fs : List Derivation). AreSizeRowsOf q p fs 1 r.sizes) derivations h.sizes in
+      let times = all_one k.derivations 1 r.times s.times (h.one_each ∙ sym k.one_each) said k.times in
       let round = k.last.closed in
       let sizes =
-      rows_one round.components round.are_components round.live.apart k.finds 1 r.sizes s.sizes
+      rows_one round.components round.are_components round.live.apart k.derivations 1 r.sizes s.sizes
       (h.places ∙ sym k.places) sized k.sizes in
       same_report r s times (h.total ∙ (ap (λ (ts : List Time). total_of (map bound_in ts)) times ∙ sym k.total)) sizes

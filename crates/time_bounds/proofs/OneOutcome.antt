@@ -1,4 +1,4 @@
--- The outcome of an analysis with its lemmas is one: its report tells its gaps and what its entries carry.
+-- The outcome of an analysis with its lemmas is unique: its report determines its gaps and the contents of its entries.
 use Rattle.std.proofs.Common.{◌≡◌, ℕ, zero, suc, ◌<◌, ◌≤◌, List, [], ◌∷◌, length, map, refl, sym, ◌∙◌, ap, arith}
 use Rattle.std.specs.declared.alloc.Global.{Global}
 use Rattle.std.specs.declared.vec.Vec.{Vec}
@@ -10,14 +10,14 @@ use Rattle.outcome.specs.declared.entry.TimeEntry.TheVariants as times
 use Rattle.outcome.specs.declared.entry.SizeEntry.{SizeEntry}
 use Rattle.outcome.specs.declared.entry.SizeEntry.TheVariants as sizes
 use Rattle.outcome.specs.declared.outcome_of.Outcome.{Outcome}
-use Rattle.proof_tree.specs.proof_nodes.Gaps.{Gap}
-use Rattle.proof_tree.specs.proof_setting.Setting.{setting_of}
-use Rattle.proof_tree.specs.AnswerViews.{gap_of}
-use Rattle.proof_tree.specs.declared.gap.Gap as code
-use Rattle.bound_rounds.specs.Finds.{Find, number_in}
-use Rattle.bound_rounds.specs.Needs.{lemmas_of}
-use Rattle.bound_rounds.specs.Right.{AreOne}
-use Rattle.bound_rounds.proofs.FindsAreOne.{last_one}
+use Rattle.cert_types.specs.cert_rules.Gaps.{Gap}
+use Rattle.cert_types.specs.cert_program.Setting.{setting_of}
+use Rattle.cert_types.specs.AnswerViews.{gap_of}
+use Rattle.cert_types.specs.declared.gap.Gap as code
+use Rattle.bound_fixpoint.specs.Derivations.{Derivation, number_in}
+use Rattle.bound_fixpoint.specs.Needs.{lemmas_of}
+use Rattle.bound_fixpoint.specs.Right.{AreOne}
+use Rattle.bound_fixpoint.proofs.DerivationsAreOne.{last_one}
 use Rattle.time_bounds.specs.Analysis.{IsAnalysis}
 use Rattle.time_bounds.specs.AnalysisLaws.{number_of_time, number_of_size, AreOneOutcome}
 use Rattle.time_bounds.specs.AnalysisLemmas.{CarriesTime, CarriesSize, CarriesSizes, AreGapsInOrder, HasLemmas}
@@ -34,20 +34,20 @@ time_numbers number t n (Untimed (TimeTripped x) ∷ told) = 0 ∷ time_numbers 
 time_numbers number t n (Untimed (TimeLarge k) ∷ told) = 0 ∷ time_numbers number (suc t) n told
 
 -- entries that carry numbers carry those
-times_told : (number : ℕ → ℕ → ℕ) (gaps : List code.Gap) (t n : ℕ) (entries : List TimeEntry) (count : ℕ)
+times-sound : (number : ℕ → ℕ → ℕ) (gaps : List code.Gap) (t n : ℕ) (entries : List TimeEntry) (count : ℕ)
     → EachNumbered (CarriesTime number) t entries → AreGapsInOrder n entries count
     → map number_of_time entries ≡ time_numbers number t n (map (time_of gaps) entries)
-times_told number gaps t n [] count h g = refl
-times_told number gaps t n (times.Known s ∷ entries) count h g =
+times-sound number gaps t n [] count h g = refl
+times-sound number gaps t n (times.Known s ∷ entries) count h g =
     joined s.lemma (number t 0) (map number_of_time entries) (time_numbers number (suc t) n (map (time_of gaps) entries))
-    h.0 (times_told number gaps (suc t) n entries count h.1 g)
-times_told number gaps t n (times.Gap k ∷ entries) count h g =
+    h.0 (times-sound number gaps (suc t) n entries count h.1 g)
+times-sound number gaps t n (times.Gap k ∷ entries) count h g =
     joined k (suc n) (map number_of_time entries) (time_numbers number (suc t) (suc n) (map (time_of gaps) entries))
-    g.0 (times_told number gaps (suc t) (suc n) entries count h.1 g.1)
-times_told number gaps t n (times.Tripped x ∷ entries) count h g =
-    ap (λ (ks : List ℕ). 0 ∷ ks) (times_told number gaps (suc t) n entries count h.1 g)
-times_told number gaps t n (times.Large k ∷ entries) count h g =
-    ap (λ (ks : List ℕ). 0 ∷ ks) (times_told number gaps (suc t) n entries count h.1 g)
+    g.0 (times-sound number gaps (suc t) (suc n) entries count h.1 g.1)
+times-sound number gaps t n (times.OutOfLimits x ∷ entries) count h g =
+    ap (λ (ks : List ℕ). 0 ∷ ks) (times-sound number gaps (suc t) n entries count h.1 g)
+times-sound number gaps t n (times.Large k ∷ entries) count h g =
+    ap (λ (ks : List ℕ). 0 ∷ ks) (times-sound number gaps (suc t) n entries count h.1 g)
 
 -- the gaps of a report
 abbrev gaps_in : List Time → List Gap
@@ -82,21 +82,21 @@ order_rises : (n : ℕ) (entries : List TimeEntry) (count : ℕ) → AreGapsInOr
 order_rises n [] count g = omega (arith, g)
 order_rises n (times.Known s ∷ entries) count g = order_rises n entries count g
 order_rises n (times.Gap k ∷ entries) count g = let more = order_rises (suc n) entries count g.1 in omega (arith, more)
-order_rises n (times.Tripped x ∷ entries) count g = order_rises n entries count g
+order_rises n (times.OutOfLimits x ∷ entries) count g = order_rises n entries count g
 order_rises n (times.Large k ∷ entries) count g = order_rises n entries count g
 
 -- so gaps in order are those of the report
-gaps_told : (gaps : List code.Gap) (n : ℕ) (entries : List TimeEntry) → AreGapsInOrder n entries (length gaps)
+gaps_in_order : (gaps : List code.Gap) (n : ℕ) (entries : List TimeEntry) → AreGapsInOrder n entries (length gaps)
     → gaps_behind n gaps ≡ gaps_in (map (time_of gaps) entries)
-gaps_told gaps n [] g = no_more n gaps g
-gaps_told gaps n (times.Known s ∷ entries) g = gaps_told gaps n entries g
-gaps_told gaps n (times.Gap k ∷ entries) g =
+gaps_in_order gaps n [] g = no_more n gaps g
+gaps_in_order gaps n (times.Known s ∷ entries) g = gaps_in_order gaps n entries g
+gaps_in_order gaps n (times.Gap k ∷ entries) g =
     let more = order_rises (suc n) entries (length gaps) g.1 in
     next_gap n gaps (omega (arith, more))
     ∙ joined (numbered_gap gaps (suc n)) (numbered_gap gaps k) (gaps_behind (suc n) gaps)
-    (gaps_in (map (time_of gaps) entries)) (ap (numbered_gap gaps) (sym g.0)) (gaps_told gaps (suc n) entries g.1)
-gaps_told gaps n (times.Tripped x ∷ entries) g = gaps_told gaps n entries g
-gaps_told gaps n (times.Large k ∷ entries) g = gaps_told gaps n entries g
+    (gaps_in (map (time_of gaps) entries)) (ap (numbered_gap gaps) (sym g.0)) (gaps_in_order gaps (suc n) entries g.1)
+gaps_in_order gaps n (times.OutOfLimits x ∷ entries) g = gaps_in_order gaps n entries g
+gaps_in_order gaps n (times.Large k ∷ entries) g = gaps_in_order gaps n entries g
 
 -- the numbers that sizes of a report carry, from place i after rule t on
 abbrev size_numbers : (ℕ → ℕ → ℕ) → ℕ → ℕ → List Size → List ℕ
@@ -104,38 +104,38 @@ size_numbers number t i [] = []
 size_numbers number t i (Sized b ∷ told) = number t i ∷ size_numbers number t (suc i) told
 size_numbers number t i (Unsized w ∷ told) = 0 ∷ size_numbers number t (suc i) told
 
--- so of the places after each rule from t on
+-- the same for the places after each rule from t on
 abbrev row_numbers : (ℕ → ℕ → ℕ) → ℕ → List (List Size) → List (List ℕ)
 row_numbers number t [] = []
 row_numbers number t (row ∷ rows) = size_numbers number t 1 row ∷ row_numbers number (suc t) rows
 
 -- entries that carry numbers carry those
-sizes_told : (number : ℕ → ℕ → ℕ) (t i : ℕ) (entries : List SizeEntry) → EachNumbered (CarriesSize number t) i entries
+sizes_numbered : (number : ℕ → ℕ → ℕ) (t i : ℕ) (entries : List SizeEntry) → EachNumbered (CarriesSize number t) i entries
     → map number_of_size entries ≡ size_numbers number t i (map size_of entries)
-sizes_told number t i [] h = refl
-sizes_told number t i (sizes.Known s ∷ entries) h =
+sizes_numbered number t i [] h = refl
+sizes_numbered number t i (sizes.Known s ∷ entries) h =
     joined s.lemma (number t i) (map number_of_size entries) (size_numbers number t (suc i) (map size_of entries)) h.0
-    (sizes_told number t (suc i) entries h.1)
-sizes_told number t i (sizes.Loose l ∷ entries) h =
-    ap (λ (ks : List ℕ). 0 ∷ ks) (sizes_told number t (suc i) entries h.1)
-sizes_told number t i (sizes.Tripped x ∷ entries) h =
-    ap (λ (ks : List ℕ). 0 ∷ ks) (sizes_told number t (suc i) entries h.1)
-sizes_told number t i (sizes.Missing m ∷ entries) h =
-    ap (λ (ks : List ℕ). 0 ∷ ks) (sizes_told number t (suc i) entries h.1)
-sizes_told number t i (sizes.Bent m ∷ entries) h =
-    ap (λ (ks : List ℕ). 0 ∷ ks) (sizes_told number t (suc i) entries h.1)
-sizes_told number t i (sizes.Untimed r ∷ entries) h =
-    ap (λ (ks : List ℕ). 0 ∷ ks) (sizes_told number t (suc i) entries h.1)
-sizes_told number t i (sizes.Large n ∷ entries) h =
-    ap (λ (ks : List ℕ). 0 ∷ ks) (sizes_told number t (suc i) entries h.1)
+    (sizes_numbered number t (suc i) entries h.1)
+sizes_numbered number t i (sizes.UnboundedSide l ∷ entries) h =
+    ap (λ (ks : List ℕ). 0 ∷ ks) (sizes_numbered number t (suc i) entries h.1)
+sizes_numbered number t i (sizes.OutOfLimits x ∷ entries) h =
+    ap (λ (ks : List ℕ). 0 ∷ ks) (sizes_numbered number t (suc i) entries h.1)
+sizes_numbered number t i (sizes.Missing m ∷ entries) h =
+    ap (λ (ks : List ℕ). 0 ∷ ks) (sizes_numbered number t (suc i) entries h.1)
+sizes_numbered number t i (sizes.Nonlinear m ∷ entries) h =
+    ap (λ (ks : List ℕ). 0 ∷ ks) (sizes_numbered number t (suc i) entries h.1)
+sizes_numbered number t i (sizes.Untimed r ∷ entries) h =
+    ap (λ (ks : List ℕ). 0 ∷ ks) (sizes_numbered number t (suc i) entries h.1)
+sizes_numbered number t i (sizes.Large n ∷ entries) h =
+    ap (λ (ks : List ℕ). 0 ∷ ks) (sizes_numbered number t (suc i) entries h.1)
 
-rows_told : (number : ℕ → ℕ → ℕ) (t : ℕ) (rows : List (Vec SizeEntry Global)) → EachNumbered (CarriesSizes number) t (map (λ row. row.items) rows)
+rows_numbered : (number : ℕ → ℕ → ℕ) (t : ℕ) (rows : List (Vec SizeEntry Global)) → EachNumbered (CarriesSizes number) t (map (λ row. row.items) rows)
     → map (λ row. map number_of_size row.items) rows ≡ row_numbers number t (map (λ row. map size_of row.items) rows)
-rows_told number t [] h = refl
-rows_told number t (row ∷ rows) h =
+rows_numbered number t [] h = refl
+rows_numbered number t (row ∷ rows) h =
     joined (map number_of_size row.items) (size_numbers number t 1 (map size_of row.items))
     (map (λ r. map number_of_size r.items) rows) (row_numbers number (suc t) (map (λ r. map size_of r.items) rows))
-    (sizes_told number t 1 row.items h.0) (rows_told number (suc t) rows h.1)
+    (sizes_numbered number t 1 row.items h.0) (rows_numbered number (suc t) rows h.1)
 
 -- two outcomes with the lemmas of the analysis of a program, within the same number of pivots, are one
 pub outcome_one : (p : Program) (pivots : ℕ) → AreOne (searches_of_program p pivots) → (x y : Outcome)
@@ -143,23 +143,23 @@ pub outcome_one : (p : Program) (pivots : ℕ) → AreOne (searches_of_program p
     → AreOneOutcome x y
 outcome_one p pivots one x y analysed has others too =
     let same = analysis_one p pivots one (report_of x) (report_of y) analysed others in
-    let finds =
-    last_one (searches_of_program p pivots) one (setting_of p) has.finds too.finds has.last too.last in
+    let derivations =
+    last_one (searches_of_program p pivots) one (setting_of p) has.derivations too.derivations has.last too.last in
     record {
       report = same;
-      lemmas = has.lemmas ∙ (ap lemmas_of finds ∙ sym too.lemmas);
+      lemmas = has.lemmas ∙ (ap lemmas_of derivations ∙ sym too.lemmas);
       gaps =
-          gaps_told x.gaps.items 0 x.times.items has.gaps
-          ∙ (ap (λ (r : Report). gaps_in r.times) same ∙ sym (gaps_told y.gaps.items 0 y.times.items too.gaps));
+          gaps_in_order x.gaps.items 0 x.times.items has.gaps
+          ∙ (ap (λ (r : Report). gaps_in r.times) same ∙ sym (gaps_in_order y.gaps.items 0 y.times.items too.gaps));
       times =
-          times_told (number_in has.finds) x.gaps.items 1 0 x.times.items (length x.gaps.items) has.carried_times has.gaps
-          ∙ (ap (λ (fs : List Find). time_numbers (number_in fs) 1 0 (report_of x).times) finds
-          ∙ (ap (λ (r : Report). time_numbers (number_in too.finds) 1 0 r.times) same
-          ∙ sym (times_told (number_in too.finds) y.gaps.items 1 0 y.times.items (length y.gaps.items) too.carried_times
+          times-sound (number_in has.derivations) x.gaps.items 1 0 x.times.items (length x.gaps.items) has.carried_times has.gaps
+          ∙ (ap (λ (fs : List Derivation). time_numbers (number_in fs) 1 0 (report_of x).times) derivations
+          ∙ (ap (λ (r : Report). time_numbers (number_in too.derivations) 1 0 r.times) same
+          ∙ sym (times-sound (number_in too.derivations) y.gaps.items 1 0 y.times.items (length y.gaps.items) too.carried_times
           too.gaps)));
       sizes =
-          rows_told (number_in has.finds) 1 x.sizes.items has.carried_sizes
-          ∙ (ap (λ (fs : List Find). row_numbers (number_in fs) 1 (report_of x).sizes) finds
-          ∙ (ap (λ (r : Report). row_numbers (number_in too.finds) 1 r.sizes) same
-          ∙ sym (rows_told (number_in too.finds) 1 y.sizes.items too.carried_sizes)));
+          rows_numbered (number_in has.derivations) 1 x.sizes.items has.carried_sizes
+          ∙ (ap (λ (fs : List Derivation). row_numbers (number_in fs) 1 (report_of x).sizes) derivations
+          ∙ (ap (λ (r : Report). row_numbers (number_in too.derivations) 1 r.sizes) same
+          ∙ sym (rows_numbered (number_in too.derivations) 1 y.sizes.items too.carried_sizes)));
     }

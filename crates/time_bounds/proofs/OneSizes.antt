@@ -7,27 +7,27 @@ use Rattle.model.specs.Programs.{Program, Rule}
 use Rattle.guard_prep.specs.Prepared.{prepared}
 use Rattle.its_graph.specs.Components.{IsListing}
 use Rattle.its_graph.proofs.Uniqueness.{one_listing}
-use Rattle.proof_tree.specs.proof_nodes.Nodes.{Spot}
-use Rattle.proof_tree.specs.proof_setting.Setting.{setting_of}
+use Rattle.cert_types.specs.cert_rules.Nodes.{ResultVariable}
+use Rattle.cert_types.specs.cert_program.Setting.{setting_of}
 use Rattle.rank_search.specs.rule_questions.EmptyAnswers.{IsEmptyAnswer}
-use Rattle.proof_tree.specs.declared.answer.EmptyAnswer.{EmptyAnswer}
+use Rattle.cert_types.specs.declared.answer.GuardFeasibility.{GuardFeasibility}
 use Rattle.rank_search.specs.rule_questions.OneEmptyAnswer.{IsSameEmptyAnswer, EmptyAnswersAreOne}
 use Rattle.local_size.specs.LocalAnswers.{Local}
 use Rattle.local_size.specs.LocalLaws.{LocalAnswersAreOne}
-use Rattle.rvg_components.specs.Flows.{Locals, live_spots}
-use Rattle.rvg_components.specs.Listing.{spot_at, HasFlow, AreComponents}
-use Rattle.bound_rounds.specs.Keys.{Bounds, has_key, key, over}
-use Rattle.bound_rounds.specs.Searches.{SizeOutcome}
-use Rattle.bound_rounds.specs.Right.{AreOne}
-use Rattle.bound_rounds.proofs.Cases.{some_same}
+use Rattle.rvg_components.specs.Flows.{Locals, live_result_variables}
+use Rattle.rvg_components.specs.Listing.{result_variable_at, HasFlow, AreComponents}
+use Rattle.bound_fixpoint.specs.Keys.{Bounds, has_key, key, over}
+use Rattle.bound_fixpoint.specs.Searches.{SizeOutcome}
+use Rattle.bound_fixpoint.specs.Right.{AreOne}
+use Rattle.bound_fixpoint.proofs.Cases.{some_same}
 use Rattle.rank_search.specs.OneAnswer.{RankAnswersAreOne}
 use Rattle.time_bounds.proofs.OneSearches.{emptiness_one, ranking_question_one}
-use Rattle.bound_rounds.proofs.DeadRules.{dead_by}
+use Rattle.bound_fixpoint.proofs.DeadRules.{dead_by}
 use Rattle.time_bounds.specs.ProgramSizes.{AreLive, IsAnswerAt, IsLocalOf, AreLocals}
 use Rattle.time_bounds.proofs.PlaceAnswers.{any_answer, AnyAnswers, OneAnswers, code_answered}
 use Rattle.time_bounds.specs.ProgramSearches.{searches_of_program}
-use Rattle.time_bounds.proofs.SpotLists.{at-member}
-use Rattle.time_bounds.proofs.LiveSpots.{listed-live, live_spots-same}
+use Rattle.time_bounds.proofs.ResultVariableLists.{at-member}
+use Rattle.time_bounds.proofs.LiveResultVariables.{listed-live, live_result_variables-same}
 use Rattle.rvg_components.proofs.Listings.{listing-same}
 use Rattle.time_bounds.proofs.OneSizings.{flow_same, sizing_one}
 use Rattle.model.proofs.Cases.{same_tests as same_test}
@@ -57,7 +57,7 @@ module _ (p : Program) (pivots : ℕ) where
         same : h.rule ≡ k.rule
         same = some_same h.rule k.rule (sym h.numbered ∙ k.numbered)
 
-        self : (a : EmptyAnswer) → IsEmptyAnswer (prepared k.rule) t pivots a → IsSameEmptyAnswer a a
+        self : (a : GuardFeasibility) → IsEmptyAnswer (prepared k.rule) t pivots a → IsSameEmptyAnswer a a
         self a is = empties_one.each (prepared k.rule) t pivots a a is is
 
         by : AnyAnswers pivots t i k.rule x ⊎ OneAnswers pivots t i k.rule x
@@ -70,73 +70,73 @@ module _ (p : Program) (pivots : ℕ) where
             locals_one.each (prepared k.rule) (key t i) pivots a c x y
             (empties_one.each (prepared k.rule) t pivots a c is is_too) f g
 
-    -- so it is of each of these places
-    all_one : (f g : Locals) (spots : List Spot)
-        → AllByRecursion (λ m. IsLocalOf p pivots m.rule m.place (f m.rule m.place)) spots
-        → AllByRecursion (λ m. IsLocalOf p pivots m.rule m.place (g m.rule m.place)) spots
-        → AllByRecursion (λ m. f m.rule m.place ≡ g m.rule m.place) spots
+    -- the same for each of these places
+    all_one : (f g : Locals) (result_variables : List ResultVariable)
+        → AllByRecursion (λ m. IsLocalOf p pivots m.rule m.place (f m.rule m.place)) result_variables
+        → AllByRecursion (λ m. IsLocalOf p pivots m.rule m.place (g m.rule m.place)) result_variables
+        → AllByRecursion (λ m. f m.rule m.place ≡ g m.rule m.place) result_variables
     all_one f g [] h k = tt
-    all_one f g (m ∷ spots) h k =
-        (local_one m.rule m.place (f m.rule m.place) (g m.rule m.place) h.0 k.0, all_one f g spots h.1 k.1)
+    all_one f g (m ∷ result_variables) h k =
+        (local_one m.rule m.place (f m.rule m.place) (g m.rule m.place) h.0 k.0, all_one f g result_variables h.1 k.1)
 
     -- the answer about a component is one
-    sizes_one : (b : Bounds) (spots : List Spot) (x y : SizeOutcome) → (searches_of_program p pivots).Sizes b spots x
-        → (searches_of_program p pivots).Sizes b spots y → x ≡ y
-    sizes_one b spots x y (f, fs, is) (g, gs, is_too) =
-        sizing_one (setting_of p) (over b) f g spots
-        (all_one f g spots
-        (recursion_from_All (λ m. IsLocalOf p pivots m.rule m.place (f m.rule m.place)) spots fs)
-        (recursion_from_All (λ m. IsLocalOf p pivots m.rule m.place (g m.rule m.place)) spots gs)) x y is is_too
+    sizes_one : (b : Bounds) (result_variables : List ResultVariable) (x y : SizeOutcome) → (searches_of_program p pivots).Sizes b result_variables x
+        → (searches_of_program p pivots).Sizes b result_variables y → x ≡ y
+    sizes_one b result_variables x y (f, fs, is) (g, gs, is_too) =
+        sizing_one (setting_of p) (over b) f g result_variables
+        (all_one f g result_variables
+        (recursion_from_All (λ m. IsLocalOf p pivots m.rule m.place (f m.rule m.place)) result_variables fs)
+        (recursion_from_All (λ m. IsLocalOf p pivots m.rule m.place (g m.rule m.place)) result_variables gs)) x y is is_too
 
     -- the same live rules with the same answers have the same flows
     module _ (is_live : ℕ → Bool) (f g : Locals) (fs : AreLocals p pivots is_live f) (gs : AreLocals p pivots is_live g)
       where
-        same_on : (n : Spot) → has_key (live_spots p is_live) n.rule n.place ≡ true → f n.rule n.place ≡ g n.rule n.place
+        same_on : (n : ResultVariable) → has_key (live_result_variables p is_live) n.rule n.place ≡ true → f n.rule n.place ≡ g n.rule n.place
         same_on n h =
             let x = listed-live p is_live (range_with_len 1 (length p.rules)) n.rule n.place h in
             local_one n.rule n.place (f n.rule n.place) (g n.rule n.place) (fs n.rule n.place x.0 x.1)
             (gs n.rule n.place x.0 x.1)
 
-        flow_on : (a b : ℕ) → HasFlow (setting_of p) f (live_spots p is_live) a b
-            → HasFlow (setting_of p) g (live_spots p is_live) a b
+        flow_on : (a b : ℕ) → HasFlow (setting_of p) f (live_result_variables p is_live) a b
+            → HasFlow (setting_of p) g (live_result_variables p is_live) a b
         flow_on a b h =
-            let to = spot_at (live_spots p is_live) b in record {
+            let to = result_variable_at (live_result_variables p is_live) b in record {
               from = h.from;
               to = h.to;
               flow =
-                  sym (flow_same (setting_of p) f g (spot_at (live_spots p is_live) a) to
-                  (same_on to (at-member (live_spots p is_live) b to.rule to.place h.to refl))) ∙ h.flow;
+                  sym (flow_same (setting_of p) f g (result_variable_at (live_result_variables p is_live) a) to
+                  (same_on to (at-member (live_result_variables p is_live) b to.rule to.place h.to refl))) ∙ h.flow;
             }
 
     -- so they have the same components
     listings_one : (is_live : ℕ → Bool) (f g : Locals) → AreLocals p pivots is_live f → AreLocals p pivots is_live g
-        → (cs ds : List (List Spot)) → AreComponents (setting_of p) is_live f cs → AreComponents (setting_of p) is_live g ds
+        → (cs ds : List (List ResultVariable)) → AreComponents (setting_of p) is_live f cs → AreComponents (setting_of p) is_live g ds
         → cs ≡ ds
     listings_one is_live f g fs gs cs ds h k =
         let moved =
-        listing-same (HasFlow (setting_of p) g (live_spots p is_live)) (HasFlow (setting_of p) f (live_spots p is_live))
-        (flow_on is_live g f gs fs) (flow_on is_live f g fs gs) (length (live_spots p is_live)) k.positions k.listing in
+        listing-same (HasFlow (setting_of p) g (live_result_variables p is_live)) (HasFlow (setting_of p) f (live_result_variables p is_live))
+        (flow_on is_live g f gs fs) (flow_on is_live f g fs gs) (length (live_result_variables p is_live)) k.positions k.listing in
         let same =
-        one_listing (HasFlow (setting_of p) f (live_spots p is_live)) (length (live_spots p is_live)) h.positions k.positions
+        one_listing (HasFlow (setting_of p) f (live_result_variables p is_live)) (length (live_result_variables p is_live)) h.positions k.positions
         h.listing moved in
-        h.spots ∙ (ap (λ (pss : List (List ℕ)). map (map (spot_at (live_spots p is_live))) pss) same ∙ sym k.spots)
+        h.result_variables ∙ (ap (λ (pss : List (List ℕ)). map (map (result_variable_at (live_result_variables p is_live))) pss) same ∙ sym k.result_variables)
 
     -- by live rules that are the same too
-    components_one : (cs ds : List (List Spot)) → (searches_of_program p pivots).AreComponents cs
+    components_one : (cs ds : List (List ResultVariable)) → (searches_of_program p pivots).AreComponents cs
         → (searches_of_program p pivots).AreComponents ds → cs ≡ ds
     components_one cs ds (live, lives, (f, fs, h)) (other, others, (g, gs, k)) =
         listings_one live f g fs (λ t i e place. gs t i (sym (same t) ∙ e) place) cs ds h record {
           positions = k.positions;
-          listing = subst (λ (ms : List Spot). IsListing (HasFlow (setting_of p) g ms) (length ms) k.positions)
-              (sym spots) k.listing;
-          spots = subst (λ (ms : List Spot). ds ≡ map (map (spot_at ms)) k.positions) (sym spots) k.spots;
+          listing = subst (λ (ms : List ResultVariable). IsListing (HasFlow (setting_of p) g ms) (length ms) k.positions)
+              (sym result_variables) k.listing;
+          result_variables = subst (λ (ms : List ResultVariable). ds ≡ map (map (result_variable_at ms)) k.positions) (sym result_variables) k.result_variables;
         }
       where
         same : (t : ℕ) → live t ≡ other t
         same = live_one live other lives others
 
-        spots : live_spots p live ≡ live_spots p other
-        spots = live_spots-same p live other same
+        result_variables : live_result_variables p live ≡ live_result_variables p other
+        result_variables = live_result_variables-same p live other same
 
     -- each question has one answer
     pub searches_one : RankAnswersAreOne → AreOne (searches_of_program p pivots)

@@ -9,10 +9,10 @@ use Rattle.model.specs.Programs.{Program}
 use Rattle.model.specs.Paths.{IsInSet}
 use Rattle.its_graph.specs.Graphs.{flagged, ArePartsBelow, HaveSameSets}
 use Rattle.rank_search.specs.rule_questions.ProgramQuestions.{places_of}
-use Rattle.bound_rounds.specs.Keys.{is_untimed}
-use Rattle.bound_rounds.specs.Sets.{IsSetOfRule, AreShutOf}
+use Rattle.bound_fixpoint.specs.Keys.{is_untimed}
+use Rattle.bound_fixpoint.specs.Sets.{IsSetOfRule, AreShutOf}
 use Rattle.size_bounds.specs.declared.table.Table as code
-use Rattle.bound_book.specs.ByKey.{bounds_in}
+use Rattle.size_bounds.specs.Tables.{bounds_in}
 use Rattle.time_bounds.specs.declared.parts.OpenSet.{OpenSet}
 use Rattle.time_bounds.specs.declared.parts.Parts.{Parts}
 use Rattle.time_bounds.specs.Parts.{AreParts, IsOpenSet}
@@ -22,7 +22,7 @@ use Rattle.time_bounds.proofs.SetLaws.{in_set}
 none_some : {A : Type 0} (a : A) → None ≡ Some a → ⊥
 none_some a e = cc
 
--- what has a component stands in the list
+-- an index that has a component is in the list
 within_list : (xs : List (Option ℕ)) (t m : ℕ) → get_or xs t None ≡ Some m → t < length xs
 within_list xs t m e = go (cases_lt t (length xs))
   where
@@ -30,7 +30,7 @@ within_list xs t m e = go (cases_lt t (length xs))
     go (inl low) = low
     go (inr high) = absurd (none_some m (sym (get_or_past xs t None high) ∙ e))
 
--- the same set of a rule that is told by the table
+-- the same set for a rule that is given by the table
 set_by_table : (p : Program) (tab : code.Table) (flags : List Bool) (of_rules : List (Option ℕ)) → AreUntimed p tab flags
     → length of_rules ≡ length flags → HaveSameSets p (flagged flags) of_rules
     → HaveSameSets p (is_untimed (bounds_in tab)) of_rules

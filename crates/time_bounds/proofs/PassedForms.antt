@@ -11,10 +11,10 @@ use Rattle.its_model.specs.linear_forms.Points.{IsPoint}
 use Rattle.its_model.proofs.linear_forms.int_laws.Identities.{identity}
 use Rattle.its_model.proofs.linear_forms.int_laws.OrderLaws.{mul-nonneg_ℤ, mul-le-mul_ℤ}
 use Rattle.its_model.proofs.linear_forms.int_laws.RingLaws.{mul-add_ℤ, mul-zero_ℤ, zero-mul_ℤ, mul_comm_ℤ}
-use Rattle.proof_tree.specs.proof_nodes.Gaps.{ScaledPoint}
-use Rattle.proof_tree.specs.rule_forms.Bounds.{IsLooseRay}
-use Rattle.proof_tree.specs.rule_forms.Kinds.{Affine, IsOfKind}
-use Rattle.proof_tree.proofs.rule_forms.Rays.{unmoved}
+use Rattle.cert_types.specs.cert_rules.Gaps.{ScaledPoint}
+use Rattle.cert_types.specs.rule_forms.Bounds.{IsUnboundedRay}
+use Rattle.cert_types.specs.rule_forms.Kinds.{Affine, IsOfKind}
+use Rattle.cert_types.proofs.rule_forms.Rays.{unmoved}
 use Rattle.time_bounds.specs.SizeWhys.{moved, PassesForms}
 
 -- the coefficients at a moved point
@@ -46,7 +46,7 @@ value_moved f z r n d =
     regroup a b c k e = swap a c (n *ℤ b) ∙ ap (λ (s : ℤ). (a +ℤ c) +ℤ n *ℤ s) (plus b k e)
 
 module _ (rows : List Form) (left : ℕ) (value : Form) (kept : ScaledPoint) (ray : List ℤ)
-    (point : IsPoint rows (at kept.parts) (pos kept.den)) (loose : IsLooseRay rows left value (at ray)) where
+    (point : IsPoint rows (at kept.parts) (pos kept.den)) (unbounded : IsUnboundedRay rows left value (at ray)) where
   abbrev den : ℤ
   den = pos kept.den
 
@@ -67,7 +67,7 @@ module _ (rows : List Form) (left : ℕ) (value : Form) (kept : ScaledPoint) (ra
   -- a form in left arguments stays where they do
   still : (g : Form) → ((u : ℕ) → left ≤ u → at g.coefs u ≡ pos 0) → (u : ℕ) → (u < left) ⊎ (left ≤ u)
       → at g.coefs u *ℤ at ray u ≡ pos 0
-  still g is u (inl l) = mul-zero_ℤ _ _ (loose.still u l)
+  still g is u (inl l) = mul-zero_ℤ _ _ (unbounded.still u l)
   still g is u (inr l) = zero-mul_ℤ _ _ (is u l)
 
   flat : (g : Form) → ((u : ℕ) → left ≤ u → at g.coefs u ≡ pos 0) → form_value g (at ray) (pos 0) ≡ pos 0
@@ -104,7 +104,7 @@ module _ (rows : List Form) (left : ℕ) (value : Form) (kept : ScaledPoint) (ra
       below _ _ _ _ _ _ (value_moved g (at kept.parts) (at ray) (pos m) den) (mul-zero_ℤ (pos m) _ (flat g is))
       (ap (λ (x : ℤ). pos q *ℤ x) (value_moved value (at kept.parts) (at ray) (pos m) den)
       ∙ mul-add_ℤ (pos q) (form_value value (at kept.parts) den) (pos m *ℤ form_value value (at ray) (pos 0)))
-      (gains q m (form_value value (at ray) (pos 0)) l loose.rises) (most (form_value g (at kept.parts) den))
+      (gains q m (form_value value (at ray) (pos 0)) l unbounded.rises) (most (form_value g (at kept.parts) den))
       (least (pos q *ℤ form_value value (at kept.parts) den))
     where
       below : (s g0 k v w0 gain : ℤ) → s ≡ g0 +ℤ k → k ≡ pos 0 → v ≡ w0 +ℤ gain → pos m ≤ℤ gain
@@ -112,14 +112,14 @@ module _ (rows : List Form) (left : ℕ) (value : Form) (kept : ScaledPoint) (ra
           → pos 0 ≤ℤ (w0 +ℤ pos (nat_abs (pos q *ℤ form_value value (at kept.parts) den))) → s <ℤ v
       below s g0 k v w0 gain a b c d e f = omega (arith, ints, a, b, c, d, e, f, far)
 
-  pub loose_passes : PassesForms rows left value kept ray
-  loose_passes = record {
+  pub unbounded_passes : PassesForms rows left value kept ray
+  unbounded_passes = record {
     inside = λ n. record {
       denominator = point.denominator;
       meets = record {
         each = All-from_recursion (λ f. pos 0 ≤ℤ form_value f (moved kept ray n) den) rows
             (rows_met rows n (recursion_from_All (λ f. pos 0 ≤ℤ form_value f (at kept.parts) den) rows point.meets.each)
-            (recursion_from_All (λ f. pos 0 ≤ℤ form_value f (at ray) (pos 0)) rows loose.ray.each));
+            (recursion_from_All (λ f. pos 0 ≤ℤ form_value f (at ray) (pos 0)) rows unbounded.ray.each));
       };
     };
     passes = λ g q l is. (

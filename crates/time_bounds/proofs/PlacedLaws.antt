@@ -1,20 +1,20 @@
--- What stands at a place after a value was written at one.
+-- The element at a place after a value was written at one.
 use Rattle.std.proofs.Common.{◌≡◌, ◌≢◌, ◌⊎◌, inl, inr, true, false, eqb, ℕ, zero, suc, ◌<◌, ◌≤◌, List, [], ◌∷◌}
 use Rattle.std.proofs.Common.{length, map, Option, Some, None, option_map, refl, sym, ◌∙◌, ap, subst, arith}
 use Rattle.std.proofs.lemmas.Bool.{cases_lt}
 use Rattle.std.proofs.lemmas.Bool.Decides.{eqb_tells}
 use Rattle.size_bounds.specs.Tables.{entry_at, row_at}
-use Rattle.bound_book.specs.ByKey.{or_value, put_entry, put_place}
-use Rattle.bound_book.proofs.Entries.{entry_other, entry_past}
+use Rattle.bound_derivations.specs.ByKey.{or_value, put_entry, put_place}
+use Rattle.bound_derivations.proofs.Entries.{entry_other, entry_past}
 use Rattle.time_bounds.specs.SizeSaid.{placed}
 use Rattle.model.proofs.Cases.{none_some}
-pub use Rattle.bound_book.proofs.Entries.{place_long}
+pub use Rattle.bound_derivations.proofs.Entries.{place_long}
 
 or_known : {A : Type 0} (o : Option A) (a b : A) → o ≡ Some b → or_value o a ≡ Some b
 or_known None a b e = absurd (none_some b e)
 or_known (Some c) a b e = e
 
--- what stood at a position stays
+-- the element at a position stays
 pub entry_known : {A : Type 0} (os : List (Option A)) (n m : ℕ) (a b : A) → entry_at os m ≡ Some b → entry_at (put_entry os n a) m ≡ Some b
 entry_known [] n m a b e = e
 entry_known (o ∷ os) zero zero a b e = or_known o a b e
@@ -22,7 +22,7 @@ entry_known (o ∷ os) zero (suc m) a b e = e
 entry_known (o ∷ os) (suc n) zero a b e = e
 entry_known (o ∷ os) (suc n) (suc m) a b e = entry_known os n m a b e
 
--- the value stands where there was none
+-- the value is there, where there was none
 pub entry_here : {A : Type 0} (os : List (Option A)) (n : ℕ) (a : A) → n < length os → entry_at os n ≡ None → entry_at (put_entry os n a) n ≡ Some a
 entry_here [] n a l e = absurd (omega (arith, l))
 entry_here (None ∷ os) zero a l e = refl
@@ -40,7 +40,7 @@ entry_map f [] n a = refl
 entry_map f (o ∷ os) zero a = ap (λ x. x ∷ map (λ o. option_map f o) os) (or_map f o a)
 entry_map f (o ∷ os) (suc n) a = ap (λ rest. option_map f o ∷ rest) (entry_map f os n a)
 
--- what stood at a place stays
+-- the element at a place stays
 pub place_known : {A : Type 0} (rows : List (List (Option A))) (u j t i : ℕ) (a b : A) → placed rows t i ≡ Some b
     → placed (put_place rows u j a) t i ≡ Some b
 place_known rows u j t zero a b e = absurd (none_some b e)
@@ -62,7 +62,7 @@ place_other (row ∷ rows) zero (suc j) (suc t) (suc i) a h = refl
 place_other (row ∷ rows) (suc u) j zero (suc i) a h = refl
 place_other (row ∷ rows) (suc u) j (suc t) (suc i) a h = place_other rows u j t (suc i) a (λ e. h (ap (λ (k : ℕ). suc k) e))
 
--- the value stands at a place where there was none
+-- the value is at its place, where there was none
 pub place_here : {A : Type 0} (rows : List (List (Option A))) (t i : ℕ) (a : A) → 1 ≤ i → i ≤ length (row_at rows t) → placed rows t i ≡ None
     → placed (put_place rows t i a) t i ≡ Some a
 place_here rows t zero a l m e = absurd (omega (arith, l))
@@ -86,14 +86,14 @@ place_map f (row ∷ rows) zero zero a = refl
 place_map f (row ∷ rows) zero (suc i) a = ap (λ r. r ∷ map (λ row. map (λ o. option_map f o) row) rows) (entry_map f row i a)
 place_map f (row ∷ rows) (suc t) i a = ap (λ rs. map (λ o. option_map f o) row ∷ rs) (place_map f rows t i a)
 
--- what stands at a position after a value was written: what stood there, or the value
+-- the element at a position after a value was written: the earlier one, or the value
 pub record Wrote {A : Type 0} (rows : List (List (Option A))) (u j t i : ℕ) (a b : A) : Type 0 where
   pub rule : u ≡ t
   pub place : j ≡ i
   pub none : placed rows t i ≡ None
   pub value : b ≡ a
 
--- what stands at a place after a value was written stood there, or is the value where nothing stood
+-- the element at a place after a value was written is the earlier one, or the value where there was none
 pub place_cases : {A : Type 0} (rows : List (List (Option A))) (u j t i : ℕ) (a b : A) → placed (put_place rows u j a) t i ≡ Some b
     → (placed rows t i ≡ Some b) ⊎ Wrote rows u j t i a b
 place_cases {A} rows u j t i a b e = go (placed rows t i) refl

@@ -11,22 +11,22 @@ use Rattle.bound_expr.specs.Numbers.{IsInputBelow, ReadsBelow, AllReadBelow}
 use Rattle.bound_expr.proofs.Nodes.{IsTidy-numbers}
 use Rattle.bound_table.specs.InForce.{rewritten}
 use Rattle.bound_table.proofs.TableInForce.{rewritten-tidy, rewritten-reads}
-use Rattle.proof_tree.specs.proof_nodes.Nodes.{Spot, Member, RankNode}
-use Rattle.proof_tree.specs.proof_nodes.AcceptsRank.{HasRankShape, rank_time}
-use Rattle.proof_tree.specs.proof_nodes.AcceptsSizes.{HasMemberShape, spread_size, cycle_size}
-use Rattle.proof_tree.specs.proof_setting.Setting.{setting_of}
-use Rattle.proof_tree.proofs.proof_nodes.ComposedNumbers.{rank_time-each}
-use Rattle.proof_tree.proofs.proof_nodes.SizeNumbers.{spread-each, cycle-each}
-use Rattle.proof_tree.proofs.proof_setting.Tidying.{settings-tidying}
-use Rattle.bound_rounds.specs.Keys.{Bounds, has_key, over, size_by}
-use Rattle.bound_rounds.specs.Finds.{Node, EmptyBy, UnreachedBy, NeverBy, RankBy, SpreadBy, CycleBy, Find, bound_found, bounds_of}
-use Rattle.bound_rounds.specs.Rounds.{IsMade}
-use Rattle.bound_rounds.specs.Standing.{composed_bound, AcceptsOver, StandAfter}
-use Rattle.bound_rounds.proofs.FindLists.{first_of-cases, bounds_of-append, bounds_of-kept}
+use Rattle.cert_types.specs.cert_rules.Nodes.{ResultVariable, Member, RankNode}
+use Rattle.cert_types.specs.cert_rules.AcceptsRank.{HasRankShape, rank_time}
+use Rattle.cert_types.specs.cert_rules.AcceptsSizes.{HasMemberShape, spread_size, cycle_size}
+use Rattle.cert_types.specs.cert_program.Setting.{setting_of}
+use Rattle.cert_types.proofs.cert_rules.ComposedNumbers.{rank_time-each}
+use Rattle.cert_types.proofs.cert_rules.SizeNumbers.{spread-each, cycle-each}
+use Rattle.cert_types.proofs.cert_program.Tidying.{settings-tidying}
+use Rattle.bound_fixpoint.specs.Keys.{Bounds, has_key, over, size_by}
+use Rattle.bound_fixpoint.specs.Derivations.{Node, EmptyBy, UnreachedBy, NeverBy, RankBy, SpreadBy, CycleBy, Derivation, bound_found, bounds_of}
+use Rattle.bound_fixpoint.specs.Rounds.{IsMade}
+use Rattle.bound_fixpoint.specs.Standing.{composed_bound, AcceptsOver, StandAfter}
+use Rattle.bound_fixpoint.proofs.DerivationLists.{first_of-cases, bounds_of-append, bounds_of-kept}
 use Rattle.time_bounds.specs.ProgramSearches.{searches_of_program}
 use Rattle.time_bounds.specs.Totals.{known_parts, total_of}
 use Rattle.time_bounds.specs.PrintableLaws.{IsPrintableBound, ArePrintableBounds, ArePrintable, FoundBoundsArePrintable}
-use Rattle.bound_rounds.proofs.SizesStand.{all_stand}
+use Rattle.bound_fixpoint.proofs.SizesStand.{all_stand}
 use Rattle.time_bounds.proofs.OneProgram.{program_searches_one}
 use Rattle.time_bounds.proofs.RightSizings.{program_searches_right}
 use Rattle.time_bounds.proofs.TotalSteps.{first_known, total_is}
@@ -73,17 +73,17 @@ module _ (p : Program) (valid : IsValid p) (n : ℕ) where
         (settings-tidying.each p valid).updates (over b).time (over b).size (λ t x e. (good.each t 0 x e).1)
         (λ t i x e. (sized t i x e).1) ms shapes)
 
-    composed_printable : (node : Node) (needs : List Spot) → AcceptsOver (setting_of p) b node needs
+    composed_printable : (node : Node) (premises : List ResultVariable) → AcceptsOver (setting_of p) b node premises
         → IsPrintableBound n (composed_bound (setting_of p) b node)
-    composed_printable (EmptyBy t m) needs ok = (omega arith, tt)
-    composed_printable (UnreachedBy t) needs ok = (omega arith, tt)
-    composed_printable (NeverBy t) needs ok = (omega arith, tt)
-    composed_printable (RankBy node) needs ok = ranked_printable node ok.shape
-    composed_printable (SpreadBy m) needs ok = spread_printable m ok.shape
-    composed_printable (CycleBy ms) needs ok = cycle_printable ms ok.shape.each
+    composed_printable (EmptyBy t m) premises ok = (omega arith, tt)
+    composed_printable (UnreachedBy t) premises ok = (omega arith, tt)
+    composed_printable (NeverBy t) premises ok = (omega arith, tt)
+    composed_printable (RankBy node) premises ok = ranked_printable node ok.shape
+    composed_printable (SpreadBy m) premises ok = spread_printable m ok.shape
+    composed_printable (CycleBy ms) premises ok = cycle_printable ms ok.shape.each
 
   -- a find more, whose bound is printable
-  one_printable : (fs : List Find) (f : Find) → ArePrintableBounds n (bounds_of p fs) → IsPrintableBound n f.bound
+  one_printable : (fs : List Derivation) (f : Derivation) → ArePrintableBounds n (bounds_of p fs) → IsPrintableBound n f.bound
       → ArePrintableBounds n (bounds_of p (fs ++ f ∷ []))
   one_printable fs f good own = record {
     each = λ t i x e. go t i x (first_of-cases (bounds_of p fs t i) (bound_found (f ∷ []) t i) x (sym (bounds_of-append p fs (f ∷ []) t i) ∙ e));
@@ -99,25 +99,25 @@ module _ (p : Program) (valid : IsValid p) (n : ℕ) where
       go t i x (inl e) = good.each t i x e
       go t i x (inr e) = here t i x (has_key f.keys t i) refl e.1
 
-  -- so with finds that stand after those with which all is printable, all is
-  stand_printable : (earlier fs : List Find) → ArePrintableBounds n (bounds_of p earlier) → StandAfter (setting_of p) earlier fs
+  -- so with finds that are justified after those with which all is printable, all is printable
+  stand_printable : (earlier fs : List Derivation) → ArePrintableBounds n (bounds_of p earlier) → StandAfter (setting_of p) earlier fs
       → ArePrintableBounds n (bounds_of p (earlier ++ fs))
   stand_printable earlier [] good h =
-      subst (λ (xs : List Find). ArePrintableBounds n (bounds_of p xs)) (sym (append-nil earlier)) good
+      subst (λ (xs : List Derivation). ArePrintableBounds n (bounds_of p xs)) (sym (append-nil earlier)) good
   stand_printable earlier (f ∷ fs) good h =
-      subst (λ (xs : List Find). ArePrintableBounds n (bounds_of p xs)) (append_assoc earlier (f ∷ []) fs)
+      subst (λ (xs : List Derivation). ArePrintableBounds n (bounds_of p xs)) (append_assoc earlier (f ∷ []) fs)
       (stand_printable (earlier ++ f ∷ []) fs (one_printable earlier f good own) h.1)
     where
       before : ArePrintableBounds n (bounds_of p h.0.before)
       before = record {
         each = λ t i x e. good.each t i x
-            (ap (λ (xs : List Find). bounds_of p xs t i) (sym h.0.begins.same) ∙ bounds_of-kept p h.0.before h.0.begins.between t i x e);
+            (ap (λ (xs : List Derivation). bounds_of p xs t i) (sym h.0.begins.same) ∙ bounds_of-kept p h.0.before h.0.begins.between t i x e);
       }
 
       own : IsPrintableBound n f.bound
       own =
           subst (IsPrintableBound n) (sym h.0.stands.bound)
-          (composed_printable (bounds_of p h.0.before) before f.node f.needs h.0.stands.accepted)
+          (composed_printable (bounds_of p h.0.before) before f.node f.premises h.0.stands.accepted)
 
   -- what is known at first
   first_printable : arity_of p p.start ≤ n → ArePrintableBounds n (bounds_of p [])
@@ -135,9 +135,9 @@ module _ (p : Program) (valid : IsValid p) (n : ℕ) where
       first (suc t) i x e = absurd (no_bound None x refl e)
 
 -- all that is known with the finds of a valid program
-pub finds_printable : (p : Program) (pivots : ℕ) (fs : List Find) → IsValid p
+pub derivations_printable : (p : Program) (pivots : ℕ) (fs : List Derivation) → IsValid p
     → IsMade (searches_of_program p pivots) (setting_of p) fs → ArePrintableBounds (length p.start_names) (bounds_of p fs)
-finds_printable p pivots fs valid made =
+derivations_printable p pivots fs valid made =
     stand_printable p valid (length p.start_names) [] fs
     (first_printable p valid (length p.start_names) (omega (arith, valid.start_places)))
     (all_stand (searches_of_program p pivots) (setting_of p) (program_searches_right.each p pivots valid) (program_searches_one.each p pivots) fs
@@ -170,4 +170,4 @@ total_printable n times b h e =
 
 -- the bounds that are found of a valid program, and their total, are tidy and over start arguments alone
 pub found_printable : FoundBoundsArePrintable
-found_printable = record { finds = finds_printable; totals = total_printable }
+found_printable = record { derivations = derivations_printable; totals = total_printable }

@@ -9,55 +9,55 @@ use Rattle.std.proofs.lemmas.Bool.{or_left, or_right}
 use Rattle.std.proofs.lemmas.List.Elements.{All-contains_itself, All-weaker}
 use Rattle.model.specs.Programs.{Program, Rule, rule_at}
 use Rattle.model.specs.Entries.{is_in}
-use Rattle.model.proofs.Membership.{same_number, told_same, no_is_not_yes, is_in-cases, is_in-contained}
+use Rattle.model.proofs.Membership.{same_number, same_number-sound, no_is_not_yes, is_in-cases, is_in-contained}
 use Rattle.model.proofs.Membership.{slice_get-below}
 use Rattle.its_model.specs.Valid.{IsValid}
 use Rattle.its_model.specs.linear_forms.Forms.{at}
 use Rattle.its_model.specs.linear_forms.Points.{IsPoint}
 use Rattle.its_model.specs.linear_forms.RuleQuestions.{symbols_of_set}
-use Rattle.proof_tree.specs.rule_forms.Ranking.{Function}
+use Rattle.cert_types.specs.rule_forms.Ranking.{Function}
 use Rattle.guard_prep.specs.Prepared.{prepared}
-use Rattle.proof_tree.specs.proof_nodes.Composed.{rank_form}
-use Rattle.proof_tree.specs.proof_nodes.Gaps.{ScaledPoint, SymbolPlace}
-use Rattle.proof_tree.specs.proof_nodes.Nodes.{SymbolForm}
-use Rattle.proof_tree.specs.proof_nodes.AcceptsPlain.{IsRule}
-use Rattle.proof_tree.specs.proof_setting.Setting.{setting_of, rows_in}
-use Rattle.proof_tree.specs.declared.answer.Trip.{Trip}
-use Rattle.proof_tree.specs.declared.answer.EmptyAnswer.{EmptyAnswer}
-use Rattle.proof_tree.specs.declared.answer.EmptyAnswer.TheVariants as empties
-use Rattle.proof_tree.specs.AnswerViews.{scaled_of, gap_of}
-use Rattle.proof_tree.specs.Views.{rank_of}
+use Rattle.cert_types.specs.cert_rules.Composed.{rank_form}
+use Rattle.cert_types.specs.cert_rules.Gaps.{ScaledPoint, SymbolPlace}
+use Rattle.cert_types.specs.cert_rules.Nodes.{SymbolForm}
+use Rattle.cert_types.specs.cert_rules.AcceptsPlain.{IsRule}
+use Rattle.cert_types.specs.cert_program.Setting.{setting_of, rows_in}
+use Rattle.cert_types.specs.declared.answer.LimitHit.{LimitHit}
+use Rattle.cert_types.specs.declared.answer.GuardFeasibility.{GuardFeasibility}
+use Rattle.cert_types.specs.declared.answer.GuardFeasibility.TheVariants as empties
+use Rattle.cert_types.specs.AnswerViews.{scaled_of, gap_of}
+use Rattle.cert_types.specs.Views.{rank_of}
 use Rattle.rank_search.specs.declared.answer.RankAnswer.{RankAnswer}
 use Rattle.rank_search.specs.declared.answer.RankAnswer.TheVariants as ranks
 use Rattle.rank_search.specs.rule_questions.ProgramQuestions.{ranked_set}
 use Rattle.rank_search.specs.rule_questions.EmptyAnswers.{IsEmptyAnswer, EmptyNodesAreAccepted}
-use Rattle.rank_search.specs.RankAnswers.{IsRuleSet, part_at, first_of, first_trip, IsRankAnswer}
-use Rattle.rank_search.specs.rule_questions.RuleAnswers.{answer_for, AreEmptyAnswers, trip_in}
+use Rattle.rank_search.specs.RankAnswers.{IsRuleSet, part_at, first_of, first_limit_hit, IsRankAnswer}
+use Rattle.rank_search.specs.rule_questions.RuleAnswers.{answer_for, AreEmptyAnswers, limit_hit_in}
 use Rattle.rank_search.specs.RankLaws.{function_of_node, RankedNodesRank, RankedNodesAreAccepted, RankAnswersAreExact}
 use Rattle.rank_search.proofs.NodeLaws.{nodes-rank}
 use Rattle.rank_search.proofs.Accepted.{nodes-accepted}
 use Rattle.rank_search.proofs.RankExact.{answers-exact}
 use Rattle.rank_search.proofs.DualGaps.{found-holds}
-use Rattle.bound_rounds.specs.Searches.{Emptiness, NoPoint, HasPoint, EmptyTripped, Ranking}
-use Rattle.bound_rounds.specs.Right.{EmptyTrips, NoneTrips, IsFirstTrip, IsRightEmptiness, IsRightRanking}
-use Rattle.bound_rounds.specs.Right.{IsQuestion}
-use Rattle.bound_rounds.proofs.Cases.{either}
+use Rattle.bound_fixpoint.specs.Searches.{Emptiness, NoPoint, HasPoint, EmptyTripped, Ranking}
+use Rattle.bound_fixpoint.specs.Right.{EmptyTrips, NoneTrips, IsFirstLimitHit, IsRightEmptiness, IsRightRanking}
+use Rattle.bound_fixpoint.specs.Right.{IsQuestion}
+use Rattle.bound_fixpoint.proofs.Cases.{either}
 use Rattle.time_bounds.specs.ProgramRules.{emptiness_of, ranking_of}
 use Rattle.time_bounds.specs.ProgramSearches.{searches_of_program}
-use Rattle.model.proofs.Cases.{slice_get-there as at_some, some_same as some_trip, none_some as none_trip}
+use Rattle.model.proofs.Cases.{slice_get-there as at_some, some_same as some_limit_hit, none_some as none_limit_hit}
 
--- the parts of a function at symbols read no shut place, where the function doesn't
+-- the forms of a function at symbols have coefficient 0 at shut places, where the function has
 zero_at : (f : Function) (a j : ℕ) → at (f a).coefs j ≡ pos 0 → (ss : List ℕ) → at (rank_form (map (part_at f) ss) (Some a)).coefs j ≡ pos 0
 zero_at f a j h [] = refl
 zero_at f a j h (x ∷ ss) = go (x == a) refl (zero_at f a j h ss)
   where
     go : (v : Bool) → (x == a) ≡ v → at (rank_form (map (part_at f) ss) (Some a)).coefs j ≡ pos 0
         → at (rank_form (map (part_at f) (x ∷ ss)) (Some a)).coefs j ≡ pos 0
-    go true e rest = rw e (subst (λ (s : ℕ). at (f s).coefs j ≡ pos 0) (sym (told_same x a e)) h)
+    go true e rest = rw e (subst (λ (s : ℕ). at (f s).coefs j ≡ pos 0) (sym (same_number-sound x a e)) h)
     go false e rest = rw e rest
 
-trip_none : (x : Trip) → Some x ≡ None → ⊥
-trip_none x e = cc
+limit_hit_none : (x : LimitHit) → Some x ≡ None → ⊥
+limit_hit_none x e = cc
 
 module _ (accepted : EmptyNodesAreAccepted) (functions : RankedNodesRank) (nodes : RankedNodesAreAccepted) (exact : RankAnswersAreExact)
     (p : Program) (pivots : ℕ) (valid : IsValid p) where
@@ -65,11 +65,11 @@ module _ (accepted : EmptyNodesAreAccepted) (functions : RankedNodesRank) (nodes
   empty_right : (t : ℕ) (e : Emptiness) → IsRule p t → (searches_of_program p pivots).Empties t e → IsRightEmptiness (setting_of p) t e
   empty_right t e rule (r, numbered, (a, same, is)) = subst (λ (x : Emptiness). IsRightEmptiness (setting_of p) t x) same (go a is)
     where
-      go : (b : EmptyAnswer) → IsEmptyAnswer (prepared r) t pivots b → IsRightEmptiness (setting_of p) t (emptiness_of b)
+      go : (b : GuardFeasibility) → IsEmptyAnswer (prepared r) t pivots b → IsRightEmptiness (setting_of p) t (emptiness_of b)
       go (empties.Empty n) h = accepted.each p t r n numbered h.0
       go (empties.Point z) h =
           subst (λ (o : Option Rule). IsPoint (rows_in o) (at (scaled_of z).parts) (pos (scaled_of z).den)) (sym numbered) h.0.point
-      go (empties.Tripped x) h = h.0
+      go (empties.OutOfLimits x) h = h.0
 
   -- the set of a question is a set of rules
   rule_set : (set : List ℕ) (t : ℕ) → IsQuestion p set t → IsRuleSet p set t
@@ -80,9 +80,9 @@ module _ (accepted : EmptyNodesAreAccepted) (functions : RankedNodesRank) (nodes
   }
 
   -- a rule whose answer isn't a trip doesn't trip
-  no_trip : (t : ℕ) (r : Rule) (a : EmptyAnswer) → rule_at p t ≡ Some r → IsEmptyAnswer (prepared r) t pivots a → trip_in (Some a) ≡ None
+  no_limit_hit : (t : ℕ) (r : Rule) (a : GuardFeasibility) → rule_at p t ≡ Some r → IsEmptyAnswer (prepared r) t pivots a → limit_hit_in (Some a) ≡ None
       → EmptyTrips (searches_of_program p pivots) t → ⊥
-  no_trip t r a numbered is untripped (x, (s, there, (b, same, other))) = go a b is other untripped same
+  no_limit_hit t r a numbered is untripped (x, (s, there, (b, same, other))) = go a b is other untripped same
     where
       one_rule : (u v : Rule) → Some u ≡ Some v → u ≡ v
       one_rule u v e = cc
@@ -96,27 +96,27 @@ module _ (accepted : EmptyNodesAreAccepted) (functions : RankedNodesRank) (nodes
       same_rule : s ≡ r
       same_rule = one_rule s r (sym there ∙ numbered)
 
-      go : (c d : EmptyAnswer) → IsEmptyAnswer (prepared r) t pivots c → IsEmptyAnswer (prepared s) t pivots d → trip_in (Some c) ≡ None
+      go : (c d : GuardFeasibility) → IsEmptyAnswer (prepared r) t pivots c → IsEmptyAnswer (prepared s) t pivots d → limit_hit_in (Some c) ≡ None
           → emptiness_of d ≡ EmptyTripped x → ⊥
       go c (empties.Empty n) h k e f = not_empty n.multipliers.items f
       go c (empties.Point z) h k e f = no_point (scaled_of z) f
-      go (empties.Empty n) (empties.Tripped y) h k e f =
-          let own = subst (λ (u : Rule). IsEmptyAnswer (prepared u) t pivots (empties.Tripped y)) same_rule k in h.1.each (cause_of y.cause) own.1
-      go (empties.Point z) (empties.Tripped y) h k e f =
-          let own = subst (λ (u : Rule). IsEmptyAnswer (prepared u) t pivots (empties.Tripped y)) same_rule k in h.1.each (cause_of y.cause) own.1
-      go (empties.Tripped w) (empties.Tripped y) h k e f = trip_none w e
+      go (empties.Empty n) (empties.OutOfLimits y) h k e f =
+          let own = subst (λ (u : Rule). IsEmptyAnswer (prepared u) t pivots (empties.OutOfLimits y)) same_rule k in h.1.each (cause_of y.cause) own.1
+      go (empties.Point z) (empties.OutOfLimits y) h k e f =
+          let own = subst (λ (u : Rule). IsEmptyAnswer (prepared u) t pivots (empties.OutOfLimits y)) same_rule k in h.1.each (cause_of y.cause) own.1
+      go (empties.OutOfLimits w) (empties.OutOfLimits y) h k e f = limit_hit_none w e
 
-  module _ (answers : List EmptyAnswer) (are : AreEmptyAnswers p pivots answers) where
+  module _ (answers : List GuardFeasibility) (are : AreEmptyAnswers p pivots answers) where
     -- each rule has its answer
-    answered : (t : ℕ) → IsRule p t → (a : EmptyAnswer) × (answer_for answers t ≡ Some a)
+    answered : (t : ℕ) → IsRule p t → (a : GuardFeasibility) × (answer_for answers t ≡ Some a)
     answered zero rule = absurd (none rule.numbered)
       where
         none : None ≡ Some rule.rule → ⊥
         none e = cc
     answered (suc k) rule = at_some answers k (omega (arith, slice_get-below p.rules k rule.rule rule.numbered, are.one_each))
 
-    -- where no rule of a set is told to trip, none does
-    none_trips : (ts : List ℕ) → ((u : ℕ) → is_in u ts ≡ true → IsRule p u) → first_trip answers ts ≡ None
+    -- where the search finds no rule of a set that trips, none does
+    none_trips : (ts : List ℕ) → ((u : ℕ) → is_in u ts ≡ true → IsRule p u) → first_limit_hit answers ts ≡ None
         → NoneTrips (searches_of_program p pivots) ts
     none_trips [] rules e u m trips = no_is_not_yes false refl m
     none_trips (t ∷ ts) rules e u m trips =
@@ -126,45 +126,45 @@ module _ (accepted : EmptyNodesAreAccepted) (functions : RankedNodesRank) (nodes
         rule : IsRule p t
         rule = rules t (or_left (t == t) (is_in t ts) (same_number t))
 
-        rest : (a : EmptyAnswer) → answer_for answers t ≡ Some a → first_trip answers ts ≡ None
+        rest : (a : GuardFeasibility) → answer_for answers t ≡ Some a → first_limit_hit answers ts ≡ None
         rest a same = by a (rw same at e)
           where
-            by : (b : EmptyAnswer) → first_of (trip_in (Some b)) (first_trip answers ts) ≡ None → first_trip answers ts ≡ None
+            by : (b : GuardFeasibility) → first_of (limit_hit_in (Some b)) (first_limit_hit answers ts) ≡ None → first_limit_hit answers ts ≡ None
             by (empties.Empty n) h = h
             by (empties.Point z) h = h
-            by (empties.Tripped x) h = absurd (trip_none x h)
+            by (empties.OutOfLimits x) h = absurd (limit_hit_none x h)
 
         here : EmptyTrips (searches_of_program p pivots) t → ⊥
         here x =
             let a = answered t rule in
-            no_trip t rule.rule a.0 rule.numbered (are.each t rule.rule a.0 rule.numbered a.1) (by a.0 (rw a.1 at e)) x
+            no_limit_hit t rule.rule a.0 rule.numbered (are.each t rule.rule a.0 rule.numbered a.1) (by a.0 (rw a.1 at e)) x
           where
-            by : (b : EmptyAnswer) → first_of (trip_in (Some b)) (first_trip answers ts) ≡ None → trip_in (Some b) ≡ None
+            by : (b : GuardFeasibility) → first_of (limit_hit_in (Some b)) (first_limit_hit answers ts) ≡ None → limit_hit_in (Some b) ≡ None
             by (empties.Empty n) h = refl
             by (empties.Point z) h = refl
-            by (empties.Tripped y) h = h
+            by (empties.OutOfLimits y) h = h
 
-    -- the trip that is told is that of the first rule that trips
-    pub first_told : (x : Trip) (ts : List ℕ) → ((u : ℕ) → is_in u ts ≡ true → IsRule p u) → first_trip answers ts ≡ Some x
-        → IsFirstTrip (searches_of_program p pivots) ts x
-    first_told x [] rules e = absurd (none_trip x e)
+    -- the trip that is reported is that of the first rule that trips
+    pub first_told : (x : LimitHit) (ts : List ℕ) → ((u : ℕ) → is_in u ts ≡ true → IsRule p u) → first_limit_hit answers ts ≡ Some x
+        → IsFirstLimitHit (searches_of_program p pivots) ts x
+    first_told x [] rules e = absurd (none_limit_hit x e)
     first_told x (t ∷ ts) rules e =
         go (answered t rule).0 (answered t rule).1 (first_told x ts (λ v k. rules v (or_right (v == t) (is_in v ts) k)))
       where
         rule : IsRule p t
         rule = rules t (or_left (t == t) (is_in t ts) (same_number t))
 
-        go : (a : EmptyAnswer) → answer_for answers t ≡ Some a
-            → (first_trip answers ts ≡ Some x → IsFirstTrip (searches_of_program p pivots) ts x)
-            → IsFirstTrip (searches_of_program p pivots) (t ∷ ts) x
+        go : (a : GuardFeasibility) → answer_for answers t ≡ Some a
+            → (first_limit_hit answers ts ≡ Some x → IsFirstLimitHit (searches_of_program p pivots) ts x)
+            → IsFirstLimitHit (searches_of_program p pivots) (t ∷ ts) x
         go a same later = by a (are.each t rule.rule a rule.numbered same) (rw same at e)
           where
-            by : (b : EmptyAnswer) → IsEmptyAnswer (prepared rule.rule) t pivots b → first_of (trip_in (Some b)) (first_trip answers ts) ≡ Some x
-                → IsFirstTrip (searches_of_program p pivots) (t ∷ ts) x
-            by (empties.Empty n) is h = inr (no_trip t rule.rule (empties.Empty n) rule.numbered is refl, later h)
-            by (empties.Point z) is h = inr (no_trip t rule.rule (empties.Point z) rule.numbered is refl, later h)
-            by (empties.Tripped y) is h =
-                inl (rule.rule, rule.numbered, (empties.Tripped y, ap (λ (w : Trip). EmptyTripped w) (some_trip y x h), is))
+            by : (b : GuardFeasibility) → IsEmptyAnswer (prepared rule.rule) t pivots b → first_of (limit_hit_in (Some b)) (first_limit_hit answers ts) ≡ Some x
+                → IsFirstLimitHit (searches_of_program p pivots) (t ∷ ts) x
+            by (empties.Empty n) is h = inr (no_limit_hit t rule.rule (empties.Empty n) rule.numbered is refl, later h)
+            by (empties.Point z) is h = inr (no_limit_hit t rule.rule (empties.Point z) rule.numbered is refl, later h)
+            by (empties.OutOfLimits y) is h =
+                inl (rule.rule, rule.numbered, (empties.OutOfLimits y, ap (λ (w : LimitHit). EmptyTripped w) (some_limit_hit y x h), is))
 
     -- what is right of an answer to a rank question
     rank_right : (set : List ℕ) (t : ℕ) (shut : List SymbolPlace) → IsQuestion p set t → (a : RankAnswer)
@@ -194,8 +194,8 @@ module _ (accepted : EmptyNodesAreAccepted) (functions : RankedNodesRank) (nodes
           },
           none_trips set q.rules h.1,
         )
-    rank_right set t shut q (ranks.Tripped x) (inl own) = inl own.question
-    rank_right set t shut q (ranks.Tripped x) (inr first) = inr (first_told x set q.rules first.first)
+    rank_right set t shut q (ranks.OutOfLimits x) (inl own) = inl own.question
+    rank_right set t shut q (ranks.OutOfLimits x) (inr first) = inr (first_told x set q.rules first.first)
 
   -- each answer to a rank question is right
   pub rankings_right : (set : List ℕ) (t : ℕ) (shut : List SymbolPlace) (r : Ranking) → IsQuestion p set t

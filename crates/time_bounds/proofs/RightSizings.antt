@@ -15,37 +15,37 @@ use Rattle.its_model.specs.linear_forms.Forms.{Form, at, form_value}
 use Rattle.its_model.specs.linear_forms.Points.{IsPoint, IsRay}
 use Rattle.its_model.specs.linear_forms.RuleQuestions.{after_rule}
 use Rattle.its_model.proofs.linear_forms.CombinationLaws.{form_value-times}
-use Rattle.proof_tree.specs.rule_forms.Bounds.{IsLooseRay}
+use Rattle.cert_types.specs.rule_forms.Bounds.{IsUnboundedRay}
 use Rattle.guard_prep.specs.Prepared.{prepared}
-use Rattle.proof_tree.specs.proof_nodes.Nodes.{Spot, Member}
-use Rattle.proof_tree.specs.proof_nodes.Gaps.{ScaledPoint}
-use Rattle.proof_tree.specs.proof_nodes.Combined.{form_at}
-use Rattle.proof_tree.specs.proof_nodes.AcceptsSizes.{Side, Up, Low, left_in, new_value}
-use Rattle.proof_tree.specs.proof_setting.Setting.{setting_of, rows_in, news_in}
-use Rattle.proof_tree.specs.declared.answer.Question.TheVariants as asked
-use Rattle.outcome.specs.Reports.{NoSize, SizeLoose, SizeTripped, SizeMissing, SizeBent, SizeUntimed, SizeLarge}
+use Rattle.cert_types.specs.cert_rules.Nodes.{ResultVariable, Member}
+use Rattle.cert_types.specs.cert_rules.Gaps.{ScaledPoint}
+use Rattle.cert_types.specs.cert_rules.Combined.{form_at}
+use Rattle.cert_types.specs.cert_rules.AcceptsSizes.{Side, Up, Low, left_in, new_value}
+use Rattle.cert_types.specs.cert_program.Setting.{setting_of, rows_in, new_values_in}
+use Rattle.cert_types.specs.declared.answer.Question.TheVariants as asked
+use Rattle.outcome.specs.Reports.{NoSize, SizeUnbounded, SizeTripped, SizeMissing, SizeNonlinear, SizeUntimed, SizeLarge}
 use Rattle.local_size.specs.Places.{is_polynomial_at, local_forms, value_on}
-use Rattle.local_size.specs.LocalAnswers.{Local, HasBound, IsLooseOn, HasTripped}
-use Rattle.local_size.specs.LocalLaws.{IsSpotOf, LooseAnswersAreLoose}
-use Rattle.local_size.proofs.LooseAnswers.{loose-answers}
+use Rattle.local_size.specs.LocalAnswers.{Local, HasBound, IsUnboundedOn, HasTripped}
+use Rattle.local_size.specs.LocalLaws.{IsResultVariableOf, UnboundedAnswersAreUnbounded}
+use Rattle.local_size.proofs.UnboundedAnswers.{unbounded-answers}
 use Rattle.rvg_components.specs.Flows.{Locals, loops}
-use Rattle.bound_rounds.specs.Keys.{IsPlace}
-use Rattle.bound_rounds.specs.Keys.{Bounds, over}
-use Rattle.bound_rounds.specs.Finds.{Node, SpreadBy, CycleBy}
-use Rattle.bound_rounds.specs.Loops.{do_loop}
-use Rattle.bound_rounds.specs.Searches.{SizeOutcome, SizedBy, Unsized}
-use Rattle.bound_rounds.specs.Keys.{has_key}
-use Rattle.bound_rounds.specs.Right.{MovesTo, IsLooseAt, IsCause, IsFirstCause, IsSizingOf}
-use Rattle.bound_rounds.specs.Right.{IsRightSizing, AreRight}
-use Rattle.bound_rounds.proofs.Cases.{some_same, none_some}
+use Rattle.bound_fixpoint.specs.Keys.{IsPlace}
+use Rattle.bound_fixpoint.specs.Keys.{Bounds, over}
+use Rattle.bound_fixpoint.specs.Derivations.{Node, SpreadBy, CycleBy}
+use Rattle.bound_fixpoint.specs.Loops.{do_loop}
+use Rattle.bound_fixpoint.specs.Searches.{SizeOutcome, SizedBy, Unsized}
+use Rattle.bound_fixpoint.specs.Keys.{has_key}
+use Rattle.bound_fixpoint.specs.Right.{MovesTo, IsUnboundedAt, IsCause, IsFirstCause, IsSizingOf}
+use Rattle.bound_fixpoint.specs.Right.{IsRightSizing, AreRight}
+use Rattle.bound_fixpoint.proofs.Cases.{some_same, none_some}
 use Rattle.time_bounds.specs.ProgramSearches.{searches_of_program}
-use Rattle.time_bounds.specs.ProgramSizes.{IsLocalOf, AreLocalsOf, loose_reason, trip_reason, or_else}
-use Rattle.time_bounds.specs.ProgramSizes.{first_reason, lacks_arms, AnswersAlone, AnswersLoop, AnswersMembers}
+use Rattle.time_bounds.specs.ProgramSizes.{IsLocalOf, AreLocalsOf, unbounded_reason, limit_hit_reason, or_else}
+use Rattle.time_bounds.specs.ProgramSizes.{first_reason, lacks_side_bounds, AnswersAlone, AnswersLoop, AnswersMembers}
 use Rattle.time_bounds.specs.ProgramSizes.{AnswersPlaces, TripsAt}
-use Rattle.time_bounds.proofs.PlaceAnswers.{loose_answered}
+use Rattle.time_bounds.proofs.PlaceAnswers.{unbounded_answered}
 use Rattle.time_bounds.specs.SearchLaws.{ProgramSearchesAreRight}
-use Rattle.time_bounds.proofs.MemberLoops.{loop_told}
-use Rattle.time_bounds.proofs.PolynomialUpdates.{polynomial-told}
+use Rattle.time_bounds.proofs.MemberLoops.{loop_decided}
+use Rattle.time_bounds.proofs.PolynomialUpdates.{polynomial-complete}
 use Rattle.time_bounds.proofs.RightComponents.{components_right}
 use Rattle.time_bounds.proofs.RightSearches.{emptiness_right, ranking_right}
 use Rattle.local_size.proofs.NewValues.{form_at-is as form_there}
@@ -56,21 +56,21 @@ one_of None b why e = inr e
 one_of (Some v) b why e = inl e
 
 -- the first reason is that of one of the places
-pub reason_told : (P : Spot → Type 0) (reason : Local → Option NoSize) (local : Locals) (spots : List Spot) (why : NoSize)
-    → AllByRecursion P spots → first_reason reason local spots ≡ Some why
-    → (m : Spot) × (has_key spots m.rule m.place ≡ true) × P m × (reason (local m.rule m.place) ≡ Some why)
-reason_told P reason local [] why h e = absurd (none_some why e)
-reason_told P reason local (m ∷ spots) why h e =
-    go (one_of (reason (local m.rule m.place)) (first_reason reason local spots) why e)
-    (reason_told P reason local spots why h.1)
+pub reason-sound : (P : ResultVariable → Type 0) (reason : Local → Option NoSize) (local : Locals) (result_variables : List ResultVariable) (why : NoSize)
+    → AllByRecursion P result_variables → first_reason reason local result_variables ≡ Some why
+    → (m : ResultVariable) × (has_key result_variables m.rule m.place ≡ true) × P m × (reason (local m.rule m.place) ≡ Some why)
+reason-sound P reason local [] why h e = absurd (none_some why e)
+reason-sound P reason local (m ∷ result_variables) why h e =
+    go (one_of (reason (local m.rule m.place)) (first_reason reason local result_variables) why e)
+    (reason-sound P reason local result_variables why h.1)
   where
-    go : (reason (local m.rule m.place) ≡ Some why) ⊎ (first_reason reason local spots ≡ Some why)
-        → (first_reason reason local spots ≡ Some why
-        → (n : Spot) × (has_key spots n.rule n.place ≡ true) × P n × (reason (local n.rule n.place) ≡ Some why))
-        → (n : Spot) × (has_key (m ∷ spots) n.rule n.place ≡ true) × P n × (reason (local n.rule n.place) ≡ Some why)
+    go : (reason (local m.rule m.place) ≡ Some why) ⊎ (first_reason reason local result_variables ≡ Some why)
+        → (first_reason reason local result_variables ≡ Some why
+        → (n : ResultVariable) × (has_key result_variables n.rule n.place ≡ true) × P n × (reason (local n.rule n.place) ≡ Some why))
+        → (n : ResultVariable) × (has_key (m ∷ result_variables) n.rule n.place ≡ true) × P n × (reason (local n.rule n.place) ≡ Some why)
     go (inl here) later = (
       m,
-      or_left ((m.rule == m.rule) && (m.place == m.place)) (has_key spots m.rule m.place)
+      or_left ((m.rule == m.rule) && (m.place == m.place)) (has_key result_variables m.rule m.place)
           (and_from (m.rule == m.rule) (m.place == m.place) (same_number m.rule) (same_number m.place)),
       h.0,
       here,
@@ -78,17 +78,17 @@ reason_told P reason local (m ∷ spots) why h e =
     go (inr there) later =
         let x = later there in (
           x.0,
-          or_right ((m.rule == x.0.rule) && (m.place == x.0.place)) (has_key spots x.0.rule x.0.place) x.1,
+          or_right ((m.rule == x.0.rule) && (m.place == x.0.place)) (has_key result_variables x.0.rule x.0.place) x.1,
           x.2,
           x.3,
         )
 
 -- a place is a spot of its rule
-pub spot_of_rule : (p : Program) (m : Spot) (r : Rule) → rule_at p m.rule ≡ Some r → IsPlace p m.rule m.place
-    → IsSpotOf p m r
-spot_of_rule p m r numbered place = record {
+pub result_variable_of_rule : (p : Program) (m : ResultVariable) (r : Rule) → rule_at p m.rule ≡ Some r → IsPlace p m.rule m.place
+    → IsResultVariableOf p m r
+result_variable_of_rule p m r numbered place = record {
   numbered = numbered;
-  is_spot = record {
+  is_result_variable = record {
     rule = r;
     numbered = numbered;
     least = place.least;
@@ -100,9 +100,9 @@ spot_of_rule p m r numbered place = record {
     symbol zero q e a f = absurd (none_some q e)
     symbol (suc k) q e a f = some_same a q.target (sym f ∙ ap target_in e)
 
-module _ (loose : LooseAnswersAreLoose) (p : Program) (pivots : ℕ) (valid : IsValid p) where
+module _ (unbounded : UnboundedAnswersAreUnbounded) (p : Program) (pivots : ℕ) (valid : IsValid p) where
   -- a loose answer is right
-  module _ (m : Spot) (r : Rule) (numbered : rule_at p m.rule ≡ Some r) (place : IsPlace p m.rule m.place) where
+  module _ (m : ResultVariable) (r : Rule) (numbered : rule_at p m.rule ≡ Some r) (place : IsPlace p m.rule m.place) where
     rises : (side : Side) (z : ℕ → ℤ) → pos 0 <ℤ form_value (value_on side (prepared r) m.place) z (pos 0)
         → MovesTo side (form_value (new_value (setting_of p) m) z (pos 0))
     rises side z h =
@@ -113,8 +113,8 @@ module _ (loose : LooseAnswersAreLoose) (p : Program) (pivots : ℕ) (valid : Is
 
         value : after_rule (local_forms (prepared r)) (suc (m.place - 1)) ≡ new_value (setting_of p) m
         value =
-            form_there (prepared r).news (m.place - 1)
-            ∙ ap (λ (o : Option Rule). form_at (news_in o) (m.place - 1)) (sym numbered)
+            form_there (prepared r).new_values (m.place - 1)
+            ∙ ap (λ (o : Option Rule). form_at (new_values_in o) (m.place - 1)) (sym numbered)
 
         turned : (v w : ℤ) → v ≡ negsuc 0 *ℤ w → pos 0 <ℤ v → w <ℤ pos 0
         turned v w e k = omega (arith, ints, e, k)
@@ -126,44 +126,44 @@ module _ (loose : LooseAnswersAreLoose) (p : Program) (pivots : ℕ) (valid : Is
             subst (λ (f : Form). form_value f z (pos 0) <ℤ pos 0) value
             (turned _ _ (form_value-times (negsuc 0) (after_rule (local_forms (prepared r)) (suc (m.place - 1))) z (pos 0)) k)
 
-    loose_at : (side : Side) (ray : List ℤ) (kept : ScaledPoint)
-        → IsLooseRay (prepared r).rows (prepared r).left (value_on side (prepared r) m.place) (at ray)
+    unbounded_at : (side : Side) (ray : List ℤ) (kept : ScaledPoint)
+        → IsUnboundedRay (prepared r).rows (prepared r).left (value_on side (prepared r) m.place) (at ray)
         → IsPoint (prepared r).rows (at kept.parts) (pos kept.den) → is_polynomial_at (prepared r) m.place ≡ false
-        → IsLooseAt (setting_of p) m side ray kept
-    loose_at side ray kept h point bent = record {
+        → IsUnboundedAt (setting_of p) m side ray kept
+    unbounded_at side ray kept h point nonlinear = record {
       asked = λ update.
-          no_is_not_yes (is_polynomial_at (prepared r) m.place) bent (polynomial-told p r m numbered place.least update);
+          no_is_not_yes (is_polynomial_at (prepared r) m.place) nonlinear (polynomial-complete p r m numbered place.least update);
       along = subst (λ (o : Option Rule). IsRay (rows_in o) (at ray)) (sym numbered) h.ray;
       still = λ j l. h.still j (subst (λ (o : Option Rule). j < left_in o) numbered l);
       moves = rises side (at ray) h.rises;
       point = subst (λ (o : Option Rule). IsPoint (rows_in o) (at kept.parts) (pos kept.den)) (sym numbered) point;
     }
 
-  module _ (b : Bounds) (spots : List Spot) where
+  module _ (b : Bounds) (result_variables : List ResultVariable) where
     -- this is answered of a place
-    abbrev Answered : Spot → Local → Type 0
+    abbrev Answered : ResultVariable → Local → Type 0
     Answered m x = IsLocalOf p pivots m.rule m.place x
 
     -- a place that is loose is why there is no size
-    loose_cause : (m : Spot) → has_key spots m.rule m.place ≡ true → (x : Local) → Answered m x → (why : NoSize)
-        → loose_reason x ≡ Some why → IsCause (setting_of p) b spots why
-    loose_cause m has (HasBound l) is why e = absurd (none_some why e)
-    loose_cause m has (IsLooseOn side ray kept) is why e =
+    unbounded_cause : (m : ResultVariable) → has_key result_variables m.rule m.place ≡ true → (x : Local) → Answered m x → (why : NoSize)
+        → unbounded_reason x ≡ Some why → IsCause (setting_of p) b result_variables why
+    unbounded_cause m has (HasBound l) is why e = absurd (none_some why e)
+    unbounded_cause m has (IsUnboundedOn side ray kept) is why e =
         let r = is.rule in
-        let here = spot_of_rule p m r is.numbered is.place in
-        let found = loose_answered p pivots r m.rule is.numbered m.place side ray kept is.local in
-        let shown = loose.ray p r m pivots found.0 side ray kept valid here found.1 found.2 in
-        subst (λ (w : NoSize). IsCause (setting_of p) b spots w) (some_same (SizeLoose side ray kept) why e)
-        (m, has, loose_at m r is.numbered is.place side ray kept shown.0 shown.1 is.local.0.straight)
-    loose_cause m has (HasTripped t) is why e = absurd (none_some why e)
+        let here = result_variable_of_rule p m r is.numbered is.place in
+        let found = unbounded_answered p pivots r m.rule is.numbered m.place side ray kept is.local in
+        let shown = unbounded.ray p r m pivots found.0 side ray kept valid here found.1 found.2 in
+        subst (λ (w : NoSize). IsCause (setting_of p) b result_variables w) (some_same (SizeUnbounded side ray kept) why e)
+        (m, has, unbounded_at m r is.numbered is.place side ray kept shown.0 shown.1 is.local.0.straight)
+    unbounded_cause m has (HasTripped t) is why e = absurd (none_some why e)
 
     -- and so is one that tripped
-    trip_cause : (m : Spot) → has_key spots m.rule m.place ≡ true → (x : Local) → Answered m x → (why : NoSize)
-        → trip_reason x ≡ Some why → IsCause (setting_of p) b spots why
-    trip_cause m has (HasBound l) is why e = absurd (none_some why e)
-    trip_cause m has (IsLooseOn side ray kept) is why e = absurd (none_some why e)
-    trip_cause m has (HasTripped t) is why e =
-        subst (λ (w : NoSize). IsCause (setting_of p) b spots w) (some_same (SizeTripped t) why e)
+    limit_cause : (m : ResultVariable) → has_key result_variables m.rule m.place ≡ true → (x : Local) → Answered m x → (why : NoSize)
+        → limit_hit_reason x ≡ Some why → IsCause (setting_of p) b result_variables why
+    limit_cause m has (HasBound l) is why e = absurd (none_some why e)
+    limit_cause m has (IsUnboundedOn side ray kept) is why e = absurd (none_some why e)
+    limit_cause m has (HasTripped t) is why e =
+        subst (λ (w : NoSize). IsCause (setting_of p) b result_variables w) (some_same (SizeTripped t) why e)
         (m, has, question is.local)
       where
         question : TripsAt p pivots (prepared is.rule) m t
@@ -172,23 +172,23 @@ module _ (loose : LooseAnswersAreLoose) (p : Program) (pivots : ℕ) (valid : Is
         question (inr point) = inr point.trips.trips.0
 
     -- the first check that fails
-    first_cause : (why : NoSize) → IsFirstCause (setting_of p) b spots why → IsCause (setting_of p) b spots why
-    first_cause (SizeLoose side ray kept) h = absurd h.1
+    first_cause : (why : NoSize) → IsFirstCause (setting_of p) b result_variables why → IsCause (setting_of p) b result_variables why
+    first_cause (SizeUnbounded side ray kept) h = absurd h.1
     first_cause (SizeTripped t) h = absurd h.1
     first_cause (SizeMissing m) h = h
-    first_cause (SizeBent m) h = h
+    first_cause (SizeNonlinear m) h = h
     first_cause (SizeUntimed t) h = h
     first_cause (SizeLarge n) h = h
 
     -- a node that is accepted and loops as it says is right
-    node_right : (node other : Node) → other ≡ node → IsSizingOf (setting_of p) b spots node
-        → IsRightSizing (setting_of p) b spots (SizedBy other)
-    node_right node other e h = subst (λ (n : Node). IsSizingOf (setting_of p) b spots n) (sym e) h
+    node_right : (node other : Node) → other ≡ node → IsSizingOf (setting_of p) b result_variables node
+        → IsRightSizing (setting_of p) b result_variables (SizedBy other)
+    node_right node other e h = subst (λ (n : Node). IsSizingOf (setting_of p) b result_variables n) (sym e) h
 
     -- what is judged of members with arms is right
-    spread_right : (ms : List Member) → spots ≡ map (λ m. m.spot) ms → do_loop (setting_of p) ms ≡ false
+    spread_right : (ms : List Member) → result_variables ≡ map (λ m. m.result_variable) ms → do_loop (setting_of p) ms ≡ false
         → (answer : SizeOutcome) → AnswersAlone (setting_of p) (over b) ms answer
-        → IsRightSizing (setting_of p) b spots answer
+        → IsRightSizing (setting_of p) b result_variables answer
     spread_right [] e alone answer h = absurd h
     spread_right (m ∷ []) e alone (SizedBy node) h =
         node_right (SpreadBy m) node h.0 (record { same = e; accepted = (h.1, alone) })
@@ -196,47 +196,47 @@ module _ (loose : LooseAnswersAreLoose) (p : Program) (pivots : ℕ) (valid : Is
         first_cause why (h.0, h.1, inl record { member = m; only = e; alone = alone; first = h.2 })
     spread_right (m ∷ n ∷ ms) e alone answer h = absurd h
 
-    cycle_right : (ms : List Member) → spots ≡ map (λ m. m.spot) ms → do_loop (setting_of p) ms ≡ true
+    cycle_right : (ms : List Member) → result_variables ≡ map (λ m. m.result_variable) ms → do_loop (setting_of p) ms ≡ true
         → (answer : SizeOutcome) → AnswersLoop (setting_of p) (over b) ms answer
-        → IsRightSizing (setting_of p) b spots answer
+        → IsRightSizing (setting_of p) b result_variables answer
     cycle_right ms e loop (SizedBy node) h =
         node_right (CycleBy ms) node h.0 (record { same = e; accepted = (h.1, loop) })
     cycle_right ms e loop (Unsized why) h =
-        first_cause why (h.0, h.1, inr record { all = ms; spots = e; loop = loop; first = h.2 })
+        first_cause why (h.0, h.1, inr record { all = ms; result_variables = e; loop = loop; first = h.2 })
 
-    judged_right : (ms : List Member) → spots ≡ map (λ m. m.spot) ms → (v : Bool) → do_loop (setting_of p) ms ≡ v
+    judged_right : (ms : List Member) → result_variables ≡ map (λ m. m.result_variable) ms → (v : Bool) → do_loop (setting_of p) ms ≡ v
         → (answer : SizeOutcome) → AnswersMembers v (setting_of p) (over b) ms answer
-        → IsRightSizing (setting_of p) b spots answer
+        → IsRightSizing (setting_of p) b result_variables answer
     judged_right ms e false alone answer h = spread_right ms e alone answer h
     judged_right ms e true loop answer h = cycle_right ms e loop answer h
 
     -- each answer of a component is right
-    module _ (local : Locals) (locals : AreLocalsOf p pivots local spots) where
-      abbrev Place : Spot → Type 0
+    module _ (local : Locals) (locals : AreLocalsOf p pivots local result_variables) where
+      abbrev Place : ResultVariable → Type 0
       Place m = IsLocalOf p pivots m.rule m.place (local m.rule m.place)
 
-      lacking : (why : NoSize) → lacks_arms local spots ≡ Some why → IsCause (setting_of p) b spots why
-      lacking why e = go (one_of (first_reason loose_reason local spots) (first_reason trip_reason local spots) why e)
+      lacking : (why : NoSize) → lacks_side_bounds local result_variables ≡ Some why → IsCause (setting_of p) b result_variables why
+      lacking why e = go (one_of (first_reason unbounded_reason local result_variables) (first_reason limit_hit_reason local result_variables) why e)
         where
-          each : AllByRecursion Place spots
-          each = recursion_from_All Place spots locals
+          each : AllByRecursion Place result_variables
+          each = recursion_from_All Place result_variables locals
 
-          go : (first_reason loose_reason local spots ≡ Some why) ⊎ (first_reason trip_reason local spots ≡ Some why)
-              → IsCause (setting_of p) b spots why
+          go : (first_reason unbounded_reason local result_variables ≡ Some why) ⊎ (first_reason limit_hit_reason local result_variables ≡ Some why)
+              → IsCause (setting_of p) b result_variables why
           go (inl h) =
-              let x = reason_told Place loose_reason local spots why each h in
-              loose_cause x.0 x.1 (local x.0.rule x.0.place) x.2 why x.3
+              let x = reason-sound Place unbounded_reason local result_variables why each h in
+              unbounded_cause x.0 x.1 (local x.0.rule x.0.place) x.2 why x.3
           go (inr h) =
-              let x = reason_told Place trip_reason local spots why each h in
-              trip_cause x.0 x.1 (local x.0.rule x.0.place) x.2 why x.3
+              let x = reason-sound Place limit_hit_reason local result_variables why each h in
+              limit_cause x.0 x.1 (local x.0.rule x.0.place) x.2 why x.3
 
-      sizing_right : (o : Option NoSize) → lacks_arms local spots ≡ o → (answer : SizeOutcome)
-          → AnswersPlaces (setting_of p) (over b) local spots o answer → IsRightSizing (setting_of p) b spots answer
+      sizing_right : (o : Option NoSize) → lacks_side_bounds local result_variables ≡ o → (answer : SizeOutcome)
+          → AnswersPlaces (setting_of p) (over b) local result_variables o answer → IsRightSizing (setting_of p) b result_variables answer
       sizing_right (Some why) e answer h =
-          subst (λ (a : SizeOutcome). IsRightSizing (setting_of p) b spots a) (sym h) (lacking why e)
+          subst (λ (a : SizeOutcome). IsRightSizing (setting_of p) b result_variables a) (sym h) (lacking why e)
       sizing_right None e answer h =
-          judged_right h.members h.are_members.spots_are (loops (setting_of p) local spots)
-          (loop_told (setting_of p) local spots h.members h.are_members) answer h.sizing
+          judged_right h.members h.are_members.result_variables_are (loops (setting_of p) local result_variables)
+          (loop_decided (setting_of p) local result_variables h.members h.are_members) answer h.sizing
 
   -- all answers are right
   answers_right : AreRight (searches_of_program p pivots) (setting_of p)
@@ -247,11 +247,11 @@ module _ (loose : LooseAnswersAreLoose) (p : Program) (pivots : ℕ) (valid : Is
     sizes = sizes;
   }
     where
-      sizes : (b : Bounds) (keys : List Spot) (answer : SizeOutcome) → 1 ≤ length keys
+      sizes : (b : Bounds) (keys : List ResultVariable) (answer : SizeOutcome) → 1 ≤ length keys
           → (searches_of_program p pivots).Sizes b keys answer → IsRightSizing (setting_of p) b keys answer
       sizes b keys answer some (local, locals, is) =
-          sizing_right b keys local locals (lacks_arms local keys) refl answer is
+          sizing_right b keys local locals (lacks_side_bounds local keys) refl answer is
 
 -- the searches of each valid program are right
 pub program_searches_right : ProgramSearchesAreRight
-program_searches_right = record { each = λ p pivots valid. answers_right loose-answers p pivots valid }
+program_searches_right = record { each = λ p pivots valid. answers_right unbounded-answers p pivots valid }

@@ -9,14 +9,14 @@ use Rattle.its_model.specs.declared.program.Rule.{Rule}
 use Rattle.its_model.specs.declared.program.Program.{Program}
 use Rattle.its_model.specs.Valid.{IsValid}
 use Rattle.its_model.specs.Views.{rule_of, program_of}
-use Rattle.proof_tree.proofs.Rules.{rule_here}
+use Rattle.cert_types.proofs.Rules.{rule_here}
 use Rattle.guard_prep.specs.declared.rule_rows.RuleRows.{RuleRows}
 use Rattle.guard_prep.specs.Prepared.{Prepared, prepared}
 use Rattle.guard_prep.specs.Views.{prepared_of}
 use Rattle.guard_prep.specs.Laws.{IsPreparable}
 use Rattle.guard_prep.proofs.StepLaws.{preparable}
-use Rattle.proof_tree.specs.declared.answer.EmptyAnswer.{EmptyAnswer}
-use Rattle.proof_tree.specs.Composing.{AreRowsOf}
+use Rattle.cert_types.specs.declared.answer.GuardFeasibility.{GuardFeasibility}
+use Rattle.cert_types.specs.Composing.{AreRowsOf}
 use Rattle.rank_search.specs.rule_questions.EmptyAnswers.{IsEmptyAnswer, IsPrepared}
 use Rattle.rank_search.specs.rule_questions.RuleAnswers.{AreEmptyAnswers, answer_for}
 use Rattle.time_bounds.specs.Questions.{AreAnswersFrom}
@@ -42,38 +42,38 @@ rest_same a b os bs e = cc
 empty_not : (a : Prepared) (os : List Prepared) → [] ≡ a ∷ os → ⊥
 empty_not a os e = cc
 
--- the rule whose rows stand at a position
+-- the rule whose rows are at a position
 pub record RowsAt (rules : List plain.Rule) (k : ℕ) (m : RuleRows) : Type 0 where
   pub rule : plain.Rule
   pub numbered : slice_get rules k ≡ Some rule
   pub same : prepared_of m ≡ prepared rule
 
 -- the rows at a position are those of the rule there
-pub rows_at : (preps : List RuleRows) (rules : List plain.Rule) (k : ℕ) (d : RuleRows) → map prepared_of preps ≡ map prepared rules → k < length preps
-    → RowsAt rules k (get_or preps k d)
+pub rows_at : (prepared_rules : List RuleRows) (rules : List plain.Rule) (k : ℕ) (d : RuleRows) → map prepared_of prepared_rules ≡ map prepared rules → k < length prepared_rules
+    → RowsAt rules k (get_or prepared_rules k d)
 rows_at [] rules k d e l = absurd (omega (arith, l))
-rows_at (m ∷ preps) [] k d e l = absurd (empty_not (prepared_of m) (map prepared_of preps) (sym e))
-rows_at (m ∷ preps) (r ∷ rules) zero d e l = record {
+rows_at (m ∷ prepared_rules) [] k d e l = absurd (empty_not (prepared_of m) (map prepared_of prepared_rules) (sym e))
+rows_at (m ∷ prepared_rules) (r ∷ rules) zero d e l = record {
   rule = r;
   numbered = refl;
-  same = first_same (prepared_of m) (prepared r) (map prepared_of preps) (map prepared rules) e;
+  same = first_same (prepared_of m) (prepared r) (map prepared_of prepared_rules) (map prepared rules) e;
 }
-rows_at (m ∷ preps) (r ∷ rules) (suc k) d e l =
-    let h = rows_at preps rules k d (rest_same (prepared_of m) (prepared r) (map prepared_of preps) (map prepared rules) e) (omega (arith, l)) in
+rows_at (m ∷ prepared_rules) (r ∷ rules) (suc k) d e l =
+    let h = rows_at prepared_rules rules k d (rest_same (prepared_of m) (prepared r) (map prepared_of prepared_rules) (map prepared rules) e) (omega (arith, l)) in
     record { rule = h.rule; numbered = h.numbered; same = h.same }
 
 -- the rows of the program's rules are rows of rules that have some
-pub are_prepared : (p : plain.Program) → IsValid p → (preps : List RuleRows) → AreRowsOf preps p → All IsPrepared preps
-are_prepared p v preps rows k d l =
-    let h = rows_at preps p.rules k d rows l in
+pub are_prepared : (p : plain.Program) → IsValid p → (prepared_rules : List RuleRows) → AreRowsOf prepared_rules p → All IsPrepared prepared_rules
+are_prepared p v prepared_rules rows k d l =
+    let h = rows_at prepared_rules p.rules k d rows l in
     record { rule = h.rule; preparable = preparable p (suc k) h.rule v h.numbered; same = h.same }
 
 -- there are as many prepared rows as rules
-pub rows_length : (p : plain.Program) (preps : List RuleRows) → AreRowsOf preps p → length preps ≡ length p.rules
-rows_length p preps rows = sym (length-map preps prepared_of) ∙ (ap (λ (ms : List Prepared). length ms) rows ∙ length-map p.rules prepared)
+pub rows_length : (p : plain.Program) (prepared_rules : List RuleRows) → AreRowsOf prepared_rules p → length prepared_rules ≡ length p.rules
+rows_length p prepared_rules rows = sym (length-map prepared_rules prepared_of) ∙ (ap (λ (ms : List Prepared). length ms) rows ∙ length-map p.rules prepared)
 
 -- one answer more
-pub answer_pushed : (pivots k : ℕ) (ms : List RuleRows) (os : List EmptyAnswer) (m : RuleRows) (a : EmptyAnswer) → AreAnswersFrom pivots k ms os
+pub answer_pushed : (pivots k : ℕ) (ms : List RuleRows) (os : List GuardFeasibility) (m : RuleRows) (a : GuardFeasibility) → AreAnswersFrom pivots k ms os
     → IsEmptyAnswer (prepared_of m) (k + length ms) pivots a → AreAnswersFrom pivots k (ms ++ m ∷ []) (os ++ a ∷ [])
 answer_pushed pivots k [] [] m a h x = (subst (λ (n : ℕ). IsEmptyAnswer (prepared_of m) n pivots a) (let z : k + 0 ≡ k = omega arith in z) x, tt)
 answer_pushed pivots k [] (b ∷ os) m a h x = absurd h
@@ -85,39 +85,39 @@ answer_pushed pivots k (n ∷ ms) (b ∷ os) m a h x = (
 )
 
 -- the answers for the rows of the program's rules are those for its rules
-answers_long : (pivots k : ℕ) (preps : List RuleRows) (answers : List EmptyAnswer) → AreAnswersFrom pivots k preps answers → length answers ≡ length preps
+answers_long : (pivots k : ℕ) (prepared_rules : List RuleRows) (answers : List GuardFeasibility) → AreAnswersFrom pivots k prepared_rules answers → length answers ≡ length prepared_rules
 answers_long pivots k [] [] h = refl
 answers_long pivots k [] (a ∷ answers) h = absurd h
-answers_long pivots k (m ∷ preps) [] h = absurd h
-answers_long pivots k (m ∷ preps) (a ∷ answers) h = ap (λ (n : ℕ). suc n) (answers_long pivots (suc k) preps answers h.1)
+answers_long pivots k (m ∷ prepared_rules) [] h = absurd h
+answers_long pivots k (m ∷ prepared_rules) (a ∷ answers) h = ap (λ (n : ℕ). suc n) (answers_long pivots (suc k) prepared_rules answers h.1)
 
-answer_at : (pivots k : ℕ) (preps : List RuleRows) (rules : List plain.Rule) (answers : List EmptyAnswer) (i : ℕ) (r : plain.Rule) (a : EmptyAnswer)
-    → map prepared_of preps ≡ map prepared rules → AreAnswersFrom pivots k preps answers → slice_get rules i ≡ Some r
+answer_at : (pivots k : ℕ) (prepared_rules : List RuleRows) (rules : List plain.Rule) (answers : List GuardFeasibility) (i : ℕ) (r : plain.Rule) (a : GuardFeasibility)
+    → map prepared_of prepared_rules ≡ map prepared rules → AreAnswersFrom pivots k prepared_rules answers → slice_get rules i ≡ Some r
     → slice_get answers i ≡ Some a → IsEmptyAnswer (prepared r) (k + i) pivots a
-answer_at pivots k preps [] answers i r a e h f g = absurd (none_some r f)
+answer_at pivots k prepared_rules [] answers i r a e h f g = absurd (none_some r f)
 answer_at pivots k [] (x ∷ rules) answers i r a e h f g = absurd (empty_not (prepared x) (map prepared rules) e)
-answer_at pivots k (m ∷ preps) (x ∷ rules) [] i r a e h f g = absurd h
-answer_at pivots k (m ∷ preps) (x ∷ rules) (b ∷ answers) zero r a e h f g =
+answer_at pivots k (m ∷ prepared_rules) (x ∷ rules) [] i r a e h f g = absurd h
+answer_at pivots k (m ∷ prepared_rules) (x ∷ rules) (b ∷ answers) zero r a e h f g =
     let same_rule : x ≡ r = cc in
     let same_answer : b ≡ a = cc in
-    let first = first_same (prepared_of m) (prepared x) (map prepared_of preps) (map prepared rules) e in
+    let first = first_same (prepared_of m) (prepared x) (map prepared_of prepared_rules) (map prepared rules) e in
     subst (λ (n : ℕ). IsEmptyAnswer (prepared r) n pivots a) (let z : k ≡ k + 0 = omega arith in z)
-    (subst (λ (y : EmptyAnswer). IsEmptyAnswer (prepared r) k pivots y) same_answer
+    (subst (λ (y : GuardFeasibility). IsEmptyAnswer (prepared r) k pivots y) same_answer
     (subst (λ (q : Prepared). IsEmptyAnswer q k pivots b) (first ∙ ap prepared same_rule) h.0))
-answer_at pivots k (m ∷ preps) (x ∷ rules) (b ∷ answers) (suc i) r a e h f g =
+answer_at pivots k (m ∷ prepared_rules) (x ∷ rules) (b ∷ answers) (suc i) r a e h f g =
     subst (λ (n : ℕ). IsEmptyAnswer (prepared r) n pivots a) (let z : suc k + i ≡ k + suc i = omega arith in z)
-    (answer_at pivots (suc k) preps rules answers i r a (rest_same (prepared_of m) (prepared x) (map prepared_of preps) (map prepared rules) e) h.1 f g)
+    (answer_at pivots (suc k) prepared_rules rules answers i r a (rest_same (prepared_of m) (prepared x) (map prepared_of prepared_rules) (map prepared rules) e) h.1 f g)
 
 -- the answers for the rows of a program's rules are those for its rules
-pub answers_of : (p : plain.Program) (pivots : ℕ) (preps : List RuleRows) (answers : List EmptyAnswer) → AreRowsOf preps p
-    → AreAnswersFrom pivots 1 preps answers → AreEmptyAnswers p pivots answers
-answers_of p pivots preps answers rows h = record {
-  one_each = answers_long pivots 1 preps answers h ∙ rows_length p preps rows;
+pub answers_of : (p : plain.Program) (pivots : ℕ) (prepared_rules : List RuleRows) (answers : List GuardFeasibility) → AreRowsOf prepared_rules p
+    → AreAnswersFrom pivots 1 prepared_rules answers → AreEmptyAnswers p pivots answers
+answers_of p pivots prepared_rules answers rows h = record {
+  one_each = answers_long pivots 1 prepared_rules answers h ∙ rows_length p prepared_rules rows;
   each = each;
 }
   where
-    each : (t : ℕ) (r : plain.Rule) (a : EmptyAnswer) → rule_at p t ≡ Some r → answer_for answers t ≡ Some a → IsEmptyAnswer (prepared r) t pivots a
+    each : (t : ℕ) (r : plain.Rule) (a : GuardFeasibility) → rule_at p t ≡ Some r → answer_for answers t ≡ Some a → IsEmptyAnswer (prepared r) t pivots a
     each zero r a f g = absurd (none_some r f)
     each (suc i) r a f g =
         subst (λ (n : ℕ). IsEmptyAnswer (prepared r) n pivots a) (let z : 1 + i ≡ suc i = omega arith in z)
-        (answer_at pivots 1 preps p.rules answers i r a rows h f g)
+        (answer_at pivots 1 prepared_rules p.rules answers i r a rows h f g)

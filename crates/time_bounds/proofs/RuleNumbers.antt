@@ -2,8 +2,8 @@
 use Rattle.std.proofs.Common.{ℕ, zero, suc, ◌<◌, ◌≤◌, length, arith}
 use Rattle.model.specs.Programs.{Program}
 use Rattle.model.proofs.Membership.{slice_get-below}
-use Rattle.proof_tree.specs.proof_nodes.AcceptsPlain.{IsRule}
-pub use Rattle.bound_rounds.proofs.RuleNumbers.{rule_numbered as rule_there}
+use Rattle.cert_types.specs.cert_rules.AcceptsPlain.{IsRule}
+pub use Rattle.bound_fixpoint.proofs.RuleNumbers.{rule_numbered as rule_there}
 
 -- a rule is one of as many as there are
 pub rule_below : (p : Program) (i : ℕ) → IsRule p (suc i) → i < length p.rules

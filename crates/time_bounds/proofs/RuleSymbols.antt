@@ -35,7 +35,7 @@ sources_within p valid g is k d low =
     let source = h.0 in
     omega (arith, source, is.symbols)
 
--- so it is of the rule that is read
+-- the same for the rule that is read
 pub target_read : (p : Program) → IsValid (program_of p) → (i : ℕ) (r : Rule) → i < length p.rules.items → r ≡ get_or p.rules.items i r
     → r.target < length p.symbols.items
 target_read p valid i r low e = subst (λ (x : Rule). x.target < length p.symbols.items) (sym e) (targets_within p valid i r low)

@@ -10,23 +10,23 @@ use Rattle.model.proofs.Membership.{slice_get-below}
 use Rattle.its_model.specs.Valid.{IsValid}
 use Rattle.outcome.specs.Holding.{place_entry}
 use Rattle.outcome.specs.Reports.{Time, Timed, Untimed, Size, Sized, Unsized, Report}
-use Rattle.proof_tree.specs.proof_nodes.AcceptsPlain.{IsRule}
-use Rattle.proof_tree.specs.proof_setting.Setting.{setting_of}
-use Rattle.bound_rounds.specs.Finds.{bound_found, bounds_of, first_of}
-use Rattle.bound_rounds.specs.Keys.{IsPlace, start_bounds}
-use Rattle.bound_rounds.specs.Searches.{Searches}
-use Rattle.bound_rounds.specs.Standing.{AllStand}
-use Rattle.bound_rounds.proofs.MissingFalls.{IsKeyOfRule}
+use Rattle.cert_types.specs.cert_rules.AcceptsPlain.{IsRule}
+use Rattle.cert_types.specs.cert_program.Setting.{setting_of}
+use Rattle.bound_fixpoint.specs.Derivations.{bound_found, bounds_of, first_of}
+use Rattle.bound_fixpoint.specs.Keys.{IsPlace, start_bounds}
+use Rattle.bound_fixpoint.specs.Searches.{Searches}
+use Rattle.bound_fixpoint.specs.Standing.{AllStand}
+use Rattle.bound_fixpoint.proofs.MissingFalls.{IsKeyOfRule}
 use Rattle.time_bounds.specs.Analysis.{IsTimeOf, IsSizeOf, IsAnalysis}
 use Rattle.time_bounds.specs.ProgramSearches.{searches_of_program}
 use Rattle.time_bounds.specs.SaidBounds.{time_said, size_said, bounds_said}
-use Rattle.time_bounds.proofs.FindKeys.{none_found}
-use Rattle.bound_rounds.proofs.SizesStand.{all_stand}
+use Rattle.time_bounds.proofs.DerivationKeys.{none_found}
+use Rattle.bound_fixpoint.proofs.SizesStand.{all_stand}
 use Rattle.time_bounds.proofs.OneProgram.{program_searches_one}
 use Rattle.time_bounds.proofs.ReportEntries.{said_at, size_said_at, row_said_at}
 use Rattle.time_bounds.proofs.RightSizings.{program_searches_right}
 
--- what stands at the same position of lists that are mapped alike is mapped alike
+-- elements at the same position of lists with equal images have equal images
 alike_at : {A B C : Type 0} (f : A → C) (g : B → C) (xs : List A) (ys : List B) → map f xs ≡ map g ys → (k : ℕ) (x : A) (y : B)
     → slice_get xs k ≡ Some x → slice_get ys k ≡ Some y → f x ≡ g y
 alike_at f g [] ys e k x y a b = absurd (none_some x a)
@@ -38,7 +38,7 @@ alike_at f g (v ∷ xs) (w ∷ ys) e (suc k) x y a b =
     let rest : map f xs ≡ map g ys = cc in
     alike_at f g xs ys rest k x y a b
 
--- past the end of a list nothing stands
+-- past the end of a list there is no element
 none_past : {A : Type 0} (xs : List A) (k : ℕ) → slice_get xs k ≡ None → k < length xs → ⊥
 none_past xs k e l = let there = slice_get-there xs k l in none_some there.0 (sym e ∙ there.1)
 
@@ -51,26 +51,26 @@ module _ (p : Program) (pivots : ℕ) (valid : IsValid p) (r : Report) (h : IsAn
   abbrev q : Searches
   q = searches_of_program p pivots
 
-  stand : AllStand (setting_of p) h.finds
+  stand : AllStand (setting_of p) h.derivations
   stand =
       all_stand (searches_of_program p pivots) (setting_of p) (program_searches_right.each p pivots valid)
-      (program_searches_one.each p pivots) h.finds h.last.made
+      (program_searches_one.each p pivots) h.derivations h.last.made
 
   one_more : (k : ℕ) → 1 + k ≡ suc k
   one_more k = omega arith
 
-  -- what is said of a rule
-  pub time_told : (k : ℕ) (x : Time) → slice_get r.times k ≡ Some x → IsTimeOf q p h.finds (suc k) x
-  time_told k x e =
-      subst (λ (n : ℕ). IsTimeOf q p h.finds n x) (one_more k) (said_at q p h.finds 1 r.times k x h.times e)
+  -- the entry of a rule
+  pub time-sound_at : (k : ℕ) (x : Time) → slice_get r.times k ≡ Some x → IsTimeOf q p h.derivations (suc k) x
+  time-sound_at k x e =
+      subst (λ (n : ℕ). IsTimeOf q p h.derivations n x) (one_more k) (said_at q p h.derivations 1 r.times k x h.times e)
 
   -- and of a place after it
-  pub size_told : (k j : ℕ) (row : List Size) (x : Size) → slice_get r.sizes k ≡ Some row → slice_get row j ≡ Some x
-      → IsSizeOf q p h.finds (suc k) (suc j) x
-  size_told k j row x e f =
-      subst (λ (n : ℕ). IsSizeOf q p h.finds n (suc j) x) (one_more k)
-      (subst (λ (n : ℕ). IsSizeOf q p h.finds (1 + k) n x) (one_more j)
-      (size_said_at q p h.finds (1 + k) 1 row j x (row_said_at q p h.finds 1 r.sizes k row h.sizes e) f))
+  pub size-sound : (k j : ℕ) (row : List Size) (x : Size) → slice_get r.sizes k ≡ Some row → slice_get row j ≡ Some x
+      → IsSizeOf q p h.derivations (suc k) (suc j) x
+  size-sound k j row x e f =
+      subst (λ (n : ℕ). IsSizeOf q p h.derivations n (suc j) x) (one_more k)
+      (subst (λ (n : ℕ). IsSizeOf q p h.derivations (1 + k) n x) (one_more j)
+      (size_said_at q p h.derivations (1 + k) 1 row j x (row_said_at q p h.derivations 1 r.sizes k row h.sizes e) f))
 
   -- a rule has an entry, and so has a place after it
   rule_low : (k : ℕ) → IsRule p (suc k) → k < length p.rules
@@ -81,18 +81,18 @@ module _ (p : Program) (pivots : ℕ) (valid : IsValid p) (r : Report) (h : IsAn
       sym (length-map r.sizes length)
       ∙ (ap (λ (ns : List ℕ). length ns) h.places ∙ length-map p.rules (λ rule. arity_of p rule.target))
 
-  timed : (k : ℕ) (o : Option Time) → slice_get r.times k ≡ o → time_said o ≡ bound_found h.finds (suc k) 0
-  timed k (Some (Timed b)) e = sym (time_told k (Timed b) e)
-  timed k (Some (Untimed why)) e = sym (time_told k (Untimed why) e).missing
+  timed : (k : ℕ) (o : Option Time) → slice_get r.times k ≡ o → time_said o ≡ bound_found h.derivations (suc k) 0
+  timed k (Some (Timed b)) e = sym (time-sound_at k (Timed b) e)
+  timed k (Some (Untimed why)) e = sym (time-sound_at k (Untimed why) e).missing
   timed k None e =
-      sym (none_found (setting_of p) h.finds stand (suc k) 0
+      sym (none_found (setting_of p) h.derivations stand (suc k) 0
       (λ is. none_past r.times k e (let l = rule_low k is.0 in omega (arith, l, h.one_each))))
 
   placed : (k j : ℕ) (row : List Size) → slice_get r.sizes k ≡ Some row → (o : Option Size) → slice_get row j ≡ o
-      → size_said o ≡ bound_found h.finds (suc k) (suc j)
-  placed k j row e (Some (Sized b)) f = sym (size_told k j row (Sized b) e f)
-  placed k j row e (Some (Unsized why)) f = sym (size_told k j row (Unsized why) e f).missing
-  placed k j row e None f = sym (none_found (setting_of p) h.finds stand (suc k) (suc j) other)
+      → size_said o ≡ bound_found h.derivations (suc k) (suc j)
+  placed k j row e (Some (Sized b)) f = sym (size-sound k j row (Sized b) e f)
+  placed k j row e (Some (Unsized why)) f = sym (size-sound k j row (Unsized why) e f).missing
+  placed k j row e None f = sym (none_found (setting_of p) h.derivations stand (suc k) (suc j) other)
     where
       symbol : (rule : IsRule p (suc k)) (a : ℕ) → target_in (slice_get p.rules k) ≡ Some a → a ≡ rule.rule.target
       symbol rule a t = some_same a rule.rule.target (sym t ∙ ap target_in rule.numbered)
@@ -109,19 +109,19 @@ module _ (p : Program) (pivots : ℕ) (valid : IsValid p) (r : Report) (h : IsAn
       other (rule, inr place) = none_past row j f (inside rule place)
 
   sized : (k j : ℕ) (o : Option (List Size)) → slice_get r.sizes k ≡ o
-      → size_said (place_entry o (suc j)) ≡ bound_found h.finds (suc k) (suc j)
+      → size_said (place_entry o (suc j)) ≡ bound_found h.derivations (suc k) (suc j)
   sized k j (Some row) e = placed k j row e (slice_get row j) refl
   sized k j None e =
-      sym (none_found (setting_of p) h.finds stand (suc k) (suc j)
+      sym (none_found (setting_of p) h.derivations stand (suc k) (suc j)
       (λ is. none_past r.sizes k e (let l = rule_low k is.0 in omega (arith, l, rows_many))))
 
-  same_at : (t i : ℕ) → bounds_said p r t i ≡ bounds_of p h.finds t i
+  same_at : (t i : ℕ) → bounds_said p r t i ≡ bounds_of p h.derivations t i
   same_at zero i =
-      first_known (start_bounds p zero i) (bound_found h.finds zero i)
-      (λ e. none_found (setting_of p) h.finds stand zero i (λ is. none_some is.0.rule is.0.numbered))
+      first_known (start_bounds p zero i) (bound_found h.derivations zero i)
+      (λ e. none_found (setting_of p) h.derivations stand zero i (λ is. none_some is.0.rule is.0.numbered))
   same_at (suc k) zero = timed k (slice_get r.times k) refl
   same_at (suc k) (suc j) = sized k j (slice_get r.sizes k) refl
 
   -- by key they are the same
-  pub said_known : bounds_said p r ≡ bounds_of p h.finds
+  pub said_known : bounds_said p r ≡ bounds_of p h.derivations
   said_known = λ n t i. same_at t i n

@@ -9,36 +9,36 @@ use Rattle.outcome.specs.Reports.{NoSize, Size, Unsized}
 use Rattle.outcome.specs.declared.entry.Stored.{Stored}
 use Rattle.outcome.specs.Views.{size_of}
 use Rattle.outcome.specs.declared.entry.SizeEntry.{SizeEntry}
-use Rattle.proof_tree.specs.proof_nodes.Nodes.{Spot}
+use Rattle.cert_types.specs.cert_rules.Nodes.{ResultVariable}
 use Rattle.time_bounds.specs.declared.candidates.Candidate.{Candidate}
-use Rattle.time_bounds.specs.declared.sizing.Attempt.{Attempt}
-use Rattle.time_bounds.specs.Candidates.{spots_in}
+use Rattle.time_bounds.specs.declared.sizing.ComponentAttempt.{ComponentAttempt}
+use Rattle.time_bounds.specs.Candidates.{result_variables_in}
 use Rattle.time_bounds.specs.Attempts.{why_of}
-use Rattle.bound_book.specs.ByKey.{put_place}
-use Rattle.time_bounds.specs.SizeSaid.{seen_row, seen_rows, put_some, put_spots, put_why, put_whys, said_stored}
+use Rattle.bound_derivations.specs.ByKey.{put_place}
+use Rattle.time_bounds.specs.SizeSaid.{seen_row, seen_rows, put_some, put_result_variables, put_why, put_whys, said_stored}
 use Rattle.time_bounds.specs.SizeSaid.{AreThere}
 use Rattle.time_bounds.proofs.PlacedLaws.{place_map}
 
 -- one place more
-pub spots_more : {A : Type 0} (rows : List (List (Option A))) (spots : List Spot) (m : Spot) (a : A)
-    → put_spots rows (spots ++ m ∷ []) a ≡ put_place (put_spots rows spots a) m.rule m.place a
-spots_more rows [] m a = refl
-spots_more rows (s ∷ spots) m a = spots_more (put_place rows s.rule s.place a) spots m a
+pub result_variables_more : {A : Type 0} (rows : List (List (Option A))) (result_variables : List ResultVariable) (m : ResultVariable) (a : A)
+    → put_result_variables rows (result_variables ++ m ∷ []) a ≡ put_place (put_result_variables rows result_variables a) m.rule m.place a
+result_variables_more rows [] m a = refl
+result_variables_more rows (s ∷ result_variables) m a = result_variables_more (put_place rows s.rule s.place a) result_variables m a
 
 -- one candidate more
-pub whys_more : (rows : List (List (Option Size))) (cs : List Candidate) (xs : List Attempt) (c : Candidate) (x : Attempt) → length cs ≡ length xs
-    → put_whys rows (cs ++ c ∷ []) (xs ++ x ∷ []) ≡ put_why (put_whys rows cs xs) (spots_in c) (why_of c x)
+pub whys_more : (rows : List (List (Option Size))) (cs : List Candidate) (xs : List ComponentAttempt) (c : Candidate) (x : ComponentAttempt) → length cs ≡ length xs
+    → put_whys rows (cs ++ c ∷ []) (xs ++ x ∷ []) ≡ put_why (put_whys rows cs xs) (result_variables_in c) (why_of c x)
 whys_more rows [] [] c x e = refl
 whys_more rows [] (y ∷ xs) c x e = absurd (omega (arith, e))
 whys_more rows (d ∷ cs) [] c x e = absurd (omega (arith, e))
 whys_more rows (d ∷ cs) (y ∷ xs) c x e =
-    whys_more (put_why rows (spots_in d) (why_of d y)) cs xs c x (let h : length cs ≡ length xs = omega (arith, e) in h)
+    whys_more (put_why rows (result_variables_in d) (why_of d y)) cs xs c x (let h : length cs ≡ length xs = omega (arith, e) in h)
 
 -- the reason is written at one place more
-pub why_more : (rows : List (List (Option Size))) (spots : List Spot) (m : Spot) (o : Option NoSize)
-    → put_why rows (spots ++ m ∷ []) o ≡ put_some (put_why rows spots o) m (option_map Unsized o)
-why_more rows spots m None = refl
-why_more rows spots m (Some why) = spots_more rows spots m (Unsized why)
+pub why_more : (rows : List (List (Option Size))) (result_variables : List ResultVariable) (m : ResultVariable) (o : Option NoSize)
+    → put_why rows (result_variables ++ m ∷ []) o ≡ put_some (put_why rows result_variables o) m (option_map Unsized o)
+why_more rows result_variables m None = refl
+why_more rows result_variables m (Some why) = result_variables_more rows result_variables m (Unsized why)
 
 -- where there are no places no reason is written
 pub why_nowhere : (rows : List (List (Option Size))) (o : Option NoSize) → put_why rows [] o ≡ rows
@@ -82,7 +82,7 @@ row_more rows sizes i r s h e l k =
     (sym (map-append (λ row. row.items) (take i sizes) (s ∷ []))
     ∙ ap (map (λ row. row.items)) (ap (λ (b : Vec (Option Stored) Global). take i sizes ++ b ∷ []) k ∙ sym (take_more sizes i s l)))))))
 
--- one row more of what is said
+-- one more row of entries
 pub said_more : (rows : List (Vec SizeEntry Global)) (entries : List (Vec (Option SizeEntry) Global)) (r : Vec SizeEntry Global)
     (e : Vec (Option SizeEntry) Global) → map (λ row. map (λ x. Some x) row.items) rows ≡ map (λ row. row.items) entries
     → map (λ x. Some x) r.items ≡ e.items
@@ -93,14 +93,14 @@ said_more rows entries r e h k =
     ∙ (ap (λ (c : List (Option SizeEntry)). map (λ row. row.items) entries ++ c ∷ []) k
     ∙ sym (map-append (λ row. row.items) entries (e ∷ []))))
 
--- one entry more of what is said
+-- one more entry
 pub entry_more : (said : List SizeEntry) (entries : List (Option SizeEntry)) (e : SizeEntry) (o : Option SizeEntry)
     → map (λ x. Some x) said ≡ entries → o ≡ Some e → map (λ x. Some x) (said ++ e ∷ []) ≡ entries ++ o ∷ []
 entry_more said entries e o h k =
     map-append (λ x. Some x) said (e ∷ [])
     ∙ (ap (λ (cs : List (Option SizeEntry)). cs ++ Some e ∷ []) h ∙ ap (λ (x : Option SizeEntry). entries ++ x ∷ []) (sym k))
 
--- what is said is seen
+-- the entries are those that are seen
 pub said_seen : (rows : List (Vec SizeEntry Global)) → map (λ row. map (λ e. Some (size_of e)) row.items) rows
     ≡ seen_rows (map (λ row. map (λ x. Some x) row.items) rows)
 said_seen [] = refl

@@ -13,27 +13,27 @@ use Rattle.outcome.specs.Reports.{Size, Sized}
 use Rattle.outcome.specs.Views.{size_of}
 use Rattle.outcome.specs.declared.entry.SizeEntry.{SizeEntry}
 use Rattle.outcome.specs.declared.entry.Stored.{Stored}
-use Rattle.proof_tree.specs.proof_nodes.AcceptsPlain.{IsRule}
-use Rattle.proof_tree.specs.proof_setting.Setting.{setting_of}
-use Rattle.bound_rounds.specs.Keys.{IsPlace}
-use Rattle.bound_rounds.specs.Components.{AreComponentsOf}
-use Rattle.bound_rounds.specs.Finds as plain
-use Rattle.bound_rounds.specs.Finds.{bounds_of, bound_found, first_of}
-use Rattle.bound_rounds.specs.Rounds.{IsMade}
-use Rattle.bound_rounds.specs.Searches.{Searches}
-use Rattle.bound_rounds.proofs.DeadPlaces.{missing_live}
-use Rattle.bound_book.specs.declared.find.Find.{Find}
-use Rattle.bound_book.specs.Books.{IsBook}
-use Rattle.bound_book.specs.ByKey.{rows_of}
-use Rattle.bound_book.specs.Views.{finds_of}
-use Rattle.bound_book.proofs.IndexStays.{arity_at, long_at, place_within}
+use Rattle.cert_types.specs.cert_rules.AcceptsPlain.{IsRule}
+use Rattle.cert_types.specs.cert_program.Setting.{setting_of}
+use Rattle.bound_fixpoint.specs.Keys.{IsPlace}
+use Rattle.bound_fixpoint.specs.Components.{AreComponentsOf}
+use Rattle.bound_fixpoint.specs.Derivations as plain
+use Rattle.bound_fixpoint.specs.Derivations.{bounds_of, bound_found, first_of}
+use Rattle.bound_fixpoint.specs.Rounds.{IsMade}
+use Rattle.bound_fixpoint.specs.Searches.{Searches}
+use Rattle.bound_fixpoint.proofs.DeadPlaces.{missing_live}
+use Rattle.bound_derivations.specs.declared.derivation.Derivation.{Derivation}
+use Rattle.bound_derivations.specs.Books.{AreDerivedBounds}
+use Rattle.bound_derivations.specs.ByKey.{rows_of}
+use Rattle.bound_derivations.specs.Views.{derivations_of}
+use Rattle.bound_derivations.proofs.IndexStays.{arity_at, long_at, place_within}
 use Rattle.size_bounds.specs.declared.table.Table.{Table}
 use Rattle.size_bounds.specs.Tables.{entry_at, row_at}
 use Rattle.time_bounds.specs.declared.candidates.Candidate.{Candidate}
-use Rattle.time_bounds.specs.declared.sizing.Attempt.{Attempt}
+use Rattle.time_bounds.specs.declared.sizing.ComponentAttempt.{ComponentAttempt}
 use Rattle.time_bounds.specs.Analysis.{IsSizeOf, AreSizesOf, AreSizeRowsOf}
 use Rattle.time_bounds.specs.ProgramSearches.{searches_of_program}
-use Rattle.time_bounds.specs.Candidates.{spots_in, AreCandidatesOf}
+use Rattle.time_bounds.specs.Candidates.{result_variables_in, AreCandidatesOf}
 use Rattle.time_bounds.specs.Attempts.{AreAttempts, is_sized}
 use Rattle.time_bounds.specs.SizeSaid.{placed, said_stored, said_table, put_whys, AreThere}
 use Rattle.time_bounds.proofs.CandidateComponents.{live_components}
@@ -42,7 +42,7 @@ use Rattle.time_bounds.proofs.RuleNumbers.{rule_there}
 use Rattle.time_bounds.proofs.SizeReasons.{said_fair, listed_there, whys_long}
 use Rattle.model.proofs.Cases.{none_some}
 
--- a row has an entry at each position, where one stands at each
+-- a row has an entry at each position, where each position is filled
 row_there : (row : List (Option Size)) → ((i : ℕ) → i < length row → (x : Size) × (entry_at row i ≡ Some x)) → AreThere row
 row_there [] f = tt
 row_there (Some x ∷ row) f = row_there row (λ i l. f (suc i) (omega (arith, l)))
@@ -61,8 +61,8 @@ said_long [] = refl
 said_long (row ∷ rows) = ap (λ (n : ℕ). n ∷ map (λ (r : List (Option Size)). length r) (map (λ row. map said_stored row) rows)) (length-map row said_stored)
     ∙ ap (λ (ns : List ℕ). length row ∷ ns) (said_long rows)
 
--- what is said of entries that are there, row by row
-row_said : (q : Searches) (p : Program) (fs : List plain.Find) (t i : ℕ) (es : List SizeEntry)
+-- the entries that exist, row by row
+row_said : (q : Searches) (p : Program) (fs : List plain.Derivation) (t i : ℕ) (es : List SizeEntry)
     → ((j : ℕ) (x : Size) → entry_at (map (λ e. Some (size_of e)) es) j ≡ Some x → IsSizeOf q p fs t (i + j) x)
     → AreSizesOf q p fs t i (map size_of es)
 row_said q p fs t i [] f = tt
@@ -73,7 +73,7 @@ row_said q p fs t i (e ∷ es) f = (
 )
 
 -- rows of which each entry is right for its place are right rule by rule
-pub rows_said : (q : Searches) (p : Program) (fs : List plain.Find) (k : ℕ) (rows : List (Vec SizeEntry Global))
+pub rows_said : (q : Searches) (p : Program) (fs : List plain.Derivation) (k : ℕ) (rows : List (Vec SizeEntry Global))
     → ((t i : ℕ) (x : Size) → placed (map (λ row. map (λ e. Some (size_of e)) row.items) rows) t (suc i) ≡ Some x
     → IsSizeOf q p fs (k + t) (suc i) x)
     → AreSizeRowsOf q p fs k (map (λ places. map size_of places.items) rows)
@@ -86,9 +86,9 @@ rows_said q p fs k (row ∷ rows) f = (
       (λ t i x e. subst (λ (n : ℕ). IsSizeOf q p fs n (suc i) x) (let h : k + suc t ≡ suc k + t = omega arith in h) (f (suc t) i x e)),
 )
 
-module _ (p : Program) (pivots : ℕ) (tab : Table) (finds : List Find) (book : IsBook p tab finds) (all : List Candidate)
-    (found : AreCandidatesOf p pivots all) (made : IsMade (searches_of_program p pivots) (setting_of p) (finds_of finds)) (xs : List Attempt)
-    (attempts : AreAttempts p pivots (bounds_of p (finds_of finds)) all xs) (nothing : list_any is_sized xs ≡ false) where
+module _ (p : Program) (pivots : ℕ) (tab : Table) (derivations : List Derivation) (derived : AreDerivedBounds p tab derivations) (all : List Candidate)
+    (found : AreCandidatesOf p pivots all) (made : IsMade (searches_of_program p pivots) (setting_of p) (derivations_of derivations)) (xs : List ComponentAttempt)
+    (attempts : AreAttempts p pivots (bounds_of p (derivations_of derivations)) all xs) (nothing : list_any is_sized xs ≡ false) where
   abbrev said : List (List (Option Size))
   said = put_whys (said_table tab) all xs
 
@@ -98,46 +98,46 @@ module _ (p : Program) (pivots : ℕ) (tab : Table) (finds : List Find) (book : 
   long : (t : ℕ) → length (row_at said t) ≡ length (row_at (rows_of tab) t)
   long t = row_long said (rows_of tab) t lengths
 
-  comps : AreComponentsOf (searches_of_program p pivots) p (map spots_in all)
+  comps : AreComponentsOf (searches_of_program p pivots) p (map result_variables_in all)
   comps = live_components p pivots all found
 
   at_rule : (t i : ℕ) → IsRule p t → IsPlace p t (suc i) → (x : Size) × (placed said t (suc i) ≡ Some x)
-  at_rule t i rule place = go (bounds_of p (finds_of finds) t (suc i)) refl
+  at_rule t i rule place = go (bounds_of p (derivations_of derivations) t (suc i)) refl
     where
-      go : (o : Option Bound) → bounds_of p (finds_of finds) t (suc i) ≡ o → (x : Size) × (placed said t (suc i) ≡ Some x)
-      go (Some b) e = (Sized b, (said_fair p pivots tab finds book all found xs attempts).known t i b e)
+      go : (o : Option Bound) → bounds_of p (derivations_of derivations) t (suc i) ≡ o → (x : Size) × (placed said t (suc i) ≡ Some x)
+      go (Some b) e = (Sized b, (said_fair p pivots tab derivations derived all found xs attempts).known t i b e)
       go None e =
-          listed_there p pivots tab finds book all found (said_table tab) all xs t (suc i) attempts nothing
+          listed_there p pivots tab derivations derived all found (said_table tab) all xs t (suc i) attempts nothing
           ((comps.live t (suc i)).1 (
             rule,
-            missing_live (searches_of_program p pivots) (setting_of p) (map spots_in all) comps (finds_of finds) made t (suc i) rule place e,
+            missing_live (searches_of_program p pivots) (setting_of p) (map result_variables_in all) comps (derivations_of derivations) made t (suc i) rule place e,
             place,
           )) e place.least
           (subst (λ (n : ℕ). suc i ≤ n) (sym (row_long (said_table tab) (rows_of tab) t (said_long (rows_of tab))))
-          (place_within p tab t (suc i) book.keys rule place))
+          (place_within p tab t (suc i) derived.keys rule place))
 
   at_start : (i : ℕ) → i < arity_of p p.start → (x : Size) × (placed said 0 (suc i) ≡ Some x)
   at_start i low = (
     Sized (Input i),
-    (said_fair p pivots tab finds book all found xs attempts).known 0 i (Input i)
-        (ap (λ (o : Option Bound). first_of o (bound_found (finds_of finds) 0 (suc i))) (inside (nat_lt i (arity_of p p.start)) refl)),
+    (said_fair p pivots tab derivations derived all found xs attempts).known 0 i (Input i)
+        (ap (λ (o : Option Bound). first_of o (bound_found (derivations_of derivations) 0 (suc i))) (inside (nat_lt i (arity_of p p.start)) refl)),
   )
     where
       inside : (v : Bool) → nat_lt i (arity_of p p.start) ≡ v → cond v (Some (Input i)) None ≡ Some (Input i)
       inside true e = refl
       inside false e = absurd (let f : ⊥ = grind (arith, low, e) in f)
 
-  -- there is a row of what is said for the virtual entry and for each rule
+  -- there is a row of entries for the virtual entry and for each rule
   pub many : length (put_whys (said_table tab) all xs) ≡ suc (length p.rules)
   many =
       sym (length-map said (λ (row : List (Option Size)). length row))
-      ∙ (ap (λ (ns : List ℕ). length ns) (lengths ∙ book.keys.rows)
+      ∙ (ap (λ (ns : List ℕ). length ns) (lengths ∙ derived.keys.rows)
       ∙ ap (λ (n : ℕ). suc n) (length-map p.rules (λ (r : Rule). arity_of p r.target)))
 
   each_there : (t i : ℕ) → t < length said → 1 ≤ i → i ≤ length (row_at said t) → (x : Size) × (placed said t i ≡ Some x)
   each_there t zero l least most = absurd (omega (arith, least))
   each_there zero (suc i) l least most =
-      let within : length (row_at said 0) ≡ arity_of p p.start = long 0 ∙ long_at (rows_of tab) _ 0 book.keys.rows in
+      let within : length (row_at said 0) ≡ arity_of p p.start = long 0 ∙ long_at (rows_of tab) _ 0 derived.keys.rows in
       at_start i (omega (arith, within, most))
   each_there (suc t) (suc i) l least most =
       let rule = rule_there p t (omega (arith, l, many)) in
@@ -147,18 +147,18 @@ module _ (p : Program) (pivots : ℕ) (tab : Table) (finds : List Find) (book : 
         least = least;
         last =
             subst (λ (n : ℕ). suc i ≤ n)
-            (long (suc t) ∙ (long_at (rows_of tab) _ (suc t) book.keys.rows ∙ arity_at p p.rules t rule.rule rule.numbered)) most;
+            (long (suc t) ∙ (long_at (rows_of tab) _ (suc t) derived.keys.rows ∙ arity_at p p.rules t rule.rule rule.numbered)) most;
       }
 
   -- each place has an entry
   pub all_there : All AreThere said
   all_there = rows_there said each_there
 
-  -- what stands at a place is said of its size
+  -- the entry at a place is that of its size
   pub said_right : (t i : ℕ) (x : Size) → placed said t (suc i) ≡ Some x
-      → IsSizeOf (searches_of_program p pivots) p (finds_of finds) t (suc i) x
-  said_right = (said_fair p pivots tab finds book all found xs attempts).said
+      → IsSizeOf (searches_of_program p pivots) p (derivations_of derivations) t (suc i) x
+  said_right = (said_fair p pivots tab derivations derived all found xs attempts).said
 
   -- as many entries as places
   pub said_places : map (λ (row : List (Option Size)). length row) said ≡ arity_of p p.start ∷ map (λ (r : Rule). arity_of p r.target) p.rules
-  said_places = lengths ∙ book.keys.rows
+  said_places = lengths ∙ derived.keys.rows

@@ -1,4 +1,4 @@
--- The set of a rule that the graph gives is that of the rounds, and a question may be asked of it.
+-- The set of a rule that the graph gives is that of the rounds, and is valid for a rank question.
 use Rattle.std.proofs.Common.{◌≡◌, ◌↔◌, ◌⊎◌, inl, inr, ℕ, zero, suc, ◌+◌, ◌<◌, ◌≤◌, Bool, true, false, List, [], ◌∷◌}
 use Rattle.std.proofs.Common.{length, get_or, Contains, Option, Some, None, refl, sym, ◌∙◌, ap, subst, arith}
 use Rattle.std.specs.Prelude.{slice_get, slice_index_or}
@@ -10,19 +10,19 @@ use Rattle.model.specs.Paths.{HasEdge, IsInSet, target_in, target_of}
 use Rattle.model.proofs.Membership.{contains-is_in, is_in-contained, no_is_not_yes, slice_get-below}
 use Rattle.its_graph.specs.Graphs.{flagged}
 use Rattle.its_graph.proofs.Routes.{path-map}
-use Rattle.proof_tree.specs.proof_nodes.AcceptsPlain.{IsRule}
-use Rattle.proof_tree.specs.proof_nodes.Numbers.{IsAscending}
-use Rattle.proof_tree.specs.declared.answer.EmptyAnswer.{EmptyAnswer}
+use Rattle.cert_types.specs.cert_rules.AcceptsPlain.{IsRule}
+use Rattle.cert_types.specs.cert_rules.Numbers.{IsAscending}
+use Rattle.cert_types.specs.declared.answer.GuardFeasibility.{GuardFeasibility}
 use Rattle.rank_search.specs.rule_questions.EmptyAnswers.{SaysEmpty}
 use Rattle.rank_search.specs.RankAnswers.{IsRuleSet, MayAllRun}
 use Rattle.rank_search.specs.rule_questions.RuleAnswers.{answer_for}
-use Rattle.bound_rounds.specs.Keys.{Bounds, is_untimed}
-use Rattle.bound_rounds.specs.Sets.{IsSetOfRule}
+use Rattle.bound_fixpoint.specs.Keys.{Bounds, is_untimed}
+use Rattle.bound_fixpoint.specs.Sets.{IsSetOfRule}
 use Rattle.its_graph.proofs.SetMembers.{is_rule}
 use Rattle.size_bounds.specs.declared.table.Table as code
-use Rattle.bound_book.specs.ByKey.{bounds_in}
+use Rattle.size_bounds.specs.Tables.{bounds_in}
 use Rattle.time_bounds.specs.Questions.{AreUntimed}
-use Rattle.bound_rounds.proofs.RuleNumbers.{rule_numbered as rule_there}
+use Rattle.bound_fixpoint.proofs.RuleNumbers.{rule_numbered as rule_there}
 use Rattle.model.proofs.Cases.{none_some}
 
 -- numbers that increase ascend
@@ -109,7 +109,7 @@ member_rule p tab t start rule e (inr l) = go (leading p e l.from l.leads)
 pub element_in : (xs : List ℕ) (k d : ℕ) → k < length xs → is_in (get_or xs k d) xs ≡ true
 element_in xs k d l = is_in-contained xs (get_or xs k d) (Contains-get_or xs k d l)
 
--- so a rank question may be asked of it
+-- so it is valid for a rank question
 pub rule_set : (p : Program) (tab : Bounds) (t : ℕ) (set : List ℕ) → is_untimed tab 0 ≡ false → IsRule p t → IsSetOfRule p tab t set
     → IsRuleSet p set t
 rule_set p tab t set start rule h = record {
@@ -119,9 +119,9 @@ rule_set p tab t set start rule h = record {
 }
 
 -- no rule of a set is known to have no point, where each that is known to has a time
-pub may_all_run : (p : Program) (tab : Bounds) (t : ℕ) (set : List ℕ) (empties : List EmptyAnswer) → is_untimed tab t ≡ true
+pub may_all_run : (p : Program) (tab : Bounds) (t : ℕ) (set : List ℕ) (empties : List GuardFeasibility) → is_untimed tab t ≡ true
     → IsSetOfRule p tab t set
-    → ((u : ℕ) (a : EmptyAnswer) → answer_for empties u ≡ Some a → SaysEmpty a → is_untimed tab u ≡ false)
+    → ((u : ℕ) (a : GuardFeasibility) → answer_for empties u ≡ Some a → SaysEmpty a → is_untimed tab u ≡ false)
     → MayAllRun set empties
 may_all_run p tab t set empties untimed h timed = record {
   each = λ k d l a found says.

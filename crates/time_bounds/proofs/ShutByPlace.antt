@@ -19,11 +19,11 @@ use Rattle.model.specs.Programs.{arity_in, arity_of}
 use Rattle.its_model.specs.declared.program.Symbol.{Symbol}
 use Rattle.its_model.specs.declared.program.Program.{Program}
 use Rattle.its_model.specs.Views.{symbol_of, program_of}
-use Rattle.proof_tree.specs.proof_nodes.Gaps.{SymbolPlace}
-use Rattle.proof_tree.specs.proof_nodes.Known.{Table}
+use Rattle.cert_types.specs.cert_rules.Gaps.{SymbolPlace}
+use Rattle.cert_types.specs.cert_rules.Known.{Table}
 use Rattle.time_bounds.specs.Shutting.{lacks_any, at_place, place_if, shut_at, into, shut_by, shut_from, shut_marked}
 use Rattle.time_bounds.specs.Shutting.{mark_of, marks_of, put_mark}
-pub use Rattle.proof_tree.proofs.Numbers.{numbers-more as numbers_more}
+pub use Rattle.cert_types.proofs.Numbers.{numbers-more as numbers_more}
 
 -- one number more that is tested
 pub filter_more : (test : ℕ → Bool) (a n : ℕ) → filter test (range_with_len a (n + 1)) ≡ filter test (range_with_len a n) ++ cond (test (a + n)) ((a + n) ∷ []) []
@@ -45,7 +45,7 @@ place_more tab rules a n =
     mapped true = refl
     mapped false = refl
 
--- the next place, where it is shut, stands behind the shut ones so far
+-- the next place, where it is shut, is appended to the shut ones so far
 pub place_pushed : (tab : Table) (rules : List ℕ) (a n : ℕ) (first old new : List SymbolPlace) → old ≡ first ++ shut_at tab rules a n
     → new ≡ old ++ place_if tab rules a (n + 1) → new ≡ first ++ shut_at tab rules a (n + 1)
 place_pushed tab rules a n first old new h g =

@@ -10,18 +10,18 @@ use Rattle.std.proofs.lemmas.Bool.Decides.{eqb_tells}
 use Rattle.model.specs.Programs.{Program, Symbol, arity_in, arity_of}
 use Rattle.model.specs.Entries.{is_in, entries}
 use Rattle.model.specs.Paths.{target_of, same_symbol}
-use Rattle.model.proofs.Membership.{is_in-cases, slice_get-below, told_same, same_number, no_is_not_yes, is_in-filter}
-use Rattle.model.proofs.Membership.{filter-in, list_any-from, list_any-told}
-use Rattle.proof_tree.specs.proof_nodes.Gaps.{SymbolPlace}
-use Rattle.proof_tree.specs.proof_nodes.Known.{Table}
-use Rattle.bound_rounds.specs.Keys.{Bounds, lacks, over}
-use Rattle.bound_rounds.specs.Sets.{IsShut, StandsBefore, ArePlacesInOrder, AreShutOf}
+use Rattle.model.proofs.Membership.{is_in-cases, slice_get-below, same_number-sound, same_number, no_is_not_yes, is_in-filter}
+use Rattle.model.proofs.Membership.{filter-in, list_any-from, list_any-sound}
+use Rattle.cert_types.specs.cert_rules.Gaps.{SymbolPlace}
+use Rattle.cert_types.specs.cert_rules.Known.{Table}
+use Rattle.bound_fixpoint.specs.Keys.{Bounds, lacks, over}
+use Rattle.bound_fixpoint.specs.Sets.{IsShut, StandsBefore, ArePlacesInOrder, AreShutOf}
 use Rattle.size_bounds.specs.declared.table.Table as code
 use Rattle.size_bounds.specs.Tables.{table_of}
-use Rattle.bound_book.specs.ByKey.{bounds_in}
+use Rattle.size_bounds.specs.Tables.{bounds_in}
 use Rattle.time_bounds.proofs.TablesOver.{table_over, place_size}
 use Rattle.time_bounds.specs.Shutting.{lacks_any, at_place, shut_at, into, shut_from}
-pub use Rattle.bound_rounds.proofs.Cases.{lacks_none as lacking_is_none}
+pub use Rattle.bound_fixpoint.proofs.Cases.{lacks_none as lacking_is_none}
 
 -- the first of a list, where there is one
 abbrev Head : (SymbolPlace → Type 0) → List SymbolPlace → Type 0
@@ -98,14 +98,14 @@ range_in a (suc n) i low high = go (eqb_tells i a) (λ l. range_in (a + 1) n i l
     go (inr e) ih = or_right (i == a) (is_in i (range_with_len (a + 1) n)) (ih (let d = e.1 in omega arith))
 
 -- the places of a list of numbers
-mapped_told : (a : ℕ) (is : List ℕ) (s : SymbolPlace) → Contains (map (at_place a) is) s → (a ≡ s.symbol) × (is_in s.place is ≡ true)
-mapped_told a [] s (k, low, e) = absurd (omega (arith, low))
-mapped_told a (i ∷ is) s (zero, low, e) = (
+mapped-sound : (a : ℕ) (is : List ℕ) (s : SymbolPlace) → Contains (map (at_place a) is) s → (a ≡ s.symbol) × (is_in s.place is ≡ true)
+mapped-sound a [] s (k, low, e) = absurd (omega (arith, low))
+mapped-sound a (i ∷ is) s (zero, low, e) = (
   ap (λ (q : SymbolPlace). q.symbol) e,
   or_left (s.place == i) (is_in s.place is) (subst (λ (n : ℕ). (n == i) ≡ true) (ap (λ (q : SymbolPlace). q.place) e) (same_number i)),
 )
-mapped_told a (i ∷ is) s (suc k, low, e) =
-    let rest = mapped_told a is s (k, omega (arith, low), e) in (rest.0, or_right (s.place == i) (is_in s.place is) rest.1)
+mapped-sound a (i ∷ is) s (suc k, low, e) =
+    let rest = mapped-sound a is s (k, omega (arith, low), e) in (rest.0, or_right (s.place == i) (is_in s.place is) rest.1)
 
 mapped_listed : (a : ℕ) (is : List ℕ) (i : ℕ) → is_in i is ≡ true → Contains (map (at_place a) is) (at_place a i)
 mapped_listed a [] i h = absurd (no_is_not_yes false refl h)
@@ -119,10 +119,10 @@ mapped_listed a (j ∷ is) i h = go (is_in-cases i j is h) (λ m. mapped_listed 
     go (inl e) ih = (zero, omega arith, ap (at_place a) (sym e))
     go (inr m) ih = later (ih m)
 
--- two symbols that are told to be the same
-same_told : (o : Option ℕ) (a : ℕ) → same_symbol o (Some a) ≡ true → o ≡ Some a
-same_told None a h = absurd (no_is_not_yes false refl h)
-same_told (Some b) a h = ap Some (told_same b a h)
+-- two symbols for which the test of equality succeeds
+same_symbol-sound : (o : Option ℕ) (a : ℕ) → same_symbol o (Some a) ≡ true → o ≡ Some a
+same_symbol-sound None a h = absurd (no_is_not_yes false refl h)
+same_symbol-sound (Some b) a h = ap Some (same_number-sound b a h)
 
 same_there : (o : Option ℕ) (a : ℕ) → o ≡ Some a → same_symbol o (Some a) ≡ true
 same_there o a e = ap (λ (q : Option ℕ). same_symbol q (Some a)) e ∙ same_number a
@@ -174,7 +174,7 @@ module _ (p : Program) (tab : Table) (es : List ℕ) where
         lacking = r.lacking;
       }
       go (inl m) ih =
-          let t = mapped_told a (filter (lacks_any tab (into p es a)) (range_with_len 1 (arity_of p a))) s m in
+          let t = mapped-sound a (filter (lacks_any tab (into p es a)) (range_with_len 1 (arity_of p a))) s m in
           let f = filter-in (lacks_any tab (into p es a)) (range_with_len 1 (arity_of p a)) s.place t.1 in record {
             low = omega (arith, t.0);
             high = omega (arith, t.0);
@@ -212,9 +212,9 @@ are_shut p b set = record {
   where
     told : (s : SymbolPlace) → Listed p (over b) (entries p set) 0 (length p.symbols) s → IsShut p b set s
     told s h =
-        let some = list_any-told (λ e. lacks ((over b).size e s.place)) (into p (entries p set) s.symbol) h.lacking in
+        let some = list_any-sound (λ e. lacks ((over b).size e s.place)) (into p (entries p set) s.symbol) h.lacking in
         let among = filter-in (λ e. same_symbol (target_of p e) (Some s.symbol)) (entries p set) some.0 some.1 in
-        let leads = same_told (target_of p some.0) s.symbol among.1 in
+        let leads = same_symbol-sound (target_of p some.0) s.symbol among.1 in
         let range = in_range 1 (arity_of p s.symbol) s.place h.place in record {
           entry = some.0;
           enters = among.0;

@@ -13,11 +13,11 @@ use Rattle.size_bounds.specs.declared.table.Table.{Table}
 use Rattle.size_bounds.specs.Tables.{entry_at, row_at, lemma_stored, number_at}
 use Rattle.time_bounds.specs.AnalysisLemmas.{CarriesSize, CarriesSizes}
 use Rattle.time_bounds.specs.Numbered.{EachNumbered, size_stored, CarriesNumber}
-use Rattle.bound_book.specs.ByKey.{put_entry, put_place}
+use Rattle.bound_derivations.specs.ByKey.{put_entry, put_place}
 use Rattle.time_bounds.specs.SizeSaid.{placed, CarriesIfThere, CarryRow, CarryPlaces, KeepPlaces, IsReason}
 use Rattle.model.proofs.Cases.{none_some as no_entry, some_same}
 
--- what stands at a position after one more was pushed
+-- the element at a position after one more was pushed
 entry_pushed : {A : Type 0} (xs : List (Option A)) (x : Option A) (i : ℕ) (a : A) → entry_at (xs ++ x ∷ []) i ≡ Some a
     → (entry_at xs i ≡ Some a) ⊎ ((i ≡ length xs) × (x ≡ Some a))
 entry_pushed [] x zero a e = inr (refl, e)
@@ -62,13 +62,13 @@ place_put (row ∷ rows) zero (suc j) x (suc t) (suc i) a e = inl e
 place_put (row ∷ rows) (suc u) j x zero (suc i) a e = inl e
 place_put (row ∷ rows) (suc u) j x (suc t) (suc i) a e = place_put rows u j x t (suc i) a e
 
--- nothing is said
+-- there are no entries
 pub row_nothing : (row : List (Option Stored)) (said : List (Option SizeEntry)) → said ≡ [] → CarryRow row said
 row_nothing row said none = record {
   each = λ i e there. absurd (no_entry e (sym (ap (λ (os : List (Option SizeEntry)). entry_at os i) none) ∙ there));
 }
 
--- where nothing is said of any place, all that is said carries the numbers of the table
+-- where no place has an entry, all entries carry the numbers of the table
 pub places_nothing : (tab : Table) (said : List (Vec (Option SizeEntry) Global)) → said ≡ [] → CarryPlaces tab (map (λ row. row.items) said)
 places_nothing tab said none = record {
   each = λ t i e there. absurd (nowhere t i e (sym (ap (λ (vs : List (Vec (Option SizeEntry) Global)). placed (map (λ row. row.items) vs) t i) none) ∙ there));
@@ -141,10 +141,10 @@ reason_carries (entries.Known s) h n = absurd (known h.why h.is_why)
     known : (o : Option NoSize) → option_map size_of (Some (entries.Known s)) ≡ option_map Unsized o → ⊥
     known None e = cc
     known (Some w) e = cc
-reason_carries (entries.Loose l) h n = tt
-reason_carries (entries.Tripped t) h n = tt
+reason_carries (entries.UnboundedSide l) h n = tt
+reason_carries (entries.OutOfLimits t) h n = tt
 reason_carries (entries.Missing m) h n = tt
-reason_carries (entries.Bent m) h n = tt
+reason_carries (entries.Nonlinear m) h n = tt
 reason_carries (entries.Untimed r) h n = tt
 reason_carries (entries.Large k) h n = tt
 
@@ -189,7 +189,7 @@ rows_all ns t (row ∷ rows) h = (
       (λ u j e there. subst (λ (n : ℕ). CarriesNumber (ns n (suc j)) (size_stored e)) (let z : t + suc u ≡ suc t + u = omega arith in z) (h (suc u) j e there)),
 )
 
--- rows in which all entries are said carry the numbers of the table, rule by rule
+-- rows in which all entries exist carry the numbers of the table, rule by rule
 pub all_carried : (tab : Table) (rows : List (Vec SizeEntry Global)) (said : List (List (Option SizeEntry)))
     → map (λ row. map (λ x. Some x) row.items) rows ≡ said → CarryPlaces tab said → EachNumbered (CarriesSizes (number_at tab)) 0 (map (λ row. row.items) rows)
 all_carried tab rows said same h =

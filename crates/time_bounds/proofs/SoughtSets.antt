@@ -1,4 +1,4 @@
--- Over which sets functions are looked for, and which places are shut, in two rules k(A) -> k(A).
+-- The sets over which functions are searched, and the shut places, for two rules k(A) -> k(A).
 use Rattle.std.proofs.Common.{◌≡◌, inl, inr, ℕ, zero, suc, ◌≤◌, true, false, [], ◌∷◌, Some, None, refl, sym, ◌∙◌}
 use Rattle.std.proofs.Common.{subst, arith}
 use Rattle.std.specs.List.{Contains}
@@ -8,13 +8,13 @@ use Rattle.model.specs.Paths.{IsInSet, LeadsBackTo, Here, target_of}
 use Rattle.model.specs.Programs.{arity_of}
 use Rattle.model.proofs.Cases.{none_some, some_none, some_same}
 use Rattle.model.proofs.Membership.{is_in-cases, no_is_not_yes}
-use Rattle.proof_tree.specs.proof_nodes.Gaps.{SymbolPlace}
-use Rattle.proof_tree.proofs.proof_nodes.WorkedAccepted.{of_one, of_two}
-use Rattle.proof_tree.specs.proof_setting.WorkedGaps.{first_place}
-use Rattle.bound_rounds.specs.Keys.{Bounds, IsPlace, is_untimed}
-use Rattle.bound_rounds.specs.Sets.{IsSetOfRule, IsShut, AreShutOf}
-use Rattle.bound_rounds.proofs.Cases.{either}
-use Rattle.bound_rounds.proofs.ListMembers.{contains-cases, contains-none}
+use Rattle.cert_types.specs.cert_rules.Gaps.{SymbolPlace}
+use Rattle.cert_types.proofs.cert_rules.WorkedAccepted.{of_one, of_two}
+use Rattle.cert_types.specs.cert_program.WorkedGaps.{first_place}
+use Rattle.bound_fixpoint.specs.Keys.{Bounds, IsPlace, is_untimed}
+use Rattle.bound_fixpoint.specs.Sets.{IsSetOfRule, IsShut, AreShutOf}
+use Rattle.bound_fixpoint.proofs.Cases.{either}
+use Rattle.bound_fixpoint.proofs.ListMembers.{contains-cases, contains-none}
 use Rattle.time_bounds.specs.WorkedTimeWhys.{twice, second_said, unsized_said, both_said, SetsAreSought}
 
 -- where rule 2 has a time, the set of rule 1 is itself
@@ -67,7 +67,7 @@ keeps_open : (b : Bounds) (e : ℕ) (s : SymbolPlace) → target_of twice e ≡ 
 keeps_open b e s t known place missing =
     some_none (Input 0) (sym known ∙ subst (λ (i : ℕ). b e i ≡ None) (one_place e s.place t place) missing)
 
--- where both entries have sizes, nothing is shut for rule 1
+-- where both entries have sizes, no place is shut for rule 1
 none_shut : (s : SymbolPlace) → IsShut twice second_said (1 ∷ []) s → ⊥
 none_shut s h =
     of_two (λ e. IsPlace twice e s.place → second_said e s.place ≡ None → ⊥) 0 2 (keeps_open second_said 0 s refl refl)

@@ -7,13 +7,13 @@ use Rattle.model.specs.Programs as plain
 use Rattle.model.specs.Programs.{arity_of}
 use Rattle.its_model.specs.declared.program.Rule.{Rule}
 use Rattle.its_model.specs.Views.{rule_of}
-use Rattle.proof_tree.specs.proof_nodes.Nodes.{Spot}
-use Rattle.proof_tree.specs.declared.answer.EmptyAnswer.{EmptyAnswer}
-use Rattle.bound_rounds.specs.Keys.{key}
-use Rattle.time_bounds.specs.declared.fates.Fate.{Fate}
-use Rattle.time_bounds.specs.Beginning.{empty_here, empty_finds, empty_key, empty_keys, unreached_here, unreached_finds}
-use Rattle.time_bounds.specs.Beginning.{never_here, never_finds}
-use Rattle.proof_tree.proofs.Numbers.{numbers-more}
+use Rattle.cert_types.specs.cert_rules.Nodes.{ResultVariable}
+use Rattle.cert_types.specs.declared.answer.GuardFeasibility.{GuardFeasibility}
+use Rattle.bound_fixpoint.specs.Keys.{key}
+use Rattle.time_bounds.specs.declared.rule_statuses.RuleStatus.{RuleStatus}
+use Rattle.time_bounds.specs.Beginning.{empty_here, empty_derivations, empty_key, empty_keys, unreached_here, unreached_derivations}
+use Rattle.time_bounds.specs.Beginning.{never_here, never_derivations}
+use Rattle.cert_types.proofs.Numbers.{numbers-more}
 
 -- what is done, with one more, and what is left then, is all
 pub more : {A : Type 0} (done next here rest all : List A) → next ≡ done ++ here → done ++ (here ++ rest) ≡ all
@@ -22,32 +22,32 @@ more done next here rest all e h =
     ap (λ (xs : List _). xs ++ rest) e ∙ (append_assoc done here rest ∙ h)
 
 -- what is left begins with the rule at this position
-pub empties-left : (t : ℕ) (empties : List EmptyAnswer) (i : ℕ) (a : EmptyAnswer) → i < length empties
-    → a ≡ get_or empties i a → empty_finds t (drop i empties) ≡ empty_here t a ++ empty_finds (t + 1) (drop (i + 1) empties)
+pub empties-left : (t : ℕ) (empties : List GuardFeasibility) (i : ℕ) (a : GuardFeasibility) → i < length empties
+    → a ≡ get_or empties i a → empty_derivations t (drop i empties) ≡ empty_here t a ++ empty_derivations (t + 1) (drop (i + 1) empties)
 empties-left t empties i a low e =
-    ap (empty_finds t) (drop_more empties i a low)
-    ∙ ap (λ (x : EmptyAnswer). empty_here t x ++ empty_finds (t + 1) (drop (i + 1) empties)) (sym e)
+    ap (empty_derivations t) (drop_more empties i a low)
+    ∙ ap (λ (x : GuardFeasibility). empty_here t x ++ empty_derivations (t + 1) (drop (i + 1) empties)) (sym e)
 
-pub keys-left : (t : ℕ) (fates : List Fate) (i : ℕ) (d : Fate) → i < length fates
-    → empty_keys t (drop i fates) ≡ empty_key t (get_or fates i d) ++ empty_keys (t + 1) (drop (i + 1) fates)
-keys-left t fates i d low = ap (empty_keys t) (drop_more fates i d low)
+pub keys-left : (t : ℕ) (rule_statuses : List RuleStatus) (i : ℕ) (d : RuleStatus) → i < length rule_statuses
+    → empty_keys t (drop i rule_statuses) ≡ empty_key t (get_or rule_statuses i d) ++ empty_keys (t + 1) (drop (i + 1) rule_statuses)
+keys-left t rule_statuses i d low = ap (empty_keys t) (drop_more rule_statuses i d low)
 
-pub unreached-left : (dead : List Spot) (t : ℕ) (fates : List Fate) (i : ℕ) (d : Fate) → i < length fates
-    → unreached_finds dead t (drop i fates)
-    ≡ unreached_here dead t (get_or fates i d) ++ unreached_finds dead (t + 1) (drop (i + 1) fates)
-unreached-left dead t fates i d low = ap (unreached_finds dead t) (drop_more fates i d low)
+pub unreached-left : (dead : List ResultVariable) (t : ℕ) (rule_statuses : List RuleStatus) (i : ℕ) (d : RuleStatus) → i < length rule_statuses
+    → unreached_derivations dead t (drop i rule_statuses)
+    ≡ unreached_here dead t (get_or rule_statuses i d) ++ unreached_derivations dead (t + 1) (drop (i + 1) rule_statuses)
+unreached-left dead t rule_statuses i d low = ap (unreached_derivations dead t) (drop_more rule_statuses i d low)
 
-pub never-left : (p : plain.Program) (t : ℕ) (fates : List Fate) (rules : List Rule) (i : ℕ) (d : Fate) (r : Rule)
-    → length fates ≡ length rules → i < length rules → r ≡ get_or rules i r
-    → never_finds p t (drop i fates) (map rule_of (drop i rules))
-    ≡ never_here t (get_or fates i d) (arity_of p r.target)
-    ++ never_finds p (t + 1) (drop (i + 1) fates) (map rule_of (drop (i + 1) rules))
-never-left p t fates rules i d r same low e =
-    ap (λ (fs : List Fate). never_finds p t fs (map rule_of (drop i rules)))
-    (drop_more fates i d (let z : i < length fates = omega (arith, same, low) in z))
-    ∙ (ap (λ (rs : List Rule). never_finds p t (get_or fates i d ∷ drop (i + 1) fates) (map rule_of rs)) (drop_more rules i r low)
-    ∙ ap (λ (x : Rule). never_here t (get_or fates i d) (arity_of p x.target)
-    ++ never_finds p (t + 1) (drop (i + 1) fates) (map rule_of (drop (i + 1) rules))) (sym e))
+pub never-left : (p : plain.Program) (t : ℕ) (rule_statuses : List RuleStatus) (rules : List Rule) (i : ℕ) (d : RuleStatus) (r : Rule)
+    → length rule_statuses ≡ length rules → i < length rules → r ≡ get_or rules i r
+    → never_derivations p t (drop i rule_statuses) (map rule_of (drop i rules))
+    ≡ never_here t (get_or rule_statuses i d) (arity_of p r.target)
+    ++ never_derivations p (t + 1) (drop (i + 1) rule_statuses) (map rule_of (drop (i + 1) rules))
+never-left p t rule_statuses rules i d r same low e =
+    ap (λ (fs : List RuleStatus). never_derivations p t fs (map rule_of (drop i rules)))
+    (drop_more rule_statuses i d (let z : i < length rule_statuses = omega (arith, same, low) in z))
+    ∙ (ap (λ (rs : List Rule). never_derivations p t (get_or rule_statuses i d ∷ drop (i + 1) rule_statuses) (map rule_of rs)) (drop_more rules i r low)
+    ∙ ap (λ (x : Rule). never_here t (get_or rule_statuses i d) (arity_of p x.target)
+    ++ never_derivations p (t + 1) (drop (i + 1) rule_statuses) (map rule_of (drop (i + 1) rules))) (sym e))
 
 -- the key of one place more
 pub places-more : (t n : ℕ) → map (λ i. key t i) (range_with_len 1 (n + 1)) ≡ map (λ i. key t i) (range_with_len 1 n) ++ key t (n + 1) ∷ []

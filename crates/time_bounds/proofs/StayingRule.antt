@@ -8,12 +8,12 @@ use Rattle.model.specs.Programs.{arity_of}
 use Rattle.model.proofs.Cases.{none_some, some_none, some_same}
 use Rattle.model.proofs.Membership.{is_in-cases, no_is_not_yes}
 use Rattle.outcome.specs.Reports.{NoFunction}
-use Rattle.proof_tree.specs.proof_nodes.Gaps.{SymbolPlace}
-use Rattle.proof_tree.specs.proof_setting.WorkedGaps.{looping}
-use Rattle.proof_tree.proofs.proof_setting.WorkedGaps.{gaps_of_programs}
-use Rattle.bound_rounds.specs.Keys.{IsPlace, is_untimed}
-use Rattle.bound_rounds.specs.Sets.{IsSetOfRule, IsShut, AreShutOf}
-use Rattle.bound_rounds.proofs.Cases.{either}
+use Rattle.cert_types.specs.cert_rules.Gaps.{SymbolPlace}
+use Rattle.cert_types.specs.cert_program.WorkedGaps.{looping}
+use Rattle.cert_types.proofs.cert_program.WorkedGaps.{gaps_of_programs}
+use Rattle.bound_fixpoint.specs.Keys.{IsPlace, is_untimed}
+use Rattle.bound_fixpoint.specs.Sets.{IsSetOfRule, IsShut, AreShutOf}
+use Rattle.bound_fixpoint.proofs.Cases.{either}
 use Rattle.time_bounds.specs.TimeWhys.{HasNoTime}
 use Rattle.time_bounds.specs.WorkedReports.{staying_gap, staying_said}
 

@@ -2,13 +2,13 @@
 use Rattle.std.proofs.Common.{◌≡◌, ℕ, suc, ◌+◌, List, [], ◌∷◌, ◌++◌, length, refl, sym, subst, arith}
 use Rattle.outcome.specs.declared.entry.TimeEntry.{TimeEntry}
 use Rattle.outcome.specs.declared.entry.TimeEntry.TheVariants as times
-use Rattle.bound_rounds.specs.Keys.{Bounds}
+use Rattle.bound_fixpoint.specs.Keys.{Bounds}
 use Rattle.time_bounds.specs.TimesSaid.{IsKnownTime}
 use Rattle.time_bounds.specs.AnalysisLemmas.{CarriesTime, AreGapsInOrder}
 use Rattle.time_bounds.specs.Numbered.{EachNumbered}
 use Rattle.time_bounds.proofs.NumberedLists.{each_pushed}
 
--- one time more that carries the number of its lemma stands behind those that do
+-- one more time that carries the number of its lemma is appended to those that do
 pub times_carried : (ns : ℕ → ℕ → ℕ) (xs new : List TimeEntry) (x : TimeEntry) (t : ℕ) → EachNumbered (CarriesTime ns) 1 xs → new ≡ xs ++ x ∷ [] → t ≡ length xs + 1
     → CarriesTime ns t x → EachNumbered (CarriesTime ns) 1 new
 times_carried ns xs new x t h e at k =
@@ -21,7 +21,7 @@ order_more : (n : ℕ) (xs : List TimeEntry) (m : ℕ) (x : TimeEntry) (k : ℕ)
 order_more n [] m x k h g = subst (λ (j : ℕ). AreGapsInOrder j (x ∷ []) k) (sym h) g
 order_more n (times.Known s ∷ xs) m x k h g = order_more n xs m x k h g
 order_more n (times.Gap i ∷ xs) m x k h g = (h.0, order_more (suc n) xs m x k h.1 g)
-order_more n (times.Tripped t ∷ xs) m x k h g = order_more n xs m x k h g
+order_more n (times.OutOfLimits t ∷ xs) m x k h g = order_more n xs m x k h g
 order_more n (times.Large l ∷ xs) m x k h g = order_more n xs m x k h g
 
 -- one entry more leaves the gaps numbered in the order of rules
@@ -33,5 +33,5 @@ gaps_ordered xs new x m k h e g = subst (λ (ys : List TimeEntry). AreGapsInOrde
 pub known_ordered : (b : Bounds) (t n : ℕ) (x : TimeEntry) → IsKnownTime b t x → AreGapsInOrder n (x ∷ []) n
 known_ordered b t n (times.Known s) h = refl
 known_ordered b t n (times.Gap g) h = absurd h
-known_ordered b t n (times.Tripped r) h = absurd h
+known_ordered b t n (times.OutOfLimits r) h = absurd h
 known_ordered b t n (times.Large l) h = absurd h

@@ -4,7 +4,7 @@ use Rattle.std.proofs.Common.{subst, arith}
 use Rattle.std.specs.Prelude.{slice_index_or}
 use Rattle.model.specs.Programs.{Program}
 use Rattle.model.specs.Bounds.{Bound, SumOf, Parts, NoParts, Part, val, val_sum, IsBased, AreBased}
-use Rattle.model.specs.Facts.{HoldsTotal}
+use Rattle.model.specs.Facts.{HoldsLength}
 use Rattle.model.specs.Runs.{count, sizes_of_start}
 use Rattle.its_graph.proofs.Totals.{sum_from_one, steps_by_rule}
 use Rattle.bound_table.specs.InForce.{rewritten}
@@ -79,7 +79,7 @@ pub totals_hold : TotalsHold
 totals_hold = record { each = λ p times b h e. holds p times b h (total_is times b e) }
   where
     holds : (p : Program) (times : List (Option Bound)) (b : Bound) → TimesHold p times
-        → (ps : Parts) × (known_parts times ≡ Some ps) × (b ≡ rewritten (SumOf ps)) → HoldsTotal p b
+        → (ps : Parts) × (known_parts times ≡ Some ps) × (b ≡ rewritten (SumOf ps)) → HoldsLength p b
     holds p times b h (ps, known, is) = record {
       each = λ start steps c run.
           let m = sizes_of_start start in

@@ -1,4 +1,4 @@
--- What is told of a place without a size is so of the program.
+-- The reason given for a place without a size is true of the program.
 use Rattle.std.proofs.Common.{◌≡◌, ℕ, Bool, true, List, [], length, Option, Some, None, refl}
 use Rattle.std.proofs.Common.{sym, subst}
 use Rattle.std.specs.List.{AllByRecursion}
@@ -6,93 +6,93 @@ use Rattle.std.proofs.lemmas.List.Elements.{All-from_recursion, recursion_from_A
 use Rattle.model.specs.Programs.{Program, Rule}
 use Rattle.model.proofs.Cases.{none_some, some_same}
 use Rattle.its_model.specs.Valid.{IsValid}
-use Rattle.outcome.specs.Reports.{NoSize, SizeLoose, SizeTripped}
-use Rattle.proof_tree.specs.AnswerViews.{scaled_of}
-use Rattle.proof_tree.specs.proof_nodes.Gaps.{ScaledPoint}
-use Rattle.proof_tree.specs.proof_nodes.Known.{Table}
-use Rattle.proof_tree.specs.proof_nodes.Nodes.{Spot, Member}
-use Rattle.proof_tree.specs.proof_nodes.Setting.{Setting}
-use Rattle.proof_tree.specs.proof_setting.Setting.{setting_of}
-use Rattle.proof_tree.specs.declared.answer.EmptyAnswer.{EmptyAnswer}
-use Rattle.proof_tree.specs.declared.answer.EmptyAnswer.TheVariants as empties
-use Rattle.proof_tree.proofs.proof_nodes.CheckLists.{map-each}
+use Rattle.outcome.specs.Reports.{NoSize, SizeUnbounded, SizeTripped}
+use Rattle.cert_types.specs.AnswerViews.{scaled_of}
+use Rattle.cert_types.specs.cert_rules.Gaps.{ScaledPoint}
+use Rattle.cert_types.specs.cert_rules.Known.{Table}
+use Rattle.cert_types.specs.cert_rules.Nodes.{ResultVariable, Member}
+use Rattle.cert_types.specs.cert_rules.Setting.{Setting}
+use Rattle.cert_types.specs.cert_program.Setting.{setting_of}
+use Rattle.cert_types.specs.declared.answer.GuardFeasibility.{GuardFeasibility}
+use Rattle.cert_types.specs.declared.answer.GuardFeasibility.TheVariants as empties
+use Rattle.cert_types.proofs.cert_rules.CheckLists.{map-each}
 use Rattle.guard_prep.specs.Prepared.{prepared}
 use Rattle.rank_search.specs.rule_questions.EmptyAnswers.{IsEmptyAnswer}
 use Rattle.rank_search.specs.rule_questions.RuleAnswers.{point_in}
 use Rattle.local_size.specs.Places.{value_on}
-use Rattle.local_size.specs.LocalAnswers.{Local, HasBound, IsLooseOn, HasTripped}
-use Rattle.local_size.proofs.LooseAnswers.{loose-answers}
+use Rattle.local_size.specs.LocalAnswers.{Local, HasBound, IsUnboundedOn, HasTripped}
+use Rattle.local_size.proofs.UnboundedAnswers.{unbounded-answers}
 use Rattle.rvg_components.specs.Flows.{Locals}
-use Rattle.bound_rounds.specs.Answers.{Lacks, TellsSizing, TellsSize}
-use Rattle.bound_rounds.specs.Components.{IsOneOf}
-use Rattle.bound_rounds.specs.Keys.{Bounds, key, has_key, over}
-use Rattle.bound_rounds.specs.Searches.{OfSize, SizeOutcome, SizedBy, Unsized}
-use Rattle.bound_rounds.proofs.Cases.{either}
-use Rattle.bound_rounds.proofs.Keys.{has_key-cases, has_key-none}
+use Rattle.bound_fixpoint.specs.Answers.{Lacks, TellsSizing, TellsSize}
+use Rattle.bound_fixpoint.specs.Components.{IsOneOf}
+use Rattle.bound_fixpoint.specs.Keys.{Bounds, key, has_key, over}
+use Rattle.bound_fixpoint.specs.Searches.{OfSize, SizeOutcome, SizedBy, Unsized}
+use Rattle.bound_fixpoint.proofs.Cases.{either}
+use Rattle.bound_fixpoint.proofs.Keys.{has_key-cases, has_key-none}
 use Rattle.time_bounds.specs.ProgramSearches.{searches_of_program}
-use Rattle.time_bounds.specs.ProgramSizes.{IsLocalOf, AreLocalsOf, loose_reason, trip_reason, first_reason, lacks_arms}
+use Rattle.time_bounds.specs.ProgramSizes.{IsLocalOf, AreLocalsOf, unbounded_reason, limit_hit_reason, first_reason, lacks_side_bounds}
 use Rattle.time_bounds.specs.ProgramSizes.{AnswersMembers, IsJudged, AnswersPlaces}
 use Rattle.time_bounds.specs.SizeWhys.{IsComponentOf}
 use Rattle.time_bounds.specs.SizeWhys.{HasNoSize}
 use Rattle.time_bounds.proofs.ArmlessPlaces.{ReadsNothing, armless_alone}
 use Rattle.time_bounds.proofs.FirstLacks.{from_both, judged_so}
-use Rattle.time_bounds.proofs.MemberLoops.{loop_told}
-use Rattle.time_bounds.proofs.PassedForms.{loose_passes}
-use Rattle.time_bounds.proofs.PlaceAnswers.{loose_answered}
-use Rattle.time_bounds.proofs.RightSizings.{one_of, reason_told, spot_of_rule}
+use Rattle.time_bounds.proofs.MemberLoops.{loop_decided}
+use Rattle.time_bounds.proofs.PassedForms.{unbounded_passes}
+use Rattle.time_bounds.proofs.PlaceAnswers.{unbounded_answered}
+use Rattle.time_bounds.proofs.RightSizings.{one_of, reason-sound, result_variable_of_rule}
 
 module _ (p : Program) (pivots : ℕ) (valid : IsValid p) where
   abbrev s : Setting
   s = setting_of p
 
   -- the point of an answer has a number for each variable
-  kept_long : (rule : Rule) (t : ℕ) (a : EmptyAnswer) (kept : ScaledPoint) → IsEmptyAnswer (prepared rule) t pivots a
+  kept_long : (rule : Rule) (t : ℕ) (a : GuardFeasibility) (kept : ScaledPoint) → IsEmptyAnswer (prepared rule) t pivots a
       → point_in (Some a) ≡ Some kept → length kept.parts ≡ (prepared rule).unknowns
   kept_long rule t (empties.Empty n) kept h e = absurd (none_some kept e)
   kept_long rule t (empties.Point z) kept h e =
       subst (λ (k : ScaledPoint). length k.parts ≡ (prepared rule).unknowns) (some_same (scaled_of z) kept e) h.0.long
-  kept_long rule t (empties.Tripped x) kept h e = absurd (none_some kept e)
+  kept_long rule t (empties.OutOfLimits x) kept h e = absurd (none_some kept e)
 
-  -- a loose answer is so of its place
-  loose_so : (m : Spot) (x : Local) → IsLocalOf p pivots m.rule m.place x → (why : NoSize) → loose_reason x ≡ Some why
+  -- a loose answer is true of its place
+  unbounded_so : (m : ResultVariable) (x : Local) → IsLocalOf p pivots m.rule m.place x → (why : NoSize) → unbounded_reason x ≡ Some why
       → ReadsNothing p m x × ((b : Bounds) → HasNoSize p pivots b m.rule m.place why)
-  loose_so m (HasBound l) is why e = absurd (none_some why e)
-  loose_so m (HasTripped t) is why e = absurd (none_some why e)
-  loose_so m (IsLooseOn side ray kept) is why e =
-      let here = spot_of_rule p m is.rule is.numbered is.place in
-      let found = loose_answered p pivots is.rule m.rule is.numbered m.place side ray kept is.local in
-      let shown = loose-answers.ray p is.rule m pivots found.0 side ray kept valid here found.1 found.2 in (
+  unbounded_so m (HasBound l) is why e = absurd (none_some why e)
+  unbounded_so m (HasTripped t) is why e = absurd (none_some why e)
+  unbounded_so m (IsUnboundedOn side ray kept) is why e =
+      let here = result_variable_of_rule p m is.rule is.numbered is.place in
+      let found = unbounded_answered p pivots is.rule m.rule is.numbered m.place side ray kept is.local in
+      let shown = unbounded-answers.ray p is.rule m pivots found.0 side ray kept valid here found.1 found.2 in (
         (λ j. refl),
-        λ b. subst (λ (w : NoSize). HasNoSize p pivots b m.rule m.place w) (some_same (SizeLoose side ray kept) why e)
+        λ b. subst (λ (w : NoSize). HasNoSize p pivots b m.rule m.place w) (some_same (SizeUnbounded side ray kept) why e)
             record {
               rule = is.rule;
               numbered = is.numbered;
               straight = is.local.0.straight;
-              long_ray = (loose-answers.limits p is.rule m pivots found.0 side ray kept valid here found.2).0;
+              long_ray = (unbounded-answers.limits p is.rule m pivots found.0 side ray kept valid here found.2).0;
               long_kept = kept_long is.rule m.rule found.0 kept found.1 found.2.point;
               from = shown.1;
               along = shown.0;
-              passes = loose_passes (prepared is.rule).rows (prepared is.rule).left (value_on side (prepared is.rule) m.place) kept ray
+              passes = unbounded_passes (prepared is.rule).rows (prepared is.rule).left (value_on side (prepared is.rule) m.place) kept ray
                   shown.1 shown.0;
-              none = loose-answers.none p is.rule m pivots found.0 side ray kept valid here found.1 found.2;
+              none = unbounded-answers.none p is.rule m pivots found.0 side ray kept valid here found.1 found.2;
             },
       )
 
   -- and so is one that tripped
-  trip_so : (m : Spot) (x : Local) → IsLocalOf p pivots m.rule m.place x → (why : NoSize) → trip_reason x ≡ Some why
+  limit_hit_so : (m : ResultVariable) (x : Local) → IsLocalOf p pivots m.rule m.place x → (why : NoSize) → limit_hit_reason x ≡ Some why
       → ReadsNothing p m x × ((b : Bounds) → HasNoSize p pivots b m.rule m.place why)
-  trip_so m (HasBound l) is why e = absurd (none_some why e)
-  trip_so m (IsLooseOn side ray kept) is why e = absurd (none_some why e)
-  trip_so m (HasTripped x) is why e = (
+  limit_hit_so m (HasBound l) is why e = absurd (none_some why e)
+  limit_hit_so m (IsUnboundedOn side ray kept) is why e = absurd (none_some why e)
+  limit_hit_so m (HasTripped x) is why e = (
     (λ j. refl),
     λ b. subst (λ (w : NoSize). HasNoSize p pivots b m.rule m.place w) (some_same (SizeTripped x) why e)
         record { rule = is.rule; numbered = is.numbered; trips = is.local },
   )
 
   module _ (b : Bounds) (t i : ℕ) where
-    module _ (cs : List (List Spot)) (are : (searches_of_program p pivots).AreComponents cs) (keys : List Spot)
+    module _ (cs : List (List ResultVariable)) (are : (searches_of_program p pivots).AreComponents cs) (keys : List ResultVariable)
         (one : IsOneOf cs keys) (has : has_key keys t i ≡ true) (local : Locals) (locals : AreLocalsOf p pivots local keys) where
-      abbrev Place : Spot → Type 0
+      abbrev Place : ResultVariable → Type 0
       Place m = IsLocalOf p pivots m.rule m.place (local m.rule m.place)
 
       places : AllByRecursion Place keys
@@ -103,45 +103,45 @@ module _ (p : Program) (pivots : ℕ) (valid : IsValid p) where
       component_of tab answer h = record {
         components = cs;
         are_components = are;
-        among = subst (λ (ks : List Spot). IsOneOf cs ks) h.are_members.spots_are one;
-        inside = subst (λ (ks : List Spot). has_key ks t i ≡ true) h.are_members.spots_are has;
+        among = subst (λ (ks : List ResultVariable). IsOneOf cs ks) h.are_members.result_variables_are one;
+        inside = subst (λ (ks : List ResultVariable). has_key ks t i ≡ true) h.are_members.result_variables_are has;
         bounds =
-            All-from_recursion (λ (m : Member). IsLocalOf p pivots m.spot.rule m.spot.place (HasBound m.local)) h.members
-            (from_both (λ (m : Member). Place m.spot) (λ (m : Member). local m.spot.rule m.spot.place ≡ HasBound m.local)
-            (λ (m : Member). IsLocalOf p pivots m.spot.rule m.spot.place (HasBound m.local))
-            (λ m k e. subst (λ (x : Local). IsLocalOf p pivots m.spot.rule m.spot.place x) e k) h.members
-            (map-each Place (λ (m : Member). m.spot) h.members
-            (subst (λ (ks : List Spot). AllByRecursion Place ks) h.are_members.spots_are places))
-            (recursion_from_All (λ (m : Member). local m.spot.rule m.spot.place ≡ HasBound m.local) h.members
+            All-from_recursion (λ (m : Member). IsLocalOf p pivots m.result_variable.rule m.result_variable.place (HasBound m.local)) h.members
+            (from_both (λ (m : Member). Place m.result_variable) (λ (m : Member). local m.result_variable.rule m.result_variable.place ≡ HasBound m.local)
+            (λ (m : Member). IsLocalOf p pivots m.result_variable.rule m.result_variable.place (HasBound m.local))
+            (λ m k e. subst (λ (x : Local). IsLocalOf p pivots m.result_variable.rule m.result_variable.place x) e k) h.members
+            (map-each Place (λ (m : Member). m.result_variable) h.members
+            (subst (λ (ks : List ResultVariable). AllByRecursion Place ks) h.are_members.result_variables_are places))
+            (recursion_from_All (λ (m : Member). local m.result_variable.rule m.result_variable.place ≡ HasBound m.local) h.members
             h.are_members.bounds_are));
       }
 
       -- a place that lacks local bounds is the place itself
-      lacking_so : (m : Spot) → has_key keys m.rule m.place ≡ true → (x : Local) → IsLocalOf p pivots m.rule m.place x
+      lacking_so : (m : ResultVariable) → has_key keys m.rule m.place ≡ true → (x : Local) → IsLocalOf p pivots m.rule m.place x
           → (why : NoSize) → ReadsNothing p m x × ((c : Bounds) → HasNoSize p pivots c m.rule m.place why)
           → HasNoSize p pivots b t i why
       lacking_so m h x is why so =
           let alone = armless_alone p pivots cs are keys one m h x is so.0 in
           let same : m ≡ key t i =
-          either (has_key-cases m [] t i (subst (λ (ks : List Spot). has_key ks t i ≡ true) alone has)) (λ e. e)
+          either (has_key-cases m [] t i (subst (λ (ks : List ResultVariable). has_key ks t i ≡ true) alone has)) (λ e. e)
           (λ later. absurd (has_key-none t i later)) in
-          subst (λ (k : Spot). HasNoSize p pivots b k.rule k.place why) same (so.1 b)
+          subst (λ (k : ResultVariable). HasNoSize p pivots b k.rule k.place why) same (so.1 b)
 
-      lacks_so : (why : NoSize) → lacks_arms local keys ≡ Some why → HasNoSize p pivots b t i why
+      lacks_so : (why : NoSize) → lacks_side_bounds local keys ≡ Some why → HasNoSize p pivots b t i why
       lacks_so why e =
-          either (one_of (first_reason loose_reason local keys) (first_reason trip_reason local keys) why e) loose trips
+          either (one_of (first_reason unbounded_reason local keys) (first_reason limit_hit_reason local keys) why e) unbounded trips
         where
-          loose : first_reason loose_reason local keys ≡ Some why → HasNoSize p pivots b t i why
-          loose k =
-              let x = reason_told Place loose_reason local keys why places k in
-              lacking_so x.0 x.1 (local x.0.rule x.0.place) x.2 why (loose_so x.0 (local x.0.rule x.0.place) x.2 why x.3)
+          unbounded : first_reason unbounded_reason local keys ≡ Some why → HasNoSize p pivots b t i why
+          unbounded k =
+              let x = reason-sound Place unbounded_reason local keys why places k in
+              lacking_so x.0 x.1 (local x.0.rule x.0.place) x.2 why (unbounded_so x.0 (local x.0.rule x.0.place) x.2 why x.3)
 
-          trips : first_reason trip_reason local keys ≡ Some why → HasNoSize p pivots b t i why
+          trips : first_reason limit_hit_reason local keys ≡ Some why → HasNoSize p pivots b t i why
           trips k =
-              let x = reason_told Place trip_reason local keys why places k in
-              lacking_so x.0 x.1 (local x.0.rule x.0.place) x.2 why (trip_so x.0 (local x.0.rule x.0.place) x.2 why x.3)
+              let x = reason-sound Place limit_hit_reason local keys why places k in
+              lacking_so x.0 x.1 (local x.0.rule x.0.place) x.2 why (limit_hit_so x.0 (local x.0.rule x.0.place) x.2 why x.3)
 
-      sizing_so : (why : NoSize) (o : Option NoSize) → lacks_arms local keys ≡ o
+      sizing_so : (why : NoSize) (o : Option NoSize) → lacks_side_bounds local keys ≡ o
           → AnswersPlaces s (over b) local keys o (Unsized why) → HasNoSize p pivots b t i why
       sizing_so why (Some w) e h =
           let same : why ≡ w = cc in
@@ -149,10 +149,10 @@ module _ (p : Program) (pivots : ℕ) (valid : IsValid p) where
       sizing_so why None e h =
           judged_so p pivots b t i why h.members (component_of (over b) (Unsized why) h)
           (subst (λ (v : Bool). AnswersMembers v s (over b) h.members (Unsized why))
-          (sym (loop_told s local keys h.members h.are_members)) h.sizing)
+          (sym (loop_decided s local keys h.members h.are_members)) h.sizing)
 
-    -- so it is with what is told of a component of the place
-    pub place_so : (cs : List (List Spot)) → (searches_of_program p pivots).AreComponents cs → (keys : List Spot) → IsOneOf cs keys
+    -- the same for the reason that a component of the place gives
+    pub place_so : (cs : List (List ResultVariable)) → (searches_of_program p pivots).AreComponents cs → (keys : List ResultVariable) → IsOneOf cs keys
         → has_key keys t i ≡ true → (why : NoSize)
         → TellsSize (searches_of_program p pivots) s b keys (Lacks (OfSize why)) → HasNoSize p pivots b t i why
     place_so cs are keys one has why h = go h.answer h.answered h.tells
@@ -162,5 +162,5 @@ module _ (p : Program) (pivots : ℕ) (valid : IsValid p) where
         go (SizedBy node) answered told = absurd (let none : ⊥ = cc in none)
         go (Unsized v) (local, locals, is) told =
             let same : why ≡ v = cc in
-            sizing_so cs are keys one has local locals why (lacks_arms local keys) refl
-            (subst (λ (w : NoSize). AnswersPlaces s (over b) local keys (lacks_arms local keys) (Unsized w)) (sym same) is)
+            sizing_so cs are keys one has local locals why (lacks_side_bounds local keys) refl
+            (subst (λ (w : NoSize). AnswersPlaces s (over b) local keys (lacks_side_bounds local keys) (Unsized w)) (sym same) is)

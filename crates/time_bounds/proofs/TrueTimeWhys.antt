@@ -1,22 +1,22 @@
--- What the answer to a rank question tells of a rule without a time is so of the program.
+-- The reason that the answer to a rank question gives for a rule without a time is true of the program.
 use Rattle.std.proofs.Common.{◌≡◌, ◌⊎◌, inl, inr, ℕ, List, [], ◌∷◌, refl, sym, subst}
 use Rattle.model.specs.Programs.{Program}
 use Rattle.its_model.specs.Valid.{IsValid}
 use Rattle.guard_prep.specs.Prepared.{prepared}
 use Rattle.outcome.specs.Reports.{NoTime, NoFunction, TimeTripped, TimeLarge}
-use Rattle.proof_tree.specs.rule_forms.Ranking.{NoRank}
-use Rattle.proof_tree.specs.proof_nodes.AcceptsPlain.{IsRule}
-use Rattle.proof_tree.specs.proof_nodes.AcceptsRank.{rank_time}
-use Rattle.proof_tree.specs.proof_nodes.Checks.{large_nodes}
-use Rattle.proof_tree.specs.proof_nodes.Gaps.{SymbolPlace, Gap}
-use Rattle.proof_tree.specs.proof_nodes.Known.{IsKnown}
-use Rattle.proof_tree.specs.proof_nodes.Nodes.{RankNode}
-use Rattle.proof_tree.specs.proof_setting.Setting.{setting_of}
-use Rattle.proof_tree.specs.declared.answer.EmptyAnswer.{EmptyAnswer}
-use Rattle.proof_tree.specs.declared.answer.EmptyAnswer.TheVariants as empties
-use Rattle.proof_tree.specs.declared.answer.Trip.{Trip}
-use Rattle.proof_tree.specs.Views.{rank_of}
-use Rattle.rank_search.specs.RankAnswers.{IsRankNode, IsRankAnswer, IsOwnTrip, IsEmptyTrip}
+use Rattle.cert_types.specs.rule_forms.Ranking.{NoRank}
+use Rattle.cert_types.specs.cert_rules.AcceptsPlain.{IsRule}
+use Rattle.cert_types.specs.cert_rules.AcceptsRank.{rank_time}
+use Rattle.cert_types.specs.cert_rules.Checks.{large_nodes}
+use Rattle.cert_types.specs.cert_rules.Gaps.{SymbolPlace, Gap}
+use Rattle.cert_types.specs.cert_rules.Known.{IsKnown}
+use Rattle.cert_types.specs.cert_rules.Nodes.{RankNode}
+use Rattle.cert_types.specs.cert_program.Setting.{setting_of}
+use Rattle.cert_types.specs.declared.answer.GuardFeasibility.{GuardFeasibility}
+use Rattle.cert_types.specs.declared.answer.GuardFeasibility.TheVariants as empties
+use Rattle.cert_types.specs.declared.answer.LimitHit.{LimitHit}
+use Rattle.cert_types.specs.Views.{rank_of}
+use Rattle.rank_search.specs.RankAnswers.{IsRankNode, IsRankAnswer, IsOwnLimitHit, IsFeasibilityLimitHit}
 use Rattle.rank_search.specs.declared.answer.RankAnswer.{RankAnswer}
 use Rattle.rank_search.specs.declared.answer.RankAnswer.TheVariants as ranks
 use Rattle.rank_search.specs.rule_questions.EmptyAnswers.{IsEmptyAnswer}
@@ -25,51 +25,51 @@ use Rattle.rank_search.proofs.rule_questions.Exact.{nodes-accepted as empty_node
 use Rattle.rank_search.proofs.Accepted.{nodes-accepted}
 use Rattle.rank_search.proofs.NodeLaws.{nodes-rank}
 use Rattle.rank_search.proofs.RankExact.{answers-exact}
-use Rattle.bound_rounds.specs.Answers.{Lacks, TellsRanking, TellsTime}
-use Rattle.bound_rounds.specs.Keys.{Bounds, over}
-use Rattle.bound_rounds.specs.Right.{IsFirstTrip, IsGapOf, IsQuestion}
-use Rattle.bound_rounds.specs.Searches.{EmptyTripped, Ranking, Ranked, Unranked}
-use Rattle.bound_rounds.specs.Searches.{RankTripped, OfTime}
-use Rattle.bound_rounds.specs.Sets.{IsSetOfRule, AreShutOf}
-use Rattle.bound_rounds.proofs.AcceptedRanks.{is_question}
+use Rattle.bound_fixpoint.specs.Answers.{Lacks, TellsRanking, TellsTime}
+use Rattle.bound_fixpoint.specs.Keys.{Bounds, over}
+use Rattle.bound_fixpoint.specs.Right.{IsFirstLimitHit, IsGapOf, IsQuestion}
+use Rattle.bound_fixpoint.specs.Searches.{EmptyTripped, Ranking, Ranked, Unranked}
+use Rattle.bound_fixpoint.specs.Searches.{RankTripped, OfTime}
+use Rattle.bound_fixpoint.specs.Sets.{IsSetOfRule, AreShutOf}
+use Rattle.bound_fixpoint.proofs.AcceptedRanks.{is_question}
 use Rattle.time_bounds.specs.ProgramRules.{emptiness_of, ranking_of, EmptyTripsSo}
 use Rattle.time_bounds.specs.ProgramSearches.{searches_of_program}
-use Rattle.time_bounds.specs.TimeWhys.{FirstTripsSo, IsSought, NoFunctionRanks, PointsTripSo, RankTripsSo}
+use Rattle.time_bounds.specs.TimeWhys.{FirstTripsSo, IsSought, NoFunctionRanks, PointsLimitHitSo, RankTripsSo}
 use Rattle.time_bounds.specs.TimeWhys.{HasNoTime}
 use Rattle.time_bounds.proofs.RightSearches.{first_told, ranking_right}
 
--- one reason of a time is told in one way
+-- one reason for a time has one form
 one_time : (v w : NoTime) → Lacks (OfTime v) ≡ Lacks (OfTime w) → v ≡ w
 one_time v w e = cc
 
 module _ (p : Program) (pivots : ℕ) where
   -- an answer of emptiness that trips is the trip of the rule's own linear program
-  pub empty_trip : (t : ℕ) (x : Trip) → (searches_of_program p pivots).Empties t (EmptyTripped x)
+  pub empty_limit_hit : (t : ℕ) (x : LimitHit) → (searches_of_program p pivots).Empties t (EmptyTripped x)
       → EmptyTripsSo p pivots t x
-  empty_trip t x (r, numbered, (a, same, is)) = go a same is
+  empty_limit_hit t x (r, numbered, (a, same, is)) = go a same is
     where
-      go : (a : EmptyAnswer) → emptiness_of a ≡ EmptyTripped x → IsEmptyAnswer (prepared r) t pivots a
+      go : (a : GuardFeasibility) → emptiness_of a ≡ EmptyTripped x → IsEmptyAnswer (prepared r) t pivots a
           → EmptyTripsSo p pivots t x
       go (empties.Empty n) e h = absurd (let none : ⊥ = cc in none)
       go (empties.Point z) e h = absurd (let none : ⊥ = cc in none)
-      go (empties.Tripped y) e h =
-          let same_trip : y ≡ x = cc in
+      go (empties.OutOfLimits y) e h =
+          let same_limit_hit : y ≡ x = cc in
           record {
             rule = r;
             numbered = numbered;
-            trips = subst (λ (z : Trip). IsEmptyAnswer (prepared r) t pivots (empties.Tripped z)) same_trip h;
+            trips = subst (λ (z : LimitHit). IsEmptyAnswer (prepared r) t pivots (empties.OutOfLimits z)) same_limit_hit h;
           }
 
   -- and such a trip is answered
-  trip_answered : (t : ℕ) (x : Trip) → EmptyTripsSo p pivots t x
+  limit_hit_answered : (t : ℕ) (x : LimitHit) → EmptyTripsSo p pivots t x
       → (searches_of_program p pivots).Empties t (EmptyTripped x)
-  trip_answered t x h = (h.rule, h.numbered, (empties.Tripped x, refl, h.trips))
+  limit_hit_answered t x h = (h.rule, h.numbered, (empties.OutOfLimits x, refl, h.trips))
 
   -- the first rule that is answered so
-  first_trip_so : (ts : List ℕ) (x : Trip) → IsFirstTrip (searches_of_program p pivots) ts x → FirstTripsSo p pivots ts x
-  first_trip_so [] x h = absurd h
-  first_trip_so (t ∷ ts) x (inl h) = inl (empty_trip t x h)
-  first_trip_so (t ∷ ts) x (inr h) = inr ((λ y k. h.0 (y, trip_answered t y k)), first_trip_so ts x h.1)
+  first_limit_hit_so : (ts : List ℕ) (x : LimitHit) → IsFirstLimitHit (searches_of_program p pivots) ts x → FirstTripsSo p pivots ts x
+  first_limit_hit_so [] x h = absurd h
+  first_limit_hit_so (t ∷ ts) x (inl h) = inl (empty_limit_hit t x h)
+  first_limit_hit_so (t ∷ ts) x (inr h) = inr ((λ y k. h.0 (y, limit_hit_answered t y k)), first_limit_hit_so ts x h.1)
 
   module _ (valid : IsValid p) (b : Bounds) (begun : IsKnown (b 0 0)) (t : ℕ) (rule : IsRule p t) (set : List ℕ)
       (shut : List SymbolPlace) (sought : IsSought p b t set shut) where
@@ -101,20 +101,20 @@ module _ (p : Program) (pivots : ℕ) where
             let same_node : rank_of n ≡ node = cc in
             subst (λ (m : RankNode). IsRankNode (ranked_set p set t shut) pivots m) same_node h.0
         go (ranks.NoRank gap) e h = absurd (let none : ⊥ = cc in none)
-        go (ranks.Tripped y) e h = absurd (let none : ⊥ = cc in none)
+        go (ranks.OutOfLimits y) e h = absurd (let none : ⊥ = cc in none)
 
     -- the trip of an answer is that of the rank question
-    trip_so : (x : Trip) → (searches_of_program p pivots).Ranks set t shut (RankTripped x) → RankTripsSo p pivots b t x
-    trip_so x (answers, are, (a, same, is)) = go a same is
+    limit_hit_so : (x : LimitHit) → (searches_of_program p pivots).Ranks set t shut (RankTripped x) → RankTripsSo p pivots b t x
+    limit_hit_so x (answers, are, (a, same, is)) = go a same is
       where
-        cases : (y : Trip)
-            → IsOwnTrip (ranked_set p set t shut) pivots y ⊎ IsEmptyTrip (ranked_set p set t shut) pivots answers y
-            → IsOwnTrip (ranked_set p set t shut) pivots y ⊎ PointsTripSo p pivots (ranked_set p set t shut) y
+        cases : (y : LimitHit)
+            → IsOwnLimitHit (ranked_set p set t shut) pivots y ⊎ IsFeasibilityLimitHit (ranked_set p set t shut) pivots answers y
+            → IsOwnLimitHit (ranked_set p set t shut) pivots y ⊎ PointsLimitHitSo p pivots (ranked_set p set t shut) y
         cases y (inl own) = inl own
         cases y (inr h) = inr record {
           untripped = h.untripped;
           unsolved = h.unsolved;
-          first = first_trip_so set y
+          first = first_limit_hit_so set y
               (first_told empty_nodes-accepted nodes-rank nodes-accepted answers-exact p pivots valid answers are y set
               question.rules h.first);
         }
@@ -123,12 +123,12 @@ module _ (p : Program) (pivots : ℕ) where
             → IsRankAnswer (ranked_set p set t shut) shut pivots answers a → RankTripsSo p pivots b t x
         go (ranks.Ranked n) e h = absurd (let none : ⊥ = cc in none)
         go (ranks.NoRank gap) e h = absurd (let none : ⊥ = cc in none)
-        go (ranks.Tripped y) e h =
-            let same_trip : y ≡ x = cc in
-            subst (λ (z : Trip). RankTripsSo p pivots b t z) same_trip
+        go (ranks.OutOfLimits y) e h =
+            let same_limit_hit : y ≡ x = cc in
+            subst (λ (z : LimitHit). RankTripsSo p pivots b t z) same_limit_hit
             record { set = set; shut = shut; sought = sought; trips = cases y h }
 
-    -- what each answer tells
+    -- the reason that each answer gives
     told_so : (answer : Ranking) → (searches_of_program p pivots).Ranks set t shut answer → (why : NoTime)
         → TellsRanking (setting_of p) b answer (Lacks (OfTime why)) → HasNoTime p pivots b t why
     told_so (Ranked node) h (NoFunction g) told =
@@ -157,9 +157,9 @@ module _ (p : Program) (pivots : ℕ) where
         subst (λ (v : NoTime). HasNoTime p pivots b t v) (sym (one_time why (NoFunction g) told))
         (none_ranks g (ranking_right p pivots valid set t shut (Unranked g) question h).0)
     told_so (RankTripped x) h why told =
-        subst (λ (v : NoTime). HasNoTime p pivots b t v) (sym (one_time why (TimeTripped x) told)) (trip_so x h)
+        subst (λ (v : NoTime). HasNoTime p pivots b t v) (sym (one_time why (TimeTripped x) told)) (limit_hit_so x h)
 
-  -- so it is with what is told of a rule
+  -- the same for the reason of a rule
   pub time_so : IsValid p → (b : Bounds) → IsKnown (b 0 0) → (t : ℕ) → IsRule p t → (why : NoTime)
       → TellsTime (searches_of_program p pivots) (setting_of p) b t (Lacks (OfTime why)) → HasNoTime p pivots b t why
   time_so valid b begun t rule why h =

@@ -1,4 +1,4 @@
--- Each reason in the report of an analysis is so of the program.
+-- Each reason in the report of an analysis is true of the program.
 use Rattle.std.proofs.Common.{◌≡◌, ℕ, zero, suc, List, Option, Some, None, refl, sym, subst, slice_get}
 use Rattle.model.specs.Bounds.{Constant}
 use Rattle.model.specs.Programs.{Program}
@@ -6,24 +6,24 @@ use Rattle.model.proofs.Cases.{none_some}
 use Rattle.its_model.specs.Valid.{IsValid}
 use Rattle.outcome.specs.Holding.{numbered_entry, place_entry}
 use Rattle.outcome.specs.Reports.{NoTime, Untimed, NoSize, Size, Unsized, Report}
-use Rattle.proof_tree.specs.proof_nodes.Known.{IsKnown}
-use Rattle.proof_tree.specs.proof_setting.Setting.{setting_of}
-use Rattle.bound_rounds.specs.Answers.{Target, TimeOf, SizesOf, Lacks, TellsTime, Tells}
-use Rattle.bound_rounds.specs.Finds.{Find, bounds_of}
-use Rattle.bound_rounds.specs.Keys.{Bounds}
-use Rattle.bound_rounds.specs.Rounds.{IsAskedFor, IsNoBound}
+use Rattle.cert_types.specs.cert_rules.Known.{IsKnown}
+use Rattle.cert_types.specs.cert_program.Setting.{setting_of}
+use Rattle.bound_fixpoint.specs.Answers.{Target, TimeOf, SizesOf, Lacks, TellsTime, Tells}
+use Rattle.bound_fixpoint.specs.Derivations.{Derivation, bounds_of}
+use Rattle.bound_fixpoint.specs.Keys.{Bounds}
+use Rattle.bound_fixpoint.specs.Rounds.{IsAskedFor, IsNoBound}
 use Rattle.time_bounds.specs.Analysis.{IsAnalysis}
 use Rattle.time_bounds.specs.ProgramSearches.{searches_of_program}
-use Rattle.bound_rounds.specs.Searches.{OfTime, OfSize}
+use Rattle.bound_fixpoint.specs.Searches.{OfTime, OfSize}
 use Rattle.time_bounds.specs.SaidBounds.{bounds_said}
 use Rattle.time_bounds.specs.SizeWhys.{HasNoSize}
 use Rattle.time_bounds.specs.TimeWhys.{HasNoTime}
 use Rattle.time_bounds.specs.Whys.{ReasonsAreTrue, AnalysesGiveReasons}
-use Rattle.time_bounds.proofs.SaidKnown.{time_told, size_told, said_known}
+use Rattle.time_bounds.proofs.SaidKnown.{time-sound_at, size-sound, said_known}
 use Rattle.time_bounds.proofs.TrueSizeWhys.{place_so}
 use Rattle.time_bounds.proofs.TrueTimeWhys.{time_so}
 
-module _ (p : Program) (pivots : ℕ) (valid : IsValid p) (fs : List Find) where
+module _ (p : Program) (pivots : ℕ) (valid : IsValid p) (fs : List Derivation) where
   -- the virtual entry has a time with any finds
   begun : IsKnown (bounds_of p fs 0 0)
   begun = (Constant 1, refl)
@@ -62,7 +62,7 @@ module _ (p : Program) (pivots : ℕ) (valid : IsValid p) (r : Report) (h : IsAn
   time_why zero why e = absurd (none_some (Untimed why) e)
   time_why (suc k) why e =
       subst (λ (b : Bounds). HasNoTime p pivots b (suc k) why) (sym (said_known p pivots valid r h))
-      (no_time_so p pivots valid h.finds (suc k) why (time_told p pivots valid r h k (Untimed why) e))
+      (no_time_so p pivots valid h.derivations (suc k) why (time-sound_at p pivots valid r h k (Untimed why) e))
 
   -- and of a size
   place_why : (k i : ℕ) (why : NoSize) (o : Option (List Size)) → slice_get r.sizes k ≡ o
@@ -71,7 +71,7 @@ module _ (p : Program) (pivots : ℕ) (valid : IsValid p) (r : Report) (h : IsAn
   place_why k zero why (Some row) e f = absurd (none_some (Unsized why) f)
   place_why k (suc j) why (Some row) e f =
       subst (λ (b : Bounds). HasNoSize p pivots b (suc k) (suc j) why) (sym (said_known p pivots valid r h))
-      (no_size_so p pivots valid h.finds (suc k) j why (size_told p pivots valid r h k j row (Unsized why) e f))
+      (no_size_so p pivots valid h.derivations (suc k) j why (size-sound p pivots valid r h k j row (Unsized why) e f))
 
   size_why : (t i : ℕ) (why : NoSize) → place_entry (numbered_entry r.sizes t) i ≡ Some (Unsized why)
       → HasNoSize p pivots (bounds_said p r) t i why
@@ -82,6 +82,6 @@ module _ (p : Program) (pivots : ℕ) (valid : IsValid p) (r : Report) (h : IsAn
   pub reasons_so : ReasonsAreTrue p pivots r
   reasons_so = record { times = time_why; sizes = size_why }
 
--- so it is of each analysis of a valid program
+-- the same for each analysis of a valid program
 pub analyses_give_reasons : AnalysesGiveReasons
 analyses_give_reasons = record { each = λ p pivots r valid h. reasons_so p pivots valid r h }

@@ -4,8 +4,8 @@ use Rattle.std.proofs.Common.{refl, ◌∙◌, arith}
 use Rattle.std.proofs.lemmas.List.{length-map}
 use Rattle.model.specs.Programs.{Program}
 use Rattle.outcome.specs.declared.entry.Stored.{Stored}
-use Rattle.proof_tree.specs.declared.answer.EmptyAnswer.{EmptyAnswer}
-use Rattle.bound_rounds.specs.Keys.{lacks}
+use Rattle.cert_types.specs.declared.answer.GuardFeasibility.{GuardFeasibility}
+use Rattle.bound_fixpoint.specs.Keys.{lacks}
 use Rattle.size_bounds.specs.declared.table.Table.{Table}
 use Rattle.size_bounds.specs.Tables.{entry_at, is_unstored, bound_stored}
 use Rattle.time_bounds.specs.Questions.{AreUntimed, IsTable}
@@ -20,7 +20,7 @@ flag_at (o ∷ xs) zero l = lacks_stored o
 flag_at (o ∷ xs) (suc t) l = flag_at xs t (omega (arith, l))
 
 -- the flags of what isn't stored say which rules have no time
-pub are_untimed : (p : Program) (tab : Table) (empties : List EmptyAnswer) → IsTable p tab empties
+pub are_untimed : (p : Program) (tab : Table) (empties : List GuardFeasibility) → IsTable p tab empties
     → AreUntimed p tab (map is_unstored tab.times.items)
 are_untimed p tab empties h = record {
   one_each = length-map tab.times.items is_unstored ∙ h.one_each;

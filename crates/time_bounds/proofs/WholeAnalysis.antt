@@ -1,4 +1,4 @@
--- What rounds find, with what is said of times and sizes, is the program's analysis.
+-- What rounds find, with the entries of times and sizes, is the program's analysis.
 use Rattle.std.proofs.Common.{◌≡◌, ℕ, suc, ◌+◌, true, false, List, [], ◌∷◌, length, map, Vec, Option, Some, None, refl, sym}
 use Rattle.std.proofs.Common.{◌∙◌, ap, subst, arith}
 use Rattle.std.specs.List.{list_any, remove}
@@ -13,27 +13,27 @@ use Rattle.outcome.specs.Reports.{Size}
 use Rattle.outcome.specs.Views.{time_of, size_of, report_of}
 use Rattle.outcome.specs.declared.entry.SizeEntry.{SizeEntry}
 use Rattle.outcome.specs.declared.outcome_of.Outcome.{Outcome}
-use Rattle.proof_tree.specs.proof_setting.Setting.{setting_of}
-use Rattle.bound_rounds.specs.Answers.{are_open}
-use Rattle.bound_rounds.specs.Finds.{bounds_of}
-use Rattle.bound_rounds.specs.Keys.{Bounds}
-use Rattle.bound_rounds.specs.Rounds.{IsLast}
-use Rattle.bound_book.specs.declared.find.Find.{Find}
-use Rattle.bound_book.specs.Books.{IsBook}
-use Rattle.bound_book.specs.Views.{finds_of}
+use Rattle.cert_types.specs.cert_program.Setting.{setting_of}
+use Rattle.bound_fixpoint.specs.Answers.{are_open}
+use Rattle.bound_fixpoint.specs.Derivations.{bounds_of}
+use Rattle.bound_fixpoint.specs.Keys.{Bounds}
+use Rattle.bound_fixpoint.specs.Rounds.{IsLast}
+use Rattle.bound_derivations.specs.declared.derivation.Derivation.{Derivation}
+use Rattle.bound_derivations.specs.Books.{AreDerivedBounds}
+use Rattle.bound_derivations.specs.Views.{derivations_of}
 use Rattle.size_bounds.specs.declared.table.Table.{Table}
 use Rattle.time_bounds.specs.declared.candidates.Candidate.{Candidate}
-use Rattle.time_bounds.specs.declared.sizing.Attempt.{Attempt}
-use Rattle.time_bounds.specs.declared.sizing.Attempt.TheVariants as attempts
+use Rattle.time_bounds.specs.declared.sizing.ComponentAttempt.{ComponentAttempt}
+use Rattle.time_bounds.specs.declared.sizing.ComponentAttempt.TheVariants as attempts
 use Rattle.time_bounds.specs.ProgramSearches.{searches_of_program}
 use Rattle.time_bounds.specs.Totals.{time_in, total_of}
 use Rattle.time_bounds.specs.Analysis.{IsSizeOf, AreSizeRowsOf}
 use Rattle.time_bounds.specs.Attempts.{IsAttempt, AreAttempts, is_sized}
-use Rattle.time_bounds.specs.Candidates.{spots_in, AreCandidatesOf}
+use Rattle.time_bounds.specs.Candidates.{result_variables_in, AreCandidatesOf}
 use Rattle.time_bounds.specs.SizeSaid.{placed, said_table, put_whys}
 use Rattle.time_bounds.specs.EarlierAnswers.{HasGrown, WasAttempt, WereAttempts}
 use Rattle.time_bounds.specs.TimesSaid.{AreTimesOver}
-use Rattle.time_bounds.proofs.AnalysisOfFinds.{IsAnalysisWith, analysis_of}
+use Rattle.time_bounds.proofs.AnalysisOfDerivations.{IsAnalysisWith, analysis_of}
 use Rattle.time_bounds.proofs.SaidSizes.{rows_said, said_right, said_places, many}
 use Rattle.model.proofs.Cases.{none_some}
 
@@ -50,7 +50,7 @@ same_between b c up down = λ j t i. go t i (b t i) refl j
     go t i None e = missing t i e (c t i) refl
 
 -- what was made of components between the same bounds was made over them
-pub at_last : (p : Program) (pivots : ℕ) (b : Bounds) (cs : List Candidate) (xs : List Attempt) → WereAttempts p pivots b b cs xs
+pub at_last : (p : Program) (pivots : ℕ) (b : Bounds) (cs : List Candidate) (xs : List ComponentAttempt) → WereAttempts p pivots b b cs xs
     → length xs ≡ length cs → AreAttempts p pivots b cs xs
 at_last p pivots b [] [] h long = tt
 at_last p pivots b [] (x ∷ xs) h long = absurd h
@@ -61,7 +61,7 @@ at_last p pivots b (c ∷ cs) (x ∷ xs) h long = (
 )
 
 -- and no size was found
-pub none_sized : (p : Program) (pivots : ℕ) (b : Bounds) (cs : List Candidate) (xs : List Attempt) → WereAttempts p pivots b b cs xs
+pub none_sized : (p : Program) (pivots : ℕ) (b : Bounds) (cs : List Candidate) (xs : List ComponentAttempt) → WereAttempts p pivots b b cs xs
     → length xs ≡ length cs → list_any is_sized xs ≡ false
 none_sized p pivots b [] [] h long = refl
 none_sized p pivots b [] (x ∷ xs) h long = absurd h
@@ -69,44 +69,44 @@ none_sized p pivots b (c ∷ cs) [] h long = absurd (omega (arith, long))
 none_sized p pivots b (c ∷ cs) (x ∷ xs) h long =
     one x h.0 (none_sized p pivots b cs xs h.1 (omega (arith, long)))
   where
-    one : (x : Attempt) → WasAttempt p pivots b b c x → list_any is_sized xs ≡ false → list_any is_sized (x ∷ xs) ≡ false
+    one : (x : ComponentAttempt) → WasAttempt p pivots b b c x → list_any is_sized xs ≡ false → list_any is_sized (x ∷ xs) ≡ false
     one attempts.Known was rest = rest
     one attempts.Found was rest =
         let same = same_between b was.between was.after was.before in
-        absurd (no_is_not_yes (are_open b (spots_in c)) (was.found refl)
-        (subst (λ (d : Bounds). are_open d (spots_in c) ≡ true) same was.attempt))
+        absurd (no_is_not_yes (are_open b (result_variables_in c)) (was.found refl)
+        (subst (λ (d : Bounds). are_open d (result_variables_in c) ≡ true) same was.attempt))
     one attempts.Armless was rest = rest
     one (attempts.Failed a) was rest = rest
 
--- how long the rows are that are told
-told_long : (rows : List (Vec SizeEntry Global))
+-- the lengths of the rows of entries
+rows_lengths : (rows : List (Vec SizeEntry Global))
     → map (λ (xs : List Size). length xs) (map (λ places. map size_of places.items) rows)
     ≡ map (λ (row : List (Option Size)). length row) (map (λ row. map (λ e. Some (size_of e)) row.items) rows)
-told_long [] = refl
-told_long (row ∷ rows) =
+rows_lengths [] = refl
+rows_lengths (row ∷ rows) =
     ap (λ (n : ℕ). n ∷ map (λ (xs : List Size). length xs) (map (λ places. map size_of places.items) rows))
     (length-map row.items size_of ∙ sym (length-map row.items (λ e. Some (size_of e))))
-    ∙ ap (λ (ns : List ℕ). length (map (λ e. Some (size_of e)) row.items) ∷ ns) (told_long rows)
+    ∙ ap (λ (ns : List ℕ). length (map (λ e. Some (size_of e)) row.items) ∷ ns) (rows_lengths rows)
 
-module _ (p : Program) (pivots : ℕ) (cs : List Candidate) (tab : Table) (finds : List Find) (xs : List Attempt) (o : Outcome)
-    (book : IsBook p tab finds) (found : AreCandidatesOf p pivots cs)
-    (last : IsLast (searches_of_program p pivots) (setting_of p) (finds_of finds))
-    (tried : AreAttempts p pivots (bounds_of p (finds_of finds)) cs xs) (nothing : list_any is_sized xs ≡ false) where
-  -- the rows that are told, without that of the virtual entry
+module _ (p : Program) (pivots : ℕ) (cs : List Candidate) (tab : Table) (derivations : List Derivation) (xs : List ComponentAttempt) (o : Outcome)
+    (derived : AreDerivedBounds p tab derivations) (found : AreCandidatesOf p pivots cs)
+    (last : IsLast (searches_of_program p pivots) (setting_of p) (derivations_of derivations))
+    (tried : AreAttempts p pivots (bounds_of p (derivations_of derivations)) cs xs) (nothing : list_any is_sized xs ≡ false) where
+  -- the rows of entries, without that of the virtual entry
   pub whole_analysis : (first : Vec SizeEntry Global) (rows : List (Vec SizeEntry Global))
       → map (λ row. map (λ e. Some (size_of e)) row.items) (first ∷ rows) ≡ put_whys (said_table tab) cs xs → o.sizes.items ≡ rows
       → length o.times.items ≡ length p.rules
-      → AreTimesOver (searches_of_program p pivots) p (bounds_of p (finds_of finds)) 1 (map (time_of o.gaps.items) o.times.items)
-      → option_map bound_of o.total ≡ total_of (map time_in o.times.items) → IsAnalysisWith p pivots (finds_of finds) (report_of o)
+      → AreTimesOver (searches_of_program p pivots) p (bounds_of p (derivations_of derivations)) 1 (map (time_of o.gaps.items) o.times.items)
+      → option_map bound_of o.total ≡ total_of (map time_in o.times.items) → IsAnalysisWith p pivots (derivations_of derivations) (report_of o)
   whole_analysis first rows told same long said total =
-      analysis_of p pivots (finds_of finds) o last long said total
+      analysis_of p pivots (derivations_of derivations) o last long said total
       (ap (λ (rs : List (Vec SizeEntry Global)). map (λ (ys : List Size). length ys) (map (λ places. map size_of places.items) rs)) same
-      ∙ (told_long rows ∙ lengths))
-      (subst (λ (rs : List (Vec SizeEntry Global)). AreSizeRowsOf (searches_of_program p pivots) p (finds_of finds) 1
+      ∙ (rows_lengths rows ∙ lengths))
+      (subst (λ (rs : List (Vec SizeEntry Global)). AreSizeRowsOf (searches_of_program p pivots) p (derivations_of derivations) 1
       (map (λ places. map size_of places.items) rs)) (sym same)
-      (rows_said (searches_of_program p pivots) p (finds_of finds) 1 rows (λ t i x e.
-      subst (λ (n : ℕ). IsSizeOf (searches_of_program p pivots) p (finds_of finds) n (suc i) x) (let z : suc t ≡ 1 + t = omega arith in z)
-      (said_right p pivots tab finds book cs found last.made xs tried nothing (suc t) i x
+      (rows_said (searches_of_program p pivots) p (derivations_of derivations) 1 rows (λ t i x e.
+      subst (λ (n : ℕ). IsSizeOf (searches_of_program p pivots) p (derivations_of derivations) n (suc i) x) (let z : suc t ≡ 1 + t = omega arith in z)
+      (said_right p pivots tab derivations derived cs found last.made xs tried nothing (suc t) i x
       (ap (λ (rs : List (List (Option Size))). placed rs (suc t) (suc i)) (sym told) ∙ e)))))
     where
       lengths : map (λ (row : List (Option Size)). length row) (map (λ row. map (λ e. Some (size_of e)) row.items) rows)
@@ -116,20 +116,20 @@ module _ (p : Program) (pivots : ℕ) (cs : List Candidate) (tab : Table) (finds
           ∷ map (λ (row : List (Option Size)). length row) (map (λ row. map (λ e. Some (size_of e)) row.items) rows)
           ≡ arity_of p p.start ∷ map (λ (r : Rule). arity_of p r.target) p.rules =
           ap (λ (rs : List (List (Option Size))). map (λ (row : List (Option Size)). length row) rs) told
-          ∙ said_places p pivots tab finds book cs found last.made xs tried nothing in
+          ∙ said_places p pivots tab derivations derived cs found last.made xs tried nothing in
           cc
 
-  -- so are all rows that are told, where the first is left out
+  -- so are all rows of entries, where the first is left out
   pub removed_analysis : (sizes : List (Vec SizeEntry Global))
       → map (λ row. map (λ e. Some (size_of e)) row.items) sizes ≡ put_whys (said_table tab) cs xs → o.sizes.items ≡ remove sizes 0
       → length o.times.items ≡ length p.rules
-      → AreTimesOver (searches_of_program p pivots) p (bounds_of p (finds_of finds)) 1 (map (time_of o.gaps.items) o.times.items)
-      → option_map bound_of o.total ≡ total_of (map time_in o.times.items) → IsAnalysisWith p pivots (finds_of finds) (report_of o)
+      → AreTimesOver (searches_of_program p pivots) p (bounds_of p (derivations_of derivations)) 1 (map (time_of o.gaps.items) o.times.items)
+      → option_map bound_of o.total ≡ total_of (map time_in o.times.items) → IsAnalysisWith p pivots (derivations_of derivations) (report_of o)
   removed_analysis [] told same long said total = absurd (no_rows told)
     where
       no_rows : [] ≡ put_whys (said_table tab) cs xs → ⊥
       no_rows e =
-          let few = many p pivots tab finds book cs found last.made xs tried nothing in
+          let few = many p pivots tab derivations derived cs found last.made xs tried nothing in
           let none = ap (λ (rs : List (List (Option Size))). length rs) e in
           omega (arith, few, none)
   removed_analysis (first ∷ rows) told same long said total = whole_analysis first rows told same long said total

@@ -5,30 +5,30 @@ use Rattle.std.proofs.lemmas.List.Elements.{All-head}
 use Rattle.model.specs.Entries.{is_in}
 use Rattle.model.proofs.Cases.{none_some}
 use Rattle.its_model.specs.Valid.{IsValid, IsValidRule}
-use Rattle.its_model.specs.linear_forms.declared.trip_cause.TripCause.{TripCause}
-use Rattle.its_model.specs.linear_forms.declared.trip_cause.TripCause.TheVariants as causes
+use Rattle.its_model.specs.linear_forms.declared.limit_cause.LimitCause.{LimitCause}
+use Rattle.its_model.specs.linear_forms.declared.limit_cause.LimitCause.TheVariants as causes
 use Rattle.guard_prep.specs.Tightening.{divisor_of}
 use Rattle.outcome.specs.Holding.{numbered_entry, place_entry}
 use Rattle.outcome.specs.Reports.{NoTime, NoFunction, Untimed, NoSize, Unsized}
-use Rattle.proof_tree.specs.proof_nodes.AcceptsPlain.{IsRule}
-use Rattle.proof_tree.specs.proof_nodes.AcceptsRank.{rank_time}
-use Rattle.proof_tree.specs.proof_nodes.GapChecks.{HasGapShape, GapHolds, IsGapPoint, point_of, balance}
-use Rattle.proof_tree.specs.proof_nodes.WorkedGaps.{one, nowhere}
-use Rattle.proof_tree.proofs.proof_nodes.GapsInLine.{passed-holds}
-use Rattle.proof_tree.proofs.proof_nodes.WorkedAccepted.{of_one, of_two}
-use Rattle.proof_tree.proofs.proof_nodes.WorkedGaps.{both, one_point, no_rows, free_kept, loses_one}
-use Rattle.proof_tree.proofs.proof_nodes.WorkedGaps.{one_is_some}
-use Rattle.proof_tree.specs.proof_setting.RankedSets.{forms_at}
-use Rattle.proof_tree.specs.proof_setting.Setting.{setting_of}
-use Rattle.proof_tree.specs.proof_setting.WorkedGaps.{looping_rule, looping, gap_alone}
-use Rattle.proof_tree.proofs.proof_setting.RankedSets.{gap-excludes_all}
-use Rattle.proof_tree.proofs.proof_setting.WorkedGaps.{gaps_of_programs}
-use Rattle.bound_rounds.specs.Keys.{over}
-use Rattle.bound_rounds.proofs.Cases.{either}
+use Rattle.cert_types.specs.cert_rules.AcceptsPlain.{IsRule}
+use Rattle.cert_types.specs.cert_rules.AcceptsRank.{rank_time}
+use Rattle.cert_types.specs.cert_rules.GapChecks.{HasGapShape, GapHolds, IsGapPoint, point_of, balance}
+use Rattle.cert_types.specs.cert_rules.WorkedGaps.{one, nowhere}
+use Rattle.cert_types.proofs.cert_rules.GapsInLine.{passed-holds}
+use Rattle.cert_types.proofs.cert_rules.WorkedAccepted.{of_one, of_two}
+use Rattle.cert_types.proofs.cert_rules.WorkedGaps.{both, one_point, no_rows, free_kept, loses_one}
+use Rattle.cert_types.proofs.cert_rules.WorkedGaps.{one_is_some}
+use Rattle.cert_types.specs.cert_program.RankedSets.{forms_at}
+use Rattle.cert_types.specs.cert_program.Setting.{setting_of}
+use Rattle.cert_types.specs.cert_program.WorkedGaps.{looping_rule, looping, gap_alone}
+use Rattle.cert_types.proofs.cert_program.RankedSets.{gap-excludes_all}
+use Rattle.cert_types.proofs.cert_program.WorkedGaps.{gaps_of_programs}
+use Rattle.bound_fixpoint.specs.Keys.{over}
+use Rattle.bound_fixpoint.proofs.Cases.{either}
 use Rattle.time_bounds.specs.SizeWhys.{HasNoSize}
 use Rattle.time_bounds.specs.TimeWhys.{FirstTripsSo, RankTripsSo, HasNoTime}
 use Rattle.time_bounds.specs.WorkedReports.{staying_gap, staying_report, staying_said}
-use Rattle.time_bounds.specs.WorkedTimeWhys.{twice, pair_gap, EachHasItsOwn, GapsSaySo, own_trip, LimitsSaySo}
+use Rattle.time_bounds.specs.WorkedTimeWhys.{twice, pair_gap, EachHasItsOwn, GapsSaySo, own_limit_hit, LimitsSaySo}
 use Rattle.time_bounds.specs.WorkedTimeWhys.{MissingTimesAreWorkedOut}
 use Rattle.time_bounds.proofs.LargeNodes.{large_many}
 use Rattle.time_bounds.proofs.SoughtSets.{sets}
@@ -136,17 +136,17 @@ gaps = record {
 }
 
 -- no rule's emptiness question is a rank question
-never_first : (cause : TripCause) (ts : List ℕ) → FirstTripsSo looping 10 ts (own_trip cause) → ⊥
+never_first : (cause : LimitCause) (ts : List ℕ) → FirstTripsSo looping 10 ts (own_limit_hit cause) → ⊥
 never_first cause [] h = h
 never_first cause (t ∷ ts) (inl h) = let e = h.trips.0 in (let none : ⊥ = cc in none)
 never_first cause (t ∷ ts) (inr h) = never_first cause ts h.1
 
-other_budget : RankTripsSo looping 10 staying_said 1 (own_trip (causes.Budget 9)) → ⊥
+other_budget : RankTripsSo looping 10 staying_said 1 (own_limit_hit (causes.Budget 9)) → ⊥
 other_budget h =
     either h.trips (λ own. let e : ◌≡◌ {A = ℕ} 9 10 = own.trips.1 in omega (arith, e))
     (λ points. never_first (causes.Budget 9) h.set points.first)
 
-not_wide : RankTripsSo looping 10 staying_said 1 (own_trip (causes.Wide 5)) → ⊥
+not_wide : RankTripsSo looping 10 staying_said 1 (own_limit_hit (causes.Wide 5)) → ⊥
 not_wide h =
     either h.trips (λ own. wide _ own.trips.0 own.trips.1) (λ points. never_first (causes.Wide 5) h.set points.first)
   where

@@ -7,21 +7,21 @@ use Rattle.model.proofs.Cases.{some_none}
 use Rattle.model.proofs.Membership.{no_is_not_yes}
 use Rattle.its_model.specs.linear_forms.Forms.{Form, at}
 use Rattle.guard_prep.specs.Prepared.{prepared}
-use Rattle.proof_tree.specs.rule_forms.Bounds.{IsLooseRay}
-use Rattle.proof_tree.specs.rule_forms.Worked.{plane_form, free_value}
-use Rattle.proof_tree.proofs.rule_forms.Worked.{worked}
-use Rattle.proof_tree.specs.proof_nodes.AcceptsSizes.{Up, Low}
-use Rattle.proof_tree.specs.proof_setting.WorkedGaps.{first_place, looping}
+use Rattle.cert_types.specs.rule_forms.Bounds.{IsUnboundedRay}
+use Rattle.cert_types.specs.rule_forms.Worked.{plane_form, free_value}
+use Rattle.cert_types.proofs.rule_forms.Worked.{worked}
+use Rattle.cert_types.specs.cert_rules.AcceptsSizes.{Up, Low}
+use Rattle.cert_types.specs.cert_program.WorkedGaps.{first_place, looping}
 use Rattle.local_size.specs.Places.{value_on}
-use Rattle.bound_rounds.proofs.Cases.{either}
+use Rattle.bound_fixpoint.proofs.Cases.{either}
 use Rattle.time_bounds.specs.TimeWhys.{FirstTripsSo, RankTripsSo}
 use Rattle.time_bounds.proofs.FreeValue.{free_point, free_none, of_rule, bounded}
-use Rattle.time_bounds.proofs.PassedForms.{loose_passes}
+use Rattle.time_bounds.proofs.PassedForms.{unbounded_passes}
 use Rattle.time_bounds.proofs.StayingRule.{none_shut, staying_so}
 use Rattle.time_bounds.proofs.WorkedSizeWhys.{missing_sizes}
 use Rattle.time_bounds.proofs.WorkedTimeWhys.{missing_times}
 use Rattle.time_bounds.specs.WorkedReports.{staying_said, along_free, from_one}
-use Rattle.time_bounds.specs.WorkedWhys.{BoundsAreSaid, other_trip, TimeWhysAreWorkedOut}
+use Rattle.time_bounds.specs.WorkedWhys.{BoundsAreSaid, other_limit_hit, TimeWhysAreWorkedOut}
 use Rattle.time_bounds.specs.WorkedWhys.{SizeWhysAreWorkedOut, WhysAreWorkedOut}
 
 bounds : BoundsAreSaid
@@ -38,12 +38,12 @@ bounds = record {
 }
 
 -- no rule's own question trips by the question of a ranking function
-never_first : (ts : List ℕ) → FirstTripsSo looping 10 ts other_trip → ⊥
+never_first : (ts : List ℕ) → FirstTripsSo looping 10 ts other_limit_hit → ⊥
 never_first [] h = h
 never_first (t ∷ ts) (inl h) = let e = h.trips.0 in (let none : ⊥ = cc in none)
 never_first (t ∷ ts) (inr h) = never_first ts h.1
 
-other_question : RankTripsSo looping 10 staying_said 1 other_trip → ⊥
+other_question : RankTripsSo looping 10 staying_said 1 other_limit_hit → ⊥
 other_question h =
     either h.trips (λ own. let e = own.question in (let none : ⊥ = cc in none)) (λ points. never_first h.set points.first)
 
@@ -62,20 +62,20 @@ lowered_value = plane_form (pos 0) (negsuc 0) (pos 0)
 
 sizes : SizeWhysAreWorkedOut
 sizes = record {
-  loose = record {
+  unbounded = record {
     rule = _;
     numbered = refl;
     straight = refl;
     long_ray = refl;
     long_kept = refl;
     from = free_point;
-    along = worked.rays.loose;
-    passes = loose_passes [] 1 free_value from_one along_free free_point worked.rays.loose;
+    along = worked.rays.unbounded;
+    passes = unbounded_passes [] 1 free_value from_one along_free free_point worked.rays.unbounded;
     none = free_none;
   };
-  not_down = λ h. down (of_rule (λ r. IsLooseRay (prepared r).rows (prepared r).left (value_on Low (prepared r) 1) (at along_free)) _
+  not_down = λ h. down (of_rule (λ r. IsUnboundedRay (prepared r).rows (prepared r).left (value_on Low (prepared r) 1) (at along_free)) _
       h.rule h.numbered h.along);
-  moving = λ h. still (of_rule (λ r. IsLooseRay (prepared r).rows (prepared r).left (value_on Up (prepared r) 1) (at (pos 1 ∷ pos 1 ∷ []))) _
+  moving = λ h. still (of_rule (λ r. IsUnboundedRay (prepared r).rows (prepared r).left (value_on Up (prepared r) 1) (at (pos 1 ∷ pos 1 ∷ []))) _
       h.rule h.numbered h.along);
   no_point = λ h. let low = h.from.denominator in omega (arith, ints, low);
   long_ray = λ h. three (of_rule (λ r. 3 ≡ (prepared r).unknowns) _ h.rule h.numbered h.long_ray);
@@ -85,13 +85,13 @@ sizes = record {
   timed = λ h. some_none (Constant 1) h.missing;
 }
   where
-    down : IsLooseRay [] 1 lowered_value (at along_free) → ⊥
+    down : IsUnboundedRay [] 1 lowered_value (at along_free) → ⊥
     down l = let rises = l.rises in omega (arith, ints, rises)
 
     three : ◌≡◌ {A = ℕ} 3 2 → ⊥
     three e = omega (arith, e)
 
-    still : IsLooseRay [] 1 free_value (at (pos 1 ∷ pos 1 ∷ [])) → ⊥
+    still : IsUnboundedRay [] 1 free_value (at (pos 1 ∷ pos 1 ∷ [])) → ⊥
     still l = let e = l.still 0 (omega arith) in omega (arith, ints, e)
 
 pub whys_worked : WhysAreWorkedOut

@@ -7,21 +7,21 @@ use Rattle.outcome.specs.declared.entry.TimeEntry.{TimeEntry}
 use Rattle.outcome.specs.declared.entry.TimeEntry.TheVariants as times
 use Rattle.outcome.specs.declared.entry.SizeEntry.{SizeEntry}
 use Rattle.outcome.specs.declared.outcome_of.Outcome.{Outcome}
-use Rattle.proof_tree.specs.AnswerViews.{gap_of}
-use Rattle.proof_tree.specs.Views.{proof_of}
+use Rattle.cert_types.specs.AnswerViews.{gap_of}
+use Rattle.cert_types.specs.Views.{proof_of}
 use Rattle.size_bounds.specs.Tables.{lemma_stored}
 use Rattle.time_bounds.specs.Numbered.{size_stored}
 use Rattle.time_bounds.specs.Analysis.{IsAnalysis}
 use Rattle.time_bounds.specs.AnalysisLemmas.{HasLemmas}
 
--- the number that what is said of a time carries: that of its lemma, or of its gap; 0 where it carries none
+-- the number that the entry of a time carries: that of its lemma, or of its gap; 0 where it carries none
 abbrev pub number_of_time : TimeEntry → ℕ
 number_of_time (times.Known s) = s.lemma
 number_of_time (times.Gap g) = g
-number_of_time (times.Tripped x) = 0
+number_of_time (times.OutOfLimits x) = 0
 number_of_time (times.Large n) = 0
 
--- the number that what is said of a size carries: that of its lemma; 0 where it carries none
+-- the number that the entry of a size carries: that of its lemma; 0 where it carries none
 abbrev pub number_of_size : SizeEntry → ℕ
 number_of_size x = lemma_stored (size_stored x)
 

@@ -3,63 +3,63 @@ use Rattle.std.specs.Prelude.{ℕ, zero, suc, ◌+◌, List, [], ◌∷◌, ◌+
 use Rattle.std.specs.List.{range_with_len}
 use Rattle.model.specs.Bounds.{Constant}
 use Rattle.model.specs.Programs.{Program, Rule, arity_of}
-use Rattle.proof_tree.specs.proof_nodes.Nodes.{Spot}
-use Rattle.proof_tree.specs.declared.answer.EmptyAnswer.{EmptyAnswer}
-use Rattle.proof_tree.specs.declared.answer.EmptyAnswer.TheVariants as answers
-use Rattle.bound_rounds.specs.Keys.{key, time_key}
-use Rattle.bound_rounds.specs.Finds.{Find, NeverBy}
-use Rattle.bound_rounds.specs.Beginning.{empty_find, unreached_find}
-use Rattle.time_bounds.specs.declared.fates.Fate.{Fate}
-use Rattle.time_bounds.specs.declared.fates.Fate.TheVariants.{Empty, Unreached, Live}
+use Rattle.cert_types.specs.cert_rules.Nodes.{ResultVariable}
+use Rattle.cert_types.specs.declared.answer.GuardFeasibility.{GuardFeasibility}
+use Rattle.cert_types.specs.declared.answer.GuardFeasibility.TheVariants as answers
+use Rattle.bound_fixpoint.specs.Keys.{key, time_key}
+use Rattle.bound_fixpoint.specs.Derivations.{Derivation, NeverBy}
+use Rattle.bound_fixpoint.specs.Beginning.{empty_derivation, unreached_derivation}
+use Rattle.time_bounds.specs.declared.rule_statuses.RuleStatus.{RuleStatus}
+use Rattle.time_bounds.specs.declared.rule_statuses.RuleStatus.TheVariants.{Empty, Unreached, Live}
 
 -- the find of rule t by its answer, where it is empty; and those of these rules from t on
-abbrev pub empty_here : ℕ → EmptyAnswer → List Find
-empty_here t (answers.Empty n) = empty_find t n.multipliers.items ∷ []
+abbrev pub empty_here : ℕ → GuardFeasibility → List Derivation
+empty_here t (answers.Empty n) = empty_derivation t n.multipliers.items ∷ []
 empty_here t (answers.Point z) = []
-empty_here t (answers.Tripped x) = []
+empty_here t (answers.OutOfLimits x) = []
 
-abbrev pub empty_finds : ℕ → List EmptyAnswer → List Find
-empty_finds t [] = []
-empty_finds t (a ∷ empties) = empty_here t a ++ empty_finds (t + 1) empties
+abbrev pub empty_derivations : ℕ → List GuardFeasibility → List Derivation
+empty_derivations t [] = []
+empty_derivations t (a ∷ empties) = empty_here t a ++ empty_derivations (t + 1) empties
 
 -- the key of the time of rule t by its fate, where it is empty; and those of these rules from t on
-abbrev pub empty_key : ℕ → Fate → List Spot
+abbrev pub empty_key : ℕ → RuleStatus → List ResultVariable
 empty_key t Empty = time_key t ∷ []
 empty_key t Unreached = []
 empty_key t Live = []
 
-abbrev pub empty_keys : ℕ → List Fate → List Spot
+abbrev pub empty_keys : ℕ → List RuleStatus → List ResultVariable
 empty_keys t [] = []
-empty_keys t (f ∷ fates) = empty_key t f ++ empty_keys (t + 1) fates
+empty_keys t (f ∷ rule_statuses) = empty_key t f ++ empty_keys (t + 1) rule_statuses
 
--- the find of rule t by its fate, where it is unreached, which rests on these; and those of these rules from t on
-abbrev pub unreached_here : List Spot → ℕ → Fate → List Find
+-- the find of rule t by its status, where it is unreached, with these premises; and those of these rules from t on
+abbrev pub unreached_here : List ResultVariable → ℕ → RuleStatus → List Derivation
 unreached_here dead t Empty = []
-unreached_here dead t Unreached = unreached_find dead t ∷ []
+unreached_here dead t Unreached = unreached_derivation dead t ∷ []
 unreached_here dead t Live = []
 
-abbrev pub unreached_finds : List Spot → ℕ → List Fate → List Find
-unreached_finds dead t [] = []
-unreached_finds dead t (f ∷ fates) = unreached_here dead t f ++ unreached_finds dead (t + 1) fates
+abbrev pub unreached_derivations : List ResultVariable → ℕ → List RuleStatus → List Derivation
+unreached_derivations dead t [] = []
+unreached_derivations dead t (f ∷ rule_statuses) = unreached_here dead t f ++ unreached_derivations dead (t + 1) rule_statuses
 
 -- the find of the sizes at so many places after rule t
-abbrev pub sized_find : ℕ → ℕ → Find
-sized_find t a = record {
+abbrev pub sized_derivation : ℕ → ℕ → Derivation
+sized_derivation t a = record {
   keys = map (λ i. key t i) (range_with_len 1 a);
   node = NeverBy t;
-  needs = time_key t ∷ [];
+  premises = time_key t ∷ [];
   bound = Constant 0;
 }
 
 -- it by the fate of the rule, where it never runs and there is a place; and those of these rules from t on
-abbrev pub never_here : ℕ → Fate → ℕ → List Find
+abbrev pub never_here : ℕ → RuleStatus → ℕ → List Derivation
 never_here t Empty zero = []
-never_here t Empty (suc a) = sized_find t (suc a) ∷ []
+never_here t Empty (suc a) = sized_derivation t (suc a) ∷ []
 never_here t Unreached zero = []
-never_here t Unreached (suc a) = sized_find t (suc a) ∷ []
+never_here t Unreached (suc a) = sized_derivation t (suc a) ∷ []
 never_here t Live a = []
 
-abbrev pub never_finds : Program → ℕ → List Fate → List Rule → List Find
-never_finds p t [] rules = []
-never_finds p t (f ∷ fates) [] = []
-never_finds p t (f ∷ fates) (r ∷ rules) = never_here t f (arity_of p r.target) ++ never_finds p (t + 1) fates rules
+abbrev pub never_derivations : Program → ℕ → List RuleStatus → List Rule → List Derivation
+never_derivations p t [] rules = []
+never_derivations p t (f ∷ rule_statuses) [] = []
+never_derivations p t (f ∷ rule_statuses) (r ∷ rules) = never_here t f (arity_of p r.target) ++ never_derivations p (t + 1) rule_statuses rules

@@ -1,4 +1,4 @@
--- Components of places with what the local answers of their members give once and for all.
+-- Components of places with the parts of their members' local answers that never change.
 use Rattle.std.specs.Prelude.{◌≡◌, ℕ, Bool, true, false, List, [], ◌∷◌, map, Some, None, ⊤}
 use Rattle.std.specs.List.{All}
 use Rattle.model.specs.Programs.{Program}
@@ -7,38 +7,38 @@ use Rattle.outcome.specs.Views.{size_of}
 use Rattle.local_size.specs.LocalAnswers.{HasBound}
 use Rattle.local_size.specs.declared.answer.LocalAnswer.{LocalAnswer}
 use Rattle.local_size.specs.declared.answer.LocalAnswer.TheVariants as answers
-use Rattle.proof_tree.specs.proof_nodes.Nodes.{Spot, Member}
-use Rattle.proof_tree.specs.proof_nodes.AcceptsSizes.{HasMemberShape, HasCycleShape, AcceptsUp, AcceptsLow}
-use Rattle.proof_tree.specs.proof_setting.Setting.{setting_of}
-use Rattle.proof_tree.specs.Views.{spot_of, member_of}
-use Rattle.proof_tree.specs.declared.arm.Member as code
+use Rattle.cert_types.specs.cert_rules.Nodes.{ResultVariable, Member}
+use Rattle.cert_types.specs.cert_rules.AcceptsSizes.{HasMemberShape, HasCycleShape, AcceptsUp, AcceptsLow}
+use Rattle.cert_types.specs.cert_program.Setting.{setting_of}
+use Rattle.cert_types.specs.Views.{result_variable_of, member_of}
+use Rattle.cert_types.specs.declared.side_bound.Member as code
 use Rattle.rvg_components.specs.declared.component.Component.{Component}
 use Rattle.rvg_components.specs.Flows.{Locals, loops}
 use Rattle.rvg_components.specs.Listing.{AreComponents, members_of}
 use Rattle.time_bounds.specs.declared.candidates.Candidate.{Candidate}
-use Rattle.time_bounds.specs.declared.candidates.Arms.{Arms}
-use Rattle.time_bounds.specs.declared.candidates.Arms.TheVariants as arms
-use Rattle.time_bounds.specs.ProgramSizes.{AreLive, AreLocals, AreLocalsOf, AreMembers, lacks_arms}
+use Rattle.time_bounds.specs.declared.candidates.SideBounds.{SideBounds}
+use Rattle.time_bounds.specs.declared.candidates.SideBounds.TheVariants as side_bounds
+use Rattle.time_bounds.specs.ProgramSizes.{AreLive, AreLocals, AreLocalsOf, AreMembers, lacks_side_bounds}
 use Rattle.time_bounds.specs.Locals.{AreAnswered}
 
 -- the places of a candidate
-abbrev pub spots_in : Candidate → List Spot
-spots_in c = map spot_of c.spots.items
+abbrev pub result_variables_in : Candidate → List ResultVariable
+result_variables_in c = map result_variable_of c.result_variables.items
 
 -- whether an answer is a local bound
 abbrev pub is_bound : LocalAnswer → Bool
 is_bound (answers.Bound l) = true
-is_bound (answers.Loose l) = false
-is_bound (answers.Tripped t) = false
+is_bound (answers.UnboundedSide l) = false
+is_bound (answers.OutOfLimits t) = false
 
 -- a place with its local bound
-pub record IsMember (local : Locals) (spot : Spot) (m : Member) : Type 0 where
-  pub spot_is : m.spot ≡ spot
-  pub bound_is : local spot.rule spot.place ≡ HasBound m.local
+pub record IsMember (local : Locals) (result_variable : ResultVariable) (m : Member) : Type 0 where
+  pub result_variable_is : m.result_variable ≡ result_variable
+  pub bound_is : local result_variable.rule result_variable.place ≡ HasBound m.local
 
 -- there is one member at least, and where they don't loop there is one
-pub record IsLone (looping : Bool) (spots : List Spot) : Type 0 where
-  pub only : looping ≡ false → (m : Spot) × (spots ≡ m ∷ [])
+pub record IsLone (looping : Bool) (result_variables : List ResultVariable) : Type 0 where
+  pub only : looping ≡ false → (m : ResultVariable) × (result_variables ≡ m ∷ [])
 
 -- each member of a component has an answer, and where it doesn't loop there is one member
 pub record IsAnswered (locals : List (List LocalAnswer)) (c : Component) : Type 0 where
@@ -46,26 +46,26 @@ pub record IsAnswered (locals : List (List LocalAnswer)) (c : Component) : Type 
   pub lone : IsLone c.looping (members_of c)
 
 -- what the answers for the places give: why a member has no arms, or the only member, or the members of a loop
-abbrev pub AreArms : Locals → List Spot → Bool → Arms → Type 0
-AreArms local spots looping (arms.Lacking entry) =
-    (why : NoSize) × (lacks_arms local spots ≡ Some why) × (size_of entry ≡ Unsized why)
-AreArms local spots looping (arms.Alone m) =
-    (lacks_arms local spots ≡ None) × (looping ≡ false) × AreMembers local spots (member_of m ∷ [])
-AreArms local spots looping (arms.Loop members) =
-    (lacks_arms local spots ≡ None) × (looping ≡ true) × AreMembers local spots (map member_of members.items)
+abbrev pub AreSideBounds : Locals → List ResultVariable → Bool → SideBounds → Type 0
+AreSideBounds local result_variables looping (side_bounds.Lacking entry) =
+    (why : NoSize) × (lacks_side_bounds local result_variables ≡ Some why) × (size_of entry ≡ Unsized why)
+AreSideBounds local result_variables looping (side_bounds.Alone m) =
+    (lacks_side_bounds local result_variables ≡ None) × (looping ≡ false) × AreMembers local result_variables (member_of m ∷ [])
+AreSideBounds local result_variables looping (side_bounds.Loop members) =
+    (lacks_side_bounds local result_variables ≡ None) × (looping ≡ true) × AreMembers local result_variables (map member_of members.items)
 
 -- members are the only one, which doesn't loop, or those of a loop
-abbrev pub IsArmsOf : List code.Member → Bool → Arms → Type 0
-IsArmsOf members looping (arms.Lacking entry) = ⊥
-IsArmsOf members looping (arms.Alone m) = (looping ≡ false) × (members ≡ m ∷ [])
-IsArmsOf members looping (arms.Loop ms) = (looping ≡ true) × (ms.items ≡ members)
+abbrev pub IsSideBoundsOf : List code.Member → Bool → SideBounds → Type 0
+IsSideBoundsOf members looping (side_bounds.Lacking entry) = ⊥
+IsSideBoundsOf members looping (side_bounds.Alone m) = (looping ≡ false) × (members ≡ m ∷ [])
+IsSideBoundsOf members looping (side_bounds.Loop ms) = (looping ≡ true) × (ms.items ≡ members)
 
 -- the candidate has the members of a component, with their arms
 pub record IsArmed (local : Locals) (component : Component) (c : Candidate) : Type 0 where
-  pub spots_are : spots_in c ≡ members_of component
-  pub arms_are : AreArms local (members_of component) component.looping c.arms
+  pub result_variables_are : result_variables_in c ≡ members_of component
+  pub side_bounds_are : AreSideBounds local (members_of component) component.looping c.side_bounds
 
--- so each of these has those of one of these components, in order
+-- each of these has the arms of one of these components, in order
 abbrev pub AreArmed : Locals → List Component → List Candidate → Type 0
 AreArmed local [] [] = ⊤
 AreArmed local [] (c ∷ cs) = ⊥
@@ -78,22 +78,22 @@ pub record IsAccepted (p : Program) (m : Member) : Type 0 where
   pub up : AcceptsUp (setting_of p) m
   pub low : AcceptsLow (setting_of p) m
 
--- so are those of the members of a loop
+-- the arms of the members of a loop are accepted, too
 pub record AreAccepted (p : Program) (members : List Member) : Type 0 where
   pub shape : HasCycleShape (setting_of p) members
   pub up : All (AcceptsUp (setting_of p)) members
   pub low : All (AcceptsLow (setting_of p)) members
 
-abbrev pub HasAccepted : Program → Arms → Type 0
-HasAccepted p (arms.Lacking entry) = ⊤
-HasAccepted p (arms.Alone m) = IsAccepted p (member_of m)
-HasAccepted p (arms.Loop members) = AreAccepted p (map member_of members.items)
+abbrev pub HasAccepted : Program → SideBounds → Type 0
+HasAccepted p (side_bounds.Lacking entry) = ⊤
+HasAccepted p (side_bounds.Alone m) = IsAccepted p (member_of m)
+HasAccepted p (side_bounds.Loop members) = AreAccepted p (map member_of members.items)
 
 -- the places are answered so, and have these arms, which are accepted
 pub record IsRightCandidate (p : Program) (pivots : ℕ) (local : Locals) (c : Candidate) : Type 0 where
-  pub answered : AreLocalsOf p pivots local (spots_in c)
-  pub arms_are : AreArms local (spots_in c) (loops (setting_of p) local (spots_in c)) c.arms
-  pub accepted : HasAccepted p c.arms
+  pub answered : AreLocalsOf p pivots local (result_variables_in c)
+  pub side_bounds_are : AreSideBounds local (result_variables_in c) (loops (setting_of p) local (result_variables_in c)) c.side_bounds
+  pub accepted : HasAccepted p c.side_bounds
 
 -- these are the components of a program, in their order
 pub record AreCandidatesOf (p : Program) (pivots : ℕ) (cs : List Candidate) : Type 0 where
@@ -101,5 +101,5 @@ pub record AreCandidatesOf (p : Program) (pivots : ℕ) (cs : List Candidate) : 
   pub live : AreLive p pivots is_live
   pub local : Locals
   pub locals : AreLocals p pivots is_live local
-  pub components : AreComponents (setting_of p) is_live local (map spots_in cs)
+  pub components : AreComponents (setting_of p) is_live local (map result_variables_in cs)
   pub each : All (IsRightCandidate p pivots local) cs

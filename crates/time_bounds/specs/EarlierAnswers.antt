@@ -1,52 +1,54 @@
--- What earlier rounds made of components, and which of their answers stand where more is known.
+-- The attempts of earlier rounds at components, and which of their answers remain valid when more is known.
 use Rattle.std.specs.Prelude.{◌≡◌, ℕ, List, [], ◌∷◌, Some, None, true, false, ⊤, slice_get}
 use Rattle.model.specs.Bounds.{Bound}
 use Rattle.model.specs.Programs.{Program}
-use Rattle.proof_tree.specs.proof_nodes.Known.{Table}
-use Rattle.bound_rounds.specs.Keys.{Bounds, over}
-use Rattle.bound_rounds.specs.Answers.{are_open}
+use Rattle.cert_types.specs.cert_rules.Known.{Table}
+use Rattle.bound_fixpoint.specs.Keys.{Bounds, over}
+use Rattle.bound_fixpoint.specs.Answers.{are_open}
 use Rattle.size_nodes.specs.declared.sizing.Sizing.{Sizing}
-use Rattle.size_nodes.specs.declared.sizing.Sizing.TheVariants.{Found, Missing, Bent, Untimed, Large}
+use Rattle.size_nodes.specs.declared.sizing.Sizing.TheVariants.{Found, Missing, Nonlinear, Untimed, Large}
 use Rattle.time_bounds.specs.declared.candidates.Candidate.{Candidate}
-use Rattle.time_bounds.specs.declared.sizing.Attempt.{Attempt}
-use Rattle.time_bounds.specs.declared.sizing.Attempt.TheVariants as attempts
+use Rattle.time_bounds.specs.declared.sizing.ComponentAttempt.{ComponentAttempt}
+use Rattle.time_bounds.specs.declared.sizing.ComponentAttempt.TheVariants as attempts
 use Rattle.time_bounds.specs.Attempts.{IsAttempt, is_sized}
-use Rattle.time_bounds.specs.Candidates.{spots_in}
+use Rattle.time_bounds.specs.Candidates.{result_variables_in}
 
 -- all that was known is
 pub record HasGrown (old new : Bounds) : Type 0 where
   pub each : (t i : ℕ) (b : Bound) → old t i ≡ Some b → new t i ≡ Some b
 
--- the reason of an answer stands over a table: what was missing is missing; a bent arm and a large bound stay so
+-- the reason of an answer remains true over a table: what was missing is missing; a bent arm and a large bound remain
+-- reasons
 abbrev pub ReasonStands : Table → Sizing → Type 0
-ReasonStands tab (Found needs bound) = ⊥
+ReasonStands tab (Found premises bound) = ⊥
 ReasonStands tab (Missing m) = tab.size m.rule m.place ≡ None
-ReasonStands tab (Bent m) = ⊤
+ReasonStands tab (Nonlinear m) = ⊤
 ReasonStands tab (Untimed t) = tab.time t ≡ None
 ReasonStands tab (Large n) = ⊤
 
--- there is such an answer at a position, and its reason stands over the table
-pub record StandsAt (tab : Table) (tried : List Attempt) (i : ℕ) (a : Sizing) : Type 0 where
+-- there is such an answer at a position, and its reason remains true over the table
+pub record StandsAt (tab : Table) (tried : List ComponentAttempt) (i : ℕ) (a : Sizing) : Type 0 where
   pub there : slice_get tried i ≡ Some (attempts.Failed a)
   pub stands : ReasonStands tab a
 
--- this was made of the candidate over bounds between these; where a size was found, each of its places has one at last
-pub record WasAttempt (p : Program) (pivots : ℕ) (first last : Bounds) (c : Candidate) (x : Attempt) : Type 0 where
+-- this was the attempt at the candidate over bounds between these; where a size was found, each of its places has one
+-- at last
+pub record WasAttempt (p : Program) (pivots : ℕ) (first last : Bounds) (c : Candidate) (x : ComponentAttempt) : Type 0 where
   pub between : Bounds
   pub after : HasGrown first between
   pub before : HasGrown between last
   pub attempt : IsAttempt p pivots between c x
-  pub found : is_sized x ≡ true → are_open last (spots_in c) ≡ false
+  pub found : is_sized x ≡ true → are_open last (result_variables_in c) ≡ false
 
--- so of the first candidates, in order, as many as there are attempts
-abbrev pub WereAttempts : Program → ℕ → Bounds → Bounds → List Candidate → List Attempt → Type 0
+-- the same for the first candidates, in order, as many as there are attempts
+abbrev pub WereAttempts : Program → ℕ → Bounds → Bounds → List Candidate → List ComponentAttempt → Type 0
 WereAttempts p pivots first last [] [] = ⊤
 WereAttempts p pivots first last [] (x ∷ attempts) = ⊥
 WereAttempts p pivots first last (c ∷ cs) [] = ⊤
 WereAttempts p pivots first last (c ∷ cs) (x ∷ attempts) =
     WasAttempt p pivots first last c x × WereAttempts p pivots first last cs attempts
 
--- an earlier answer for the candidate, whose reason stands with what is known
+-- an earlier answer for the candidate, whose reason remains true with what is known
 pub record IsStanding (p : Program) (pivots : ℕ) (b : Bounds) (c : Candidate) (a : Sizing) : Type 0 where
   pub first : Bounds
   pub was : WasAttempt p pivots first b c (attempts.Failed a)

@@ -1,31 +1,31 @@
 -- the total of all times, and what it is worth
 pub mod Totals
 pub mod Laws
--- what is said in order, and the numbers of lemmas
+-- entries in order, and the numbers of lemmas
 pub mod Numbered
 -- what is answered of a program, and the searches that it makes
 pub mod ProgramRules
 pub mod ProgramSizes
 pub mod ProgramSearches
 pub mod SearchLaws
--- what is asked of rules, and what a round makes of them
+-- questions about rules, and their results in a round
 pub mod Questions
 pub mod Needs
 pub mod TriedRules
 pub mod TimesSaid
 pub mod Shutting
 pub mod Parts
--- what is asked of places, and what a round makes of their components
+-- questions about places, and the results for their components in a round
 pub mod Locals
 pub mod Candidates
 pub mod Attempts
 pub mod SizeSaid
--- what stands of earlier rounds, and what rounds make
+-- the answers of earlier rounds that remain valid, and the results of rounds
 pub mod EarlierAnswers
-pub mod OpenFinds
+pub mod OpenDerivations
 pub mod RoundsMade
 -- what is found before the first round
-pub mod Fates
+pub mod RuleStatuses
 pub mod Beginning
 -- what an analysis says
 pub mod Analysis
@@ -46,4 +46,4 @@ pub mod PrintableLaws
 -- the crates below, which callers name through this one
 pub use Rattle.rank_search.specs.rule_questions
 pub use Rattle.rank_search.specs as rank_search
-pub use Rattle.bound_rounds.specs as bound_rounds
+pub use Rattle.bound_fixpoint.specs as bound_fixpoint

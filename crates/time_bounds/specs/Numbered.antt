@@ -1,4 +1,4 @@
--- What is said of rules and places in order, by their numbers; and the numbers of the lemmas that entries carry.
+-- Properties of rules and places in order, by their numbers; and the numbers of the lemmas that entries carry.
 use Rattle.std.specs.Prelude.{◌≡◌, ℕ, suc, List, [], ◌∷◌, Option, Some, None, ⊤}
 use Rattle.outcome.specs.declared.entry.Stored.{Stored}
 use Rattle.outcome.specs.declared.entry.TimeEntry.{TimeEntry}
@@ -6,7 +6,7 @@ use Rattle.outcome.specs.declared.entry.TimeEntry.TheVariants as times
 use Rattle.outcome.specs.declared.entry.SizeEntry.{SizeEntry}
 use Rattle.outcome.specs.declared.entry.SizeEntry.TheVariants as sizes
 
--- so it is with each of a list and its number, where the first has the number k
+-- each element of a list has the property of its number, where the first has the number k
 abbrev pub EachNumbered : {A : Type 0} → (ℕ → A → Type 0) → ℕ → List A → Type 0
 EachNumbered P k [] = ⊤
 EachNumbered P k (x ∷ xs) = P k x × EachNumbered P (suc k) xs
@@ -15,16 +15,16 @@ EachNumbered P k (x ∷ xs) = P k x × EachNumbered P (suc k) xs
 abbrev pub time_stored : TimeEntry → Option Stored
 time_stored (times.Known s) = Some s
 time_stored (times.Gap g) = None
-time_stored (times.Tripped x) = None
+time_stored (times.OutOfLimits x) = None
 time_stored (times.Large n) = None
 
 -- and that of a size
 abbrev pub size_stored : SizeEntry → Option Stored
 size_stored (sizes.Known s) = Some s
-size_stored (sizes.Loose l) = None
-size_stored (sizes.Tripped x) = None
+size_stored (sizes.UnboundedSide l) = None
+size_stored (sizes.OutOfLimits x) = None
 size_stored (sizes.Missing m) = None
-size_stored (sizes.Bent m) = None
+size_stored (sizes.Nonlinear m) = None
 size_stored (sizes.Untimed r) = None
 size_stored (sizes.Large n) = None
 

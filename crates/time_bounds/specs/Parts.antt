@@ -1,22 +1,22 @@
--- The sets of a round, of which those of a component are made once.
+-- The sets of a round; those of a component are computed once.
 use Rattle.std.specs.Prelude.{◌≡◌, ℕ, suc, ◌<◌, length, true, Some, None, slice_index_or}
 use Rattle.model.specs.Programs.{Program}
 use Rattle.its_graph.specs.Graphs.{HaveSameSets}
 use Rattle.rank_search.specs.rule_questions.ProgramQuestions.{places_of}
-use Rattle.bound_rounds.specs.Keys.{is_untimed}
-use Rattle.bound_rounds.specs.Sets.{IsSetOfRule, AreShutOf}
-use Rattle.bound_book.specs.ByKey.{bounds_in}
+use Rattle.bound_fixpoint.specs.Keys.{is_untimed}
+use Rattle.bound_fixpoint.specs.Sets.{IsSetOfRule, AreShutOf}
+use Rattle.size_bounds.specs.Tables.{bounds_in}
 use Rattle.size_bounds.specs.declared.table.Table.{Table}
 use Rattle.time_bounds.specs.declared.parts.OpenSet.{OpenSet}
 use Rattle.time_bounds.specs.declared.parts.Parts.{Parts}
 use Rattle.time_bounds.specs.Questions.{AreUntimed}
 
--- this is the set of the rule, with its shut places
+-- the set of the rule, with its shut places
 pub record IsOpenSet (p : Program) (tab : Table) (t : ℕ) (s : OpenSet) : Type 0 where
   pub set : IsSetOfRule p (bounds_in tab) t s.set.items
   pub shut : AreShutOf p (bounds_in tab) s.set.items (places_of s.shut.items)
 
--- the flags say which rules have no time; those that are in one component have the same set, and what was found of a
+-- the flags say which rules have no time; those that are in one component have the same set, and what was found for a
 -- component is the set of each of them, with its shut places
 pub record AreParts (p : Program) (tab : Table) (parts : Parts) : Type 0 where
   pub flags : AreUntimed p tab parts.untimed.items

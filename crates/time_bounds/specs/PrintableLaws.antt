@@ -5,10 +5,10 @@ use Rattle.model.specs.Bounds.{Bound}
 use Rattle.its_model.specs.Valid.{IsValid}
 use Rattle.bound_expr.specs.Numbers.{ReadsBelow}
 use Rattle.bound_expr.specs.Tidy.{IsTidy}
-use Rattle.proof_tree.specs.proof_setting.Setting.{setting_of}
-use Rattle.bound_rounds.specs.Keys.{Bounds}
-use Rattle.bound_rounds.specs.Finds.{Find, bounds_of}
-use Rattle.bound_rounds.specs.Rounds.{IsMade}
+use Rattle.cert_types.specs.cert_program.Setting.{setting_of}
+use Rattle.bound_fixpoint.specs.Keys.{Bounds}
+use Rattle.bound_fixpoint.specs.Derivations.{Derivation, bounds_of}
+use Rattle.bound_fixpoint.specs.Rounds.{IsMade}
 use Rattle.time_bounds.specs.ProgramSearches.{searches_of_program}
 use Rattle.time_bounds.specs.Totals.{total_of}
 
@@ -16,11 +16,11 @@ use Rattle.time_bounds.specs.Totals.{total_of}
 abbrev pub IsPrintableBound : ℕ → Bound → Type 0
 IsPrintableBound n b = IsTidy b × ReadsBelow n b
 
--- so is each bound that is known
+-- each bound that is known is printable
 pub record ArePrintableBounds (n : ℕ) (b : Bounds) : Type 0 where
   pub each : (t i : ℕ) (x : Bound) → b t i ≡ Some x → IsPrintableBound n x
 
--- so is each bound of a list, where there is one
+-- each bound of a list is printable, where there is one
 abbrev pub ArePrintable : ℕ → List (Option Bound) → Type 0
 ArePrintable n [] = ⊤
 ArePrintable n (None ∷ os) = ArePrintable n os
@@ -29,7 +29,7 @@ ArePrintable n (Some b ∷ os) = IsPrintableBound n b × ArePrintable n os
 -- of a valid program, all bounds that are known with finds which rounds make are tidy, over the start arguments alone;
 -- and the total of such times is one of them
 pub record FoundBoundsArePrintable : Type 0 where
-  pub finds : (p : Program) (pivots : ℕ) (fs : List Find) → IsValid p
+  pub derivations : (p : Program) (pivots : ℕ) (fs : List Derivation) → IsValid p
       → IsMade (searches_of_program p pivots) (setting_of p) fs
       → ArePrintableBounds (length p.start_names) (bounds_of p fs)
   pub totals : (n : ℕ) (times : List (Option Bound)) (b : Bound) → ArePrintable n times → total_of times ≡ Some b

@@ -1,50 +1,50 @@
--- What `find_empty` and `find_rank` answer of the rules of a program within a number of pivots.
+-- The answers of `find_empty` and `find_rank` on the rules of a program within a number of pivots.
 use Rattle.std.specs.Prelude.{◌≡◌, ℕ, List, Some}
 use Rattle.model.specs.Programs.{Program, Rule, rule_at}
 use Rattle.guard_prep.specs.Prepared.{prepared}
-use Rattle.proof_tree.specs.proof_nodes.Gaps.{SymbolPlace}
-use Rattle.proof_tree.specs.declared.answer.EmptyAnswer.{EmptyAnswer}
-use Rattle.proof_tree.specs.declared.answer.EmptyAnswer.TheVariants as empties
-use Rattle.proof_tree.specs.declared.answer.Trip.{Trip}
-use Rattle.proof_tree.specs.Views.{rank_of}
-use Rattle.proof_tree.specs.AnswerViews.{scaled_of, gap_of}
+use Rattle.cert_types.specs.cert_rules.Gaps.{SymbolPlace}
+use Rattle.cert_types.specs.declared.answer.GuardFeasibility.{GuardFeasibility}
+use Rattle.cert_types.specs.declared.answer.GuardFeasibility.TheVariants as empties
+use Rattle.cert_types.specs.declared.answer.LimitHit.{LimitHit}
+use Rattle.cert_types.specs.Views.{rank_of}
+use Rattle.cert_types.specs.AnswerViews.{scaled_of, gap_of}
 use Rattle.rank_search.specs.declared.answer.RankAnswer.{RankAnswer}
 use Rattle.rank_search.specs.declared.answer.RankAnswer.TheVariants as ranks
 use Rattle.rank_search.specs.rule_questions.ProgramQuestions.{ranked_set}
 use Rattle.rank_search.specs.rule_questions.EmptyAnswers.{IsEmptyAnswer}
 use Rattle.rank_search.specs.rule_questions.RuleAnswers.{AreEmptyAnswers}
 use Rattle.rank_search.specs.RankAnswers.{IsRankAnswer}
-use Rattle.bound_rounds.specs.Searches.{Emptiness, NoPoint, HasPoint, EmptyTripped, Ranking, Ranked, Unranked}
-use Rattle.bound_rounds.specs.Searches.{RankTripped}
+use Rattle.bound_fixpoint.specs.Searches.{Emptiness, NoPoint, HasPoint, EmptyTripped, Ranking, Ranked, Unranked}
+use Rattle.bound_fixpoint.specs.Searches.{RankTripped}
 
 -- an answer whether a rule's rows have a point, as plain data
-abbrev pub emptiness_of : EmptyAnswer → Emptiness
+abbrev pub emptiness_of : GuardFeasibility → Emptiness
 emptiness_of (empties.Empty n) = NoPoint n.multipliers.items
 emptiness_of (empties.Point z) = HasPoint (scaled_of z)
-emptiness_of (empties.Tripped t) = EmptyTripped t
+emptiness_of (empties.OutOfLimits t) = EmptyTripped t
 
 -- an answer which function ranks a rule, as plain data
 abbrev pub ranking_of : RankAnswer → Ranking
 ranking_of (ranks.Ranked node) = Ranked (rank_of node)
 ranking_of (ranks.NoRank gap) = Unranked (gap_of gap)
-ranking_of (ranks.Tripped t) = RankTripped t
+ranking_of (ranks.OutOfLimits t) = RankTripped t
 
 -- this is answered of the emptiness of rule t
 abbrev pub IsEmptinessOf : Program → ℕ → ℕ → Emptiness → Type 0
 IsEmptinessOf p pivots t e = (r : Rule) × (rule_at p t ≡ Some r)
-    × ((a : EmptyAnswer) × (emptiness_of a ≡ e) × IsEmptyAnswer (prepared r) t pivots a)
+    × ((a : GuardFeasibility) × (emptiness_of a ≡ e) × IsEmptyAnswer (prepared r) t pivots a)
 
 -- the rule is empty: its rows have no point, as these multipliers show
 abbrev pub IsEmptyRule : Program → ℕ → ℕ → Type 0
 IsEmptyRule p pivots t = (multipliers : List ℕ) × IsEmptinessOf p pivots t (NoPoint multipliers)
 
--- the linear program which asks whether the rows of a rule have a point passes this limit
-pub record EmptyTripsSo (p : Program) (pivots t : ℕ) (x : Trip) : Type 0 where
+-- the linear program which asks whether the rows of a rule have a point exceeds this limit
+pub record EmptyTripsSo (p : Program) (pivots t : ℕ) (x : LimitHit) : Type 0 where
   pub rule : Rule
   pub numbered : rule_at p t ≡ Some rule
-  pub trips : IsEmptyAnswer (prepared rule) t pivots (empties.Tripped x)
+  pub trips : IsEmptyAnswer (prepared rule) t pivots (empties.OutOfLimits x)
 
--- this is answered to the rank question of a set, a rule of it and shut places
+-- this is the answer to the rank question of a set, a rule of it and shut places
 abbrev pub IsRankingOf : Program → ℕ → List ℕ → ℕ → List SymbolPlace → Ranking → Type 0
-IsRankingOf p pivots set t shut r = (empties : List EmptyAnswer) × AreEmptyAnswers p pivots empties
+IsRankingOf p pivots set t shut r = (empties : List GuardFeasibility) × AreEmptyAnswers p pivots empties
     × ((a : RankAnswer) × (ranking_of a ≡ r) × IsRankAnswer (ranked_set p set t shut) shut pivots empties a)

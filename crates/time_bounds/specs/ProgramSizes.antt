@@ -1,26 +1,26 @@
--- What is answered of the places of a program within some pivots: what `local` does, and which node gives a size.
+-- The answers on the places of a program within a number of pivots: those of `local`, and which node gives a size.
 use Rattle.std.specs.Prelude.{◌≡◌, ◌⊎◌, ◌↔◌, ℕ, Bool, true, false, List, [], ◌∷◌, map, ℤ, Option, Some, None}
 use Rattle.std.specs.List.{All}
 use Rattle.model.specs.Programs.{Program, Rule, rule_at}
 use Rattle.guard_prep.specs.Prepared.{Prepared, prepared}
-use Rattle.outcome.specs.Reports.{NoSize, SizeLoose, SizeTripped}
-use Rattle.proof_tree.specs.proof_nodes.Nodes.{Spot, LocalBound, Member}
-use Rattle.proof_tree.specs.proof_nodes.AcceptsPlain.{IsRule}
-use Rattle.proof_tree.specs.proof_nodes.AcceptsSizes.{AcceptsSpread, AcceptsCycle, Side}
-use Rattle.proof_tree.specs.proof_nodes.Checks.{spread_checks, cycle_checks}
-use Rattle.proof_tree.specs.proof_nodes.Known.{Table}
-use Rattle.proof_tree.specs.proof_nodes.Reasons.{Reason, IsFirstAmong}
-use Rattle.proof_tree.specs.proof_nodes.Setting.{Setting}
-use Rattle.proof_tree.specs.declared.answer.Trip.{Trip}
-use Rattle.local_size.specs.LocalAnswers.{Local, HasBound, IsLooseOn, HasTripped, both_polynomial, HasArms, LacksForm}
-use Rattle.local_size.specs.LocalAnswers.{IsOwnTrip}
+use Rattle.outcome.specs.Reports.{NoSize, SizeUnbounded, SizeTripped}
+use Rattle.cert_types.specs.cert_rules.Nodes.{ResultVariable, LocalBound, Member}
+use Rattle.cert_types.specs.cert_rules.AcceptsPlain.{IsRule}
+use Rattle.cert_types.specs.cert_rules.AcceptsSizes.{AcceptsSpread, AcceptsCycle, Side}
+use Rattle.cert_types.specs.cert_rules.Checks.{spread_checks, cycle_checks}
+use Rattle.cert_types.specs.cert_rules.Known.{Table}
+use Rattle.cert_types.specs.cert_rules.Reasons.{Reason, IsFirstAmong}
+use Rattle.cert_types.specs.cert_rules.Setting.{Setting}
+use Rattle.cert_types.specs.declared.answer.LimitHit.{LimitHit}
+use Rattle.local_size.specs.LocalAnswers.{Local, HasBound, IsUnboundedOn, HasTripped, both_polynomial, HasSideBounds, LacksForm}
+use Rattle.local_size.specs.LocalAnswers.{IsOwnLimitHit}
 use Rattle.local_size.specs.Places.{is_polynomial_at}
 use Rattle.rvg_components.specs.Flows.{Locals, loops}
-use Rattle.bound_rounds.specs.Keys.{IsPlace, key}
-use Rattle.bound_rounds.specs.Finds.{SpreadBy, CycleBy}
-use Rattle.bound_rounds.specs.Searches.{HasPoint, SizeOutcome, SizedBy, Unsized}
-use Rattle.bound_rounds.specs.Components.{IsDead}
-use Rattle.bound_rounds.specs.Right.{IsReasonFor}
+use Rattle.bound_fixpoint.specs.Keys.{IsPlace, key}
+use Rattle.bound_fixpoint.specs.Derivations.{SpreadBy, CycleBy}
+use Rattle.bound_fixpoint.specs.Searches.{HasPoint, SizeOutcome, SizedBy, Unsized}
+use Rattle.bound_fixpoint.specs.Components.{IsDead}
+use Rattle.bound_fixpoint.specs.Right.{IsReasonFor}
 use Rattle.time_bounds.specs.ProgramRules.{IsEmptinessOf, IsEmptyRule, EmptyTripsSo}
 
 -- the rules that are live: those that don't never run
@@ -29,7 +29,7 @@ pub record AreLive (p : Program) (pivots : ℕ) (is_live : ℕ → Bool) : Type 
   pub empty : (t : ℕ) → IsRule p t → (is_empty t ≡ true) ↔ IsEmptyRule p pivots t
   pub live : (t : ℕ) → (is_live t ≡ true) ↔ (IsRule p t × (¬ IsDead p is_empty t))
 
--- no linear program of a place passes a limit, and those of a side come to no form
+-- no linear program of a place exceeds a limit, and those of a side give no form
 pub record LacksSide (m : Prepared) (place pivots : ℕ) (side : Side) (ray : List ℤ) : Type 0 where
   pub straight : is_polynomial_at m place ≡ false
   pub lacks : LacksForm m place pivots side ray
@@ -37,27 +37,27 @@ pub record LacksSide (m : Prepared) (place pivots : ℕ) (side : Side) (ray : Li
 -- the new value bounds itself, as a polynomial in the arguments; or both its sides have forms
 abbrev pub HasBounds : Prepared → ℕ → ℕ → LocalBound → Type 0
 HasBounds m place pivots l =
-    ((is_polynomial_at m place ≡ true) × (l ≡ both_polynomial)) ⊎ HasArms m place pivots l
+    ((is_polynomial_at m place ≡ true) × (l ≡ both_polynomial)) ⊎ HasSideBounds m place pivots l
 
--- no linear program of a place passes a limit, and on a side none comes to a form; but it isn't known that the rule has
--- a point: the linear program which asks for it passes this limit
-pub record PointTripsSo (p : Program) (pivots : ℕ) (m : Prepared) (spot : Spot) (x : Trip) : Type 0 where
+-- no linear program of a place exceeds a limit, and on a side none gives a form; but it isn't known that the rule has a
+-- point: the linear program for one exceeds this limit
+pub record PointTripsSo (p : Program) (pivots : ℕ) (m : Prepared) (result_variable : ResultVariable) (x : LimitHit) : Type 0 where
   pub side : Side
   pub ray : List ℤ
-  pub lacks : LacksSide m spot.place pivots side ray
-  pub trips : EmptyTripsSo p pivots spot.rule x
+  pub lacks : LacksSide m result_variable.place pivots side ray
+  pub trips : EmptyTripsSo p pivots result_variable.rule x
 
--- the first linear program of a place that passes a limit passes this one, or the one for a point does
-abbrev pub TripsAt : Program → ℕ → Prepared → Spot → Trip → Type 0
-TripsAt p pivots m spot x = IsOwnTrip m spot pivots x ⊎ PointTripsSo p pivots m spot x
+-- the first linear program of a place that exceeds a limit passes this one, or the one for a point does
+abbrev pub TripsAt : Program → ℕ → Prepared → ResultVariable → LimitHit → Type 0
+TripsAt p pivots m result_variable x = IsOwnLimitHit m result_variable pivots x ⊎ PointTripsSo p pivots m result_variable x
 
 -- what is answered of a place: its bounds; a side without a form, and a point that the rule has; or which limit is
 -- passed
-abbrev pub IsAnswerAt : Program → ℕ → Prepared → Spot → Local → Type 0
-IsAnswerAt p pivots m spot (HasBound l) = HasBounds m spot.place pivots l
-IsAnswerAt p pivots m spot (IsLooseOn side ray kept) =
-    LacksSide m spot.place pivots side ray × IsEmptinessOf p pivots spot.rule (HasPoint kept)
-IsAnswerAt p pivots m spot (HasTripped x) = TripsAt p pivots m spot x
+abbrev pub IsAnswerAt : Program → ℕ → Prepared → ResultVariable → Local → Type 0
+IsAnswerAt p pivots m result_variable (HasBound l) = HasBounds m result_variable.place pivots l
+IsAnswerAt p pivots m result_variable (IsUnboundedOn side ray kept) =
+    LacksSide m result_variable.place pivots side ray × IsEmptinessOf p pivots result_variable.rule (HasPoint kept)
+IsAnswerAt p pivots m result_variable (HasTripped x) = TripsAt p pivots m result_variable x
 
 -- this is answered of a place after a rule
 pub record IsLocalOf (p : Program) (pivots : ℕ) (t i : ℕ) (x : Local) : Type 0 where
@@ -66,25 +66,25 @@ pub record IsLocalOf (p : Program) (pivots : ℕ) (t i : ℕ) (x : Local) : Type
   pub place : IsPlace p t i
   pub local : IsAnswerAt p pivots (prepared rule) (key t i) x
 
--- so it is of each place after a live rule
+-- the same for each place after a live rule
 abbrev pub AreLocals : Program → ℕ → (ℕ → Bool) → Locals → Type 0
 AreLocals p pivots is_live local =
     (t i : ℕ) → is_live t ≡ true → IsPlace p t i → IsLocalOf p pivots t i (local t i)
 
 -- and of each of these places
-abbrev pub AreLocalsOf : Program → ℕ → Locals → List Spot → Type 0
-AreLocalsOf p pivots local spots = All (λ m. IsLocalOf p pivots m.rule m.place (local m.rule m.place)) spots
+abbrev pub AreLocalsOf : Program → ℕ → Locals → List ResultVariable → Type 0
+AreLocalsOf p pivots local result_variables = All (λ m. IsLocalOf p pivots m.rule m.place (local m.rule m.place)) result_variables
 
 -- the reason of a place that is loose, or tripped
-abbrev pub loose_reason : Local → Option NoSize
-loose_reason (HasBound l) = None
-loose_reason (IsLooseOn side ray kept) = Some (SizeLoose side ray kept)
-loose_reason (HasTripped t) = None
+abbrev pub unbounded_reason : Local → Option NoSize
+unbounded_reason (HasBound l) = None
+unbounded_reason (IsUnboundedOn side ray kept) = Some (SizeUnbounded side ray kept)
+unbounded_reason (HasTripped t) = None
 
-abbrev pub trip_reason : Local → Option NoSize
-trip_reason (HasBound l) = None
-trip_reason (IsLooseOn side ray kept) = None
-trip_reason (HasTripped t) = Some (SizeTripped t)
+abbrev pub limit_hit_reason : Local → Option NoSize
+limit_hit_reason (HasBound l) = None
+limit_hit_reason (IsUnboundedOn side ray kept) = None
+limit_hit_reason (HasTripped t) = Some (SizeTripped t)
 
 -- the first of two reasons
 abbrev pub or_else : Option NoSize → Option NoSize → Option NoSize
@@ -92,18 +92,18 @@ or_else None other = other
 or_else (Some why) other = Some why
 
 -- the reason of the first of these places that has one
-abbrev pub first_reason : (Local → Option NoSize) → Locals → List Spot → Option NoSize
+abbrev pub first_reason : (Local → Option NoSize) → Locals → List ResultVariable → Option NoSize
 first_reason reason local [] = None
-first_reason reason local (m ∷ spots) = or_else (reason (local m.rule m.place)) (first_reason reason local spots)
+first_reason reason local (m ∷ result_variables) = or_else (reason (local m.rule m.place)) (first_reason reason local result_variables)
 
 -- why the places have no arms: the first that is loose, or else the first that tripped
-abbrev pub lacks_arms : Locals → List Spot → Option NoSize
-lacks_arms local spots = or_else (first_reason loose_reason local spots) (first_reason trip_reason local spots)
+abbrev pub lacks_side_bounds : Locals → List ResultVariable → Option NoSize
+lacks_side_bounds local result_variables = or_else (first_reason unbounded_reason local result_variables) (first_reason limit_hit_reason local result_variables)
 
 -- the places with their local bounds
-pub record AreMembers (local : Locals) (spots : List Spot) (members : List Member) : Type 0 where
-  pub spots_are : spots ≡ map (λ m. m.spot) members
-  pub bounds_are : All (λ m. local m.spot.rule m.spot.place ≡ HasBound m.local) members
+pub record AreMembers (local : Locals) (result_variables : List ResultVariable) (members : List Member) : Type 0 where
+  pub result_variables_are : result_variables ≡ map (λ m. m.result_variable) members
+  pub bounds_are : All (λ m. local m.result_variable.rule m.result_variable.place ≡ HasBound m.local) members
 
 -- what is answered of places that don't loop: of the only one the node that gives it a size, or the first check that
 -- fails
@@ -125,12 +125,12 @@ AnswersMembers true s tab members answer = AnswersLoop s tab members answer
 
 -- what is answered of a component over a table: that a place of it is loose, or tripped; else the node that gives it a
 -- size, or the first check that fails
-pub record IsJudged (s : Setting) (tab : Table) (local : Locals) (spots : List Spot) (answer : SizeOutcome)
+pub record IsJudged (s : Setting) (tab : Table) (local : Locals) (result_variables : List ResultVariable) (answer : SizeOutcome)
     : Type 0 where
   pub members : List Member
-  pub are_members : AreMembers local spots members
-  pub sizing : AnswersMembers (loops s local spots) s tab members answer
+  pub are_members : AreMembers local result_variables members
+  pub sizing : AnswersMembers (loops s local result_variables) s tab members answer
 
-abbrev pub AnswersPlaces : Setting → Table → Locals → List Spot → Option NoSize → SizeOutcome → Type 0
-AnswersPlaces s tab local spots (Some why) answer = answer ≡ Unsized why
-AnswersPlaces s tab local spots None answer = IsJudged s tab local spots answer
+abbrev pub AnswersPlaces : Setting → Table → Locals → List ResultVariable → Option NoSize → SizeOutcome → Type 0
+AnswersPlaces s tab local result_variables (Some why) answer = answer ≡ Unsized why
+AnswersPlaces s tab local result_variables None answer = IsJudged s tab local result_variables answer

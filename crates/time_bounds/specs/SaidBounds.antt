@@ -1,18 +1,18 @@
--- The bounds that a report says, by key.
+-- The bounds of a report, by key.
 use Rattle.std.specs.Prelude.{zero, suc, Option, Some, None}
 use Rattle.model.specs.Bounds.{Bound}
 use Rattle.model.specs.Programs.{Program}
 use Rattle.outcome.specs.Holding.{numbered_entry, place_entry}
 use Rattle.outcome.specs.Reports.{Time, Size, Sized, Unsized, Report}
-use Rattle.bound_rounds.specs.Keys.{Bounds, start_bounds}
+use Rattle.bound_fixpoint.specs.Keys.{Bounds, start_bounds}
 use Rattle.time_bounds.specs.Analysis.{bound_in}
 
--- the bound of what is said of a rule, where something is said and it is one
+-- the bound of a rule's entry, where there is an entry and it is a bound
 abbrev pub time_said : Option Time → Option Bound
 time_said None = None
 time_said (Some x) = bound_in x
 
--- and of what is said of a place after it
+-- and of the entry of a place after it
 abbrev pub size_said : Option Size → Option Bound
 size_said None = None
 size_said (Some (Sized b)) = Some b

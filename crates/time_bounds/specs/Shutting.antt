@@ -4,9 +4,9 @@ use Rattle.std.specs.Prelude.{None, slice_set}
 use Rattle.std.specs.List.{list_any, range_with_len}
 use Rattle.model.specs.Programs.{Program, arity_of}
 use Rattle.model.specs.Paths.{target_of, same_symbol}
-use Rattle.proof_tree.specs.proof_nodes.Gaps.{SymbolPlace}
-use Rattle.proof_tree.specs.proof_nodes.Known.{Table}
-use Rattle.bound_rounds.specs.Keys.{lacks}
+use Rattle.cert_types.specs.cert_rules.Gaps.{SymbolPlace}
+use Rattle.cert_types.specs.cert_rules.Known.{Table}
+use Rattle.bound_fixpoint.specs.Keys.{lacks}
 
 -- the place has no size after one of these rules
 abbrev pub lacks_any : Table → List ℕ → ℕ → Bool
@@ -32,7 +32,7 @@ into p es a = filter (λ e. same_symbol (target_of p e) (Some a)) es
 abbrev pub shut_by : Program → Table → List ℕ → ℕ → List SymbolPlace
 shut_by p tab es a = shut_at tab (into p es a) a (arity_of p a)
 
--- of so many symbols from a on
+-- of this many symbols from a on
 abbrev pub shut_from : Program → Table → List ℕ → ℕ → ℕ → List SymbolPlace
 shut_from p tab es a zero = []
 shut_from p tab es a (suc n) = shut_by p tab es a ++ shut_from p tab es (a + 1) n

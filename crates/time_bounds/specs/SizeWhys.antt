@@ -9,25 +9,25 @@ use Rattle.model.specs.Paths.{pre}
 use Rattle.its_model.specs.linear_forms.Forms.{Form, at, form_value}
 use Rattle.its_model.specs.linear_forms.Points.{IsPoint}
 use Rattle.guard_prep.specs.Prepared.{prepared}
-use Rattle.outcome.specs.Reports.{NoSize, SizeLoose, SizeTripped, SizeMissing, SizeBent, SizeUntimed, SizeLarge}
-use Rattle.proof_tree.specs.rule_forms.Bounds.{HasNone, IsLooseRay}
-use Rattle.proof_tree.specs.rule_forms.Kinds.{Affine, IsOfKind}
-use Rattle.proof_tree.specs.proof_nodes.AcceptsSizes.{Side, IsStraight, spread_size, cycle_size}
-use Rattle.proof_tree.specs.proof_nodes.Checks.{large_nodes}
-use Rattle.proof_tree.specs.proof_nodes.ComposedSizes.{poly_at, reads, rules_of, flows, multiplies, adds}
-use Rattle.proof_tree.specs.proof_nodes.Gaps.{ScaledPoint}
-use Rattle.proof_tree.specs.proof_nodes.Known.{Table}
-use Rattle.proof_tree.specs.proof_nodes.Limits.{IsSmallComposed}
-use Rattle.proof_tree.specs.proof_nodes.Nodes.{Spot, Member}
-use Rattle.proof_tree.specs.proof_nodes.Setting.{Setting}
-use Rattle.proof_tree.specs.proof_setting.Setting.{setting_of}
-use Rattle.proof_tree.specs.declared.answer.Trip.{Trip}
+use Rattle.outcome.specs.Reports.{NoSize, SizeUnbounded, SizeTripped, SizeMissing, SizeNonlinear, SizeUntimed, SizeLarge}
+use Rattle.cert_types.specs.rule_forms.Bounds.{HasNone, IsUnboundedRay}
+use Rattle.cert_types.specs.rule_forms.Kinds.{Affine, IsOfKind}
+use Rattle.cert_types.specs.cert_rules.AcceptsSizes.{Side, IsStraight, spread_size, cycle_size}
+use Rattle.cert_types.specs.cert_rules.Checks.{large_nodes}
+use Rattle.cert_types.specs.cert_rules.ComposedSizes.{poly_at, reads, rules_of, flows, multiplies, adds}
+use Rattle.cert_types.specs.cert_rules.Gaps.{ScaledPoint}
+use Rattle.cert_types.specs.cert_rules.Known.{Table}
+use Rattle.cert_types.specs.cert_rules.Limits.{IsSmallComposed}
+use Rattle.cert_types.specs.cert_rules.Nodes.{ResultVariable, Member}
+use Rattle.cert_types.specs.cert_rules.Setting.{Setting}
+use Rattle.cert_types.specs.cert_program.Setting.{setting_of}
+use Rattle.cert_types.specs.declared.answer.LimitHit.{LimitHit}
 use Rattle.local_size.specs.LocalAnswers.{HasBound}
 use Rattle.local_size.specs.Places.{value_on, is_polynomial_at}
-use Rattle.bound_rounds.specs.Components.{IsOneOf}
-use Rattle.bound_rounds.specs.Keys.{Bounds, key, has_key, over}
-use Rattle.bound_rounds.specs.Loops.{do_loop}
-use Rattle.bound_rounds.specs.Searches.{Unsized}
+use Rattle.bound_fixpoint.specs.Components.{IsOneOf}
+use Rattle.bound_fixpoint.specs.Keys.{Bounds, key, has_key, over}
+use Rattle.bound_fixpoint.specs.Loops.{do_loop}
+use Rattle.bound_fixpoint.specs.Searches.{Unsized}
 use Rattle.time_bounds.specs.ProgramSearches.{searches_of_program}
 use Rattle.time_bounds.specs.ProgramSizes.{IsLocalOf, AnswersMembers, TripsAt}
 
@@ -56,12 +56,12 @@ pub record PassesEveryForm (p : Program) (t i : ℕ) (side : Side) (ray : List �
   pub long_ray : length ray ≡ (prepared rule).unknowns
   pub long_kept : length kept.parts ≡ (prepared rule).unknowns
   pub from : IsPoint (prepared rule).rows (at kept.parts) (pos kept.den)
-  pub along : IsLooseRay (prepared rule).rows (prepared rule).left (value_on side (prepared rule) i) (at ray)
+  pub along : IsUnboundedRay (prepared rule).rows (prepared rule).left (value_on side (prepared rule) i) (at ray)
   pub passes : PassesForms (prepared rule).rows (prepared rule).left (value_on side (prepared rule) i) kept ray
   pub none : HasNone (prepared rule).rows (prepared rule).left (value_on side (prepared rule) i) Affine
 
--- the first linear program of a place that passes a limit passes this one, or the one for a point does
-pub record PlaceTripsSo (p : Program) (pivots t i : ℕ) (x : Trip) : Type 0 where
+-- the first linear program of a place that exceeds a limit passes this one, or the one for a point does
+pub record PlaceTripsSo (p : Program) (pivots t i : ℕ) (x : LimitHit) : Type 0 where
   pub rule : Rule
   pub numbered : rule_at p t ≡ Some rule
   pub trips : TripsAt p pivots (prepared rule) (key t i) x
@@ -69,11 +69,11 @@ pub record PlaceTripsSo (p : Program) (pivots t i : ℕ) (x : Trip) : Type 0 whe
 -- the places that have one size with a place, since values flow from it into them and back, each with its local bounds:
 -- the members of its component in the graph of places
 pub record IsComponentOf (p : Program) (pivots t i : ℕ) (members : List Member) : Type 0 where
-  pub components : List (List Spot)
+  pub components : List (List ResultVariable)
   pub are_components : (searches_of_program p pivots).AreComponents components
-  pub among : IsOneOf components (map (λ m. m.spot) members)
-  pub inside : has_key (map (λ m. m.spot) members) t i ≡ true
-  pub bounds : All (λ m. IsLocalOf p pivots m.spot.rule m.spot.place (HasBound m.local)) members
+  pub among : IsOneOf components (map (λ m. m.result_variable) members)
+  pub inside : has_key (map (λ m. m.result_variable) members) t i ≡ true
+  pub bounds : All (λ m. IsLocalOf p pivots m.result_variable.rule m.result_variable.place (HasBound m.local)) members
 
 -- of what the size of members needs over these bounds, this is the first that is missing
 abbrev pub LacksFirst : Setting → Bounds → List Member → NoSize → Type 0
@@ -81,34 +81,35 @@ LacksFirst s b members why = AnswersMembers (do_loop s members) s (over b) membe
 
 -- a member takes its value from a place: the rule of the place can come just before the member's rule, and a local
 -- bound of the member reads the place
-pub record TakesFrom (s : Setting) (n : Member) (m : Spot) : Type 0 where
+pub record TakesFrom (s : Setting) (n : Member) (m : ResultVariable) : Type 0 where
   pub place : 1 ≤ m.place
-  pub before : is_in m.rule (pre s.program n.spot.rule) ≡ true
-  pub reads : (reads (poly_at s n.spot) n.local.up (m.place - 1) || reads (poly_at s n.spot) n.local.low (m.place - 1))
+  pub before : is_in m.rule (pre s.program n.result_variable.rule) ≡ true
+  pub reads : (reads (poly_at s n.result_variable) n.local.up (m.place - 1) || reads (poly_at s n.result_variable) n.local.low (m.place - 1))
       ≡ true
 
--- the size rests on that of another place, which isn't known: a member takes its value from there, and it is no member
-pub record RestsOnSize (p : Program) (pivots : ℕ) (b : Bounds) (t i : ℕ) (m : Spot) : Type 0 where
+-- the size depends on that of another place, which isn't known: a member takes its value from there, and it is no
+-- member
+pub record RestsOnSize (p : Program) (pivots : ℕ) (b : Bounds) (t i : ℕ) (m : ResultVariable) : Type 0 where
   pub members : List Member
   pub component : IsComponentOf p pivots t i members
   pub member : Member
   pub among : Contains members member
   pub takes : TakesFrom (setting_of p) member m
-  pub outside : has_key (map (λ n. n.spot) members) m.rule m.place ≡ false
+  pub outside : has_key (map (λ n. n.result_variable) members) m.rule m.place ≡ false
   pub missing : b m.rule m.place ≡ None
   pub first : LacksFirst (setting_of p) b members (SizeMissing m)
 
 -- in a loop the value at this place multiplies members: its local bound is a polynomial of degree 2 or more that reads
 -- one
-pub record BendsAt (p : Program) (pivots : ℕ) (b : Bounds) (t i : ℕ) (m : Spot) : Type 0 where
+pub record BendsAt (p : Program) (pivots : ℕ) (b : Bounds) (t i : ℕ) (m : ResultVariable) : Type 0 where
   pub members : List Member
   pub component : IsComponentOf p pivots t i members
   pub member : Member
   pub among : Contains members member
-  pub same : member.spot ≡ m
+  pub same : member.result_variable ≡ m
   pub loop : do_loop (setting_of p) members ≡ true
-  pub bent : ¬ (IsStraight (setting_of p) members member)
-  pub first : LacksFirst (setting_of p) b members (SizeBent m)
+  pub nonlinear : ¬ (IsStraight (setting_of p) members member)
+  pub first : LacksFirst (setting_of p) b members (SizeNonlinear m)
 
 -- in a loop the value grows with each use of this rule, which multiplies it or adds to it; and the rule has no time
 pub record GrowsUntimed (p : Program) (pivots : ℕ) (b : Bounds) (t i u : ℕ) : Type 0 where
@@ -127,7 +128,7 @@ composed_size true s tab members = cycle_size s tab members
 composed_size false s tab [] = Constant 0
 composed_size false s tab (m ∷ members) = spread_size s tab m
 
--- the size that is composed of known times and sizes is large, and has so many nodes
+-- the size that is composed of known times and sizes is large, and has this many nodes
 pub record SizeIsLarge (p : Program) (pivots : ℕ) (b : Bounds) (t i n : ℕ) : Type 0 where
   pub members : List Member
   pub component : IsComponentOf p pivots t i members
@@ -139,9 +140,9 @@ pub record SizeIsLarge (p : Program) (pivots : ℕ) (b : Bounds) (t i n : ℕ) :
 
 -- what each reason says of a place without a size, where these bounds are known
 abbrev pub HasNoSize : Program → ℕ → Bounds → ℕ → ℕ → NoSize → Type 0
-HasNoSize p pivots b t i (SizeLoose side ray kept) = PassesEveryForm p t i side ray kept
+HasNoSize p pivots b t i (SizeUnbounded side ray kept) = PassesEveryForm p t i side ray kept
 HasNoSize p pivots b t i (SizeTripped x) = PlaceTripsSo p pivots t i x
 HasNoSize p pivots b t i (SizeMissing m) = RestsOnSize p pivots b t i m
-HasNoSize p pivots b t i (SizeBent m) = BendsAt p pivots b t i m
+HasNoSize p pivots b t i (SizeNonlinear m) = BendsAt p pivots b t i m
 HasNoSize p pivots b t i (SizeUntimed u) = GrowsUntimed p pivots b t i u
 HasNoSize p pivots b t i (SizeLarge n) = SizeIsLarge p pivots b t i n

@@ -4,64 +4,64 @@ use Rattle.model.specs.Programs.{Program}
 use Rattle.its_model.specs.linear_forms.LinearProgram.{HasSolution}
 use Rattle.its_model.specs.linear_forms.RuleQuestions.{RankedSet}
 use Rattle.outcome.specs.Reports.{NoTime, NoFunction, TimeTripped, TimeLarge}
-use Rattle.proof_tree.specs.rule_forms.Ranking.{NoRank}
-use Rattle.proof_tree.specs.proof_nodes.AcceptsRank.{rank_time}
-use Rattle.proof_tree.specs.proof_nodes.Checks.{large_nodes}
-use Rattle.proof_tree.specs.proof_nodes.GapChecks.{GapHolds}
-use Rattle.proof_tree.specs.proof_nodes.Gaps.{SymbolPlace, Gap}
-use Rattle.proof_tree.specs.proof_nodes.Limits.{IsSmallComposed}
-use Rattle.proof_tree.specs.proof_nodes.Nodes.{RankNode}
-use Rattle.proof_tree.specs.proof_setting.Setting.{setting_of}
-use Rattle.proof_tree.specs.declared.answer.Trip.{Trip}
-use Rattle.rank_search.specs.RankAnswers.{rank_program, IsRankNode, IsOwnTrip}
+use Rattle.cert_types.specs.rule_forms.Ranking.{NoRank}
+use Rattle.cert_types.specs.cert_rules.AcceptsRank.{rank_time}
+use Rattle.cert_types.specs.cert_rules.Checks.{large_nodes}
+use Rattle.cert_types.specs.cert_rules.GapChecks.{GapHolds}
+use Rattle.cert_types.specs.cert_rules.Gaps.{SymbolPlace, Gap}
+use Rattle.cert_types.specs.cert_rules.Limits.{IsSmallComposed}
+use Rattle.cert_types.specs.cert_rules.Nodes.{RankNode}
+use Rattle.cert_types.specs.cert_program.Setting.{setting_of}
+use Rattle.cert_types.specs.declared.answer.LimitHit.{LimitHit}
+use Rattle.rank_search.specs.RankAnswers.{rank_program, IsRankNode, IsOwnLimitHit}
 use Rattle.rank_search.specs.rule_questions.ProgramQuestions.{forms_at, ranked_set}
 use Rattle.rank_search.specs.rule_questions.Programs.{NothingTrips}
-use Rattle.bound_rounds.specs.Keys.{Bounds, over}
-use Rattle.bound_rounds.specs.Right.{IsRanking}
-use Rattle.bound_rounds.specs.Sets.{IsSetOfRule, AreShutOf}
+use Rattle.bound_fixpoint.specs.Keys.{Bounds, over}
+use Rattle.bound_fixpoint.specs.Right.{IsRanking}
+use Rattle.bound_fixpoint.specs.Sets.{IsSetOfRule, AreShutOf}
 use Rattle.time_bounds.specs.ProgramRules.{EmptyTripsSo}
 
--- of these rules there is a first one for which the linear program that asks for a point passes a limit: it passes this
--- one
-abbrev pub FirstTripsSo : Program → ℕ → List ℕ → Trip → Type 0
+-- of these rules there is a first one for which the linear program that asks for a point exceeds a limit: it passes
+-- this one
+abbrev pub FirstTripsSo : Program → ℕ → List ℕ → LimitHit → Type 0
 FirstTripsSo p pivots [] x = ⊥
 FirstTripsSo p pivots (t ∷ ts) x = EmptyTripsSo p pivots t x
-    ⊎ (((y : Trip) → ¬ (EmptyTripsSo p pivots t y)) × FirstTripsSo p pivots ts x)
+    ⊎ (((y : LimitHit) → ¬ (EmptyTripsSo p pivots t y)) × FirstTripsSo p pivots ts x)
 
--- where these bounds are known, a function is looked for over this set, and may not look at these places: the set holds
+-- where these bounds are known, a function is searched over this set, with coefficient 0 at these places: the set holds
 -- the rule, and each rule without a time from where a path of such rules leads to it; and a place of a symbol is shut
 -- where some entry of the set leads to the symbol and has no size there
 pub record IsSought (p : Program) (b : Bounds) (t : ℕ) (set : List ℕ) (shut : List SymbolPlace) : Type 0 where
   pub is_set : IsSetOfRule p b t set
   pub are_shut : AreShutOf p b set shut
 
--- no affine function of the arguments that aren't shut ranks the rule: over the rational points of the linear parts of
--- the guards of its set, where a new value of degree 2 or more counts as a variable of its own, which may be any
--- number, and comparisons of degree 2 or more aren't looked at; and the gap, which is of exactly this set and these
--- shut places, shows it by its points
+-- no affine function of the arguments that aren't shut ranks the rule over the rational points of the linear parts of
+-- the guards of its set; there a new value of degree 2 or more counts as a variable of its own, which may be any
+-- number, and comparisons of degree 2 or more are ignored. The points of the gap, which is of exactly this set and
+-- these shut places, show it
 pub record NoFunctionRanks (p : Program) (b : Bounds) (t : ℕ) (g : Gap) : Type 0 where
   pub rule : g.rule ≡ t
   pub sought : IsSought p b t g.set g.shut
   pub none : NoRank (ranked_set p g.set t g.shut)
   pub shown : GapHolds p (forms_at p) g
 
--- the linear program of a rank question passes no limit and has no solution, but it isn't known of each rule of the set
--- that it has a point, without which that excludes no function: the linear program of the first such rule passes this
--- limit
-pub record PointsTripSo (p : Program) (pivots : ℕ) (b : RankedSet) (x : Trip) : Type 0 where
+-- the linear program of a rank question exceeds no limit and has no solution, but it isn't known of each rule of the
+-- set that it has a point, without which that excludes no function: the linear program of the first such rule exceeds
+-- this limit
+pub record PointsLimitHitSo (p : Program) (pivots : ℕ) (b : RankedSet) (x : LimitHit) : Type 0 where
   pub untripped : NothingTrips (rank_program b) pivots
   pub unsolved : ¬ (HasSolution (rank_program b))
   pub first : FirstTripsSo p pivots b.set x
 
--- the linear program which asks for a function that ranks the rule passes this limit, or one of those for points does
-pub record RankTripsSo (p : Program) (pivots : ℕ) (b : Bounds) (t : ℕ) (x : Trip) : Type 0 where
+-- the linear program which asks for a function that ranks the rule exceeds this limit, or one of those for points does
+pub record RankTripsSo (p : Program) (pivots : ℕ) (b : Bounds) (t : ℕ) (x : LimitHit) : Type 0 where
   pub set : List ℕ
   pub shut : List SymbolPlace
   pub sought : IsSought p b t set shut
-  pub trips : IsOwnTrip (ranked_set p set t shut) pivots x ⊎ PointsTripSo p pivots (ranked_set p set t shut) x
+  pub trips : IsOwnLimitHit (ranked_set p set t shut) pivots x ⊎ PointsLimitHitSo p pivots (ranked_set p set t shut) x
 
--- a function of the arguments that aren't shut ranks the rule, the one to which the simplex method comes; but the time
--- that it composes of known times and sizes is large, and has so many nodes
+-- the function of least weight at which the simplex method ends ranks the rule, and uses only arguments that aren't
+-- shut; but the time that it composes of known times and sizes is too large, with this many nodes
 pub record TimeIsLarge (p : Program) (pivots : ℕ) (b : Bounds) (t n : ℕ) : Type 0 where
   pub set : List ℕ
   pub shut : List SymbolPlace

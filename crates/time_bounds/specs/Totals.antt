@@ -11,7 +11,7 @@ use Rattle.outcome.specs.declared.entry.TimeEntry.TheVariants as entries
 abbrev pub time_in : TimeEntry → Option Bound
 time_in (entries.Known s) = Some (bound_of s.bound)
 time_in (entries.Gap g) = None
-time_in (entries.Tripped t) = None
+time_in (entries.OutOfLimits t) = None
 time_in (entries.Large nodes) = None
 
 -- a bound before others, where all of them are known

@@ -1,4 +1,4 @@
--- Why bounds are missing in a report: what each reason says of the program.
+-- Why bounds are missing in a report: the meaning of each reason for the program.
 use Rattle.std.specs.Prelude.{◌≡◌, ℕ, Some}
 use Rattle.model.specs.Programs.{Program}
 use Rattle.its_model.specs.Valid.{IsValid}
@@ -9,13 +9,13 @@ use Rattle.time_bounds.specs.SaidBounds.{bounds_said}
 use Rattle.time_bounds.specs.SizeWhys.{HasNoSize}
 use Rattle.time_bounds.specs.TimeWhys.{HasNoTime}
 
--- each reason in a report is so of the program, over the times and sizes that the report itself says
+-- each reason in a report is true of the program, over the times and sizes of the report itself
 pub record ReasonsAreTrue (p : Program) (pivots : ℕ) (r : Report) : Type 0 where
   pub times : (t : ℕ) (why : NoTime) → numbered_entry r.times t ≡ Some (Untimed why)
       → HasNoTime p pivots (bounds_said p r) t why
   pub sizes : (t i : ℕ) (why : NoSize) → place_entry (numbered_entry r.sizes t) i ≡ Some (Unsized why)
       → HasNoSize p pivots (bounds_said p r) t i why
 
--- so it is in the report of the analysis of a valid program
+-- the same in the report of the analysis of a valid program
 pub record AnalysesGiveReasons : Type 0 where
   pub each : (p : Program) (pivots : ℕ) (r : Report) → IsValid p → IsAnalysis p pivots r → ReasonsAreTrue p pivots r

@@ -1,13 +1,13 @@
--- Reports of small programs, as they were worked out by hand: of k(A) -> k(A); and of k(A) -> l(C), where C is free,
--- with l(A) -> l(A - 1) where A >= 1.
+-- Reports of small programs, worked out by hand: of k(A) -> k(A); and of k(A) -> l(C), where C is free, with l(A) ->
+-- l(A - 1) where A >= 1.
 use Rattle.std.specs.Prelude.{List, [], ◌∷◌, ℤ, pos, None}
 use Rattle.model.specs.Bounds.{Constant, Input}
-use Rattle.outcome.specs.Reports.{NoFunction, Timed, Untimed, SizeLoose, SizeMissing, Sized, Unsized, Report}
-use Rattle.proof_tree.specs.proof_nodes.AcceptsSizes.{Up}
-use Rattle.proof_tree.specs.proof_nodes.Gaps.{ScaledPoint, Gap}
-use Rattle.proof_tree.specs.proof_nodes.WorkedGaps.{guessed, scaled, one, nowhere, gap_of_one, place_of_l}
-use Rattle.proof_tree.specs.proof_setting.WorkedGaps.{looping, gap_alone}
-use Rattle.bound_rounds.specs.Keys.{Bounds, key}
+use Rattle.outcome.specs.Reports.{NoFunction, Timed, Untimed, SizeUnbounded, SizeMissing, Sized, Unsized, Report}
+use Rattle.cert_types.specs.cert_rules.AcceptsSizes.{Up}
+use Rattle.cert_types.specs.cert_rules.Gaps.{ScaledPoint, Gap}
+use Rattle.cert_types.specs.cert_rules.WorkedGaps.{guessed, scaled, one, nowhere, gap_of_one, place_of_l}
+use Rattle.cert_types.specs.cert_program.WorkedGaps.{looping, gap_alone}
+use Rattle.bound_fixpoint.specs.Keys.{Bounds, key}
 use Rattle.time_bounds.specs.SaidBounds.{bounds_said}
 
 -- the rule that stays has no time, by its gap, and the argument after it keeps its size
@@ -35,7 +35,7 @@ abbrev pub guessed_report : Report
 guessed_report = record {
   times = Timed (Constant 1) ∷ Untimed (NoFunction (gap_of_one place_of_l (pos 1) 1 (pos 1) 0 (pos 1) 1)) ∷ [];
   total = None;
-  sizes = (Unsized (SizeLoose Up along_free from_one) ∷ []) ∷ (Unsized (SizeMissing (key 1 1)) ∷ []) ∷ [];
+  sizes = (Unsized (SizeUnbounded Up along_free from_one) ∷ []) ∷ (Unsized (SizeMissing (key 1 1)) ∷ []) ∷ [];
 }
 
 abbrev pub guessed_said : Bounds

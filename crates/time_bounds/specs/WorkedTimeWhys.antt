@@ -1,18 +1,17 @@
--- What reasons of missing times say of small programs, as it was worked out by hand: of two rules k(A) -> k(A), and of
--- one alone.
+-- What reasons of missing times say of small programs, worked out by hand: of two rules k(A) -> k(A), and of one alone.
 use Rattle.std.specs.Prelude.{◌≡◌, ℕ, ◌≤◌, [], ◌∷◌, Some, None}
 use Rattle.model.specs.Bounds.{Constant, Input}
 use Rattle.model.specs.Programs.{Program}
 use Rattle.outcome.specs.Reports.{NoFunction, TimeTripped, TimeLarge, Timed, Untimed, SizeMissing, Sized, Unsized}
 use Rattle.outcome.specs.Reports.{Report}
-use Rattle.its_model.specs.linear_forms.declared.trip_cause.TripCause.{TripCause}
-use Rattle.its_model.specs.linear_forms.declared.trip_cause.TripCause.TheVariants as causes
-use Rattle.proof_tree.specs.declared.answer.Question.TheVariants as asked
-use Rattle.proof_tree.specs.declared.answer.Trip.{Trip}
-use Rattle.proof_tree.specs.proof_nodes.Gaps.{Gap}
-use Rattle.proof_tree.specs.proof_nodes.WorkedGaps.{one, nowhere, gap_with}
-use Rattle.proof_tree.specs.proof_setting.WorkedGaps.{first_place, looping_rule, looping, gap_alone}
-use Rattle.bound_rounds.specs.Keys.{Bounds, key}
+use Rattle.its_model.specs.linear_forms.declared.limit_cause.LimitCause.{LimitCause}
+use Rattle.its_model.specs.linear_forms.declared.limit_cause.LimitCause.TheVariants as causes
+use Rattle.cert_types.specs.declared.answer.Question.TheVariants as asked
+use Rattle.cert_types.specs.declared.answer.LimitHit.{LimitHit}
+use Rattle.cert_types.specs.cert_rules.Gaps.{Gap}
+use Rattle.cert_types.specs.cert_rules.WorkedGaps.{one, nowhere, gap_with}
+use Rattle.cert_types.specs.cert_program.WorkedGaps.{first_place, looping_rule, looping, gap_alone}
+use Rattle.bound_fixpoint.specs.Keys.{Bounds, key}
 use Rattle.time_bounds.specs.SaidBounds.{bounds_said}
 use Rattle.time_bounds.specs.TimeWhys.{IsSought, HasNoTime}
 use Rattle.time_bounds.specs.Whys.{ReasonsAreTrue}
@@ -31,7 +30,7 @@ twice = record {
 abbrev pub pair_gap : Gap
 pair_gap = gap_with 1 (1 ∷ 2 ∷ []) [] (one ∷ nowhere ∷ []) nowhere (one ∷ one ∷ [])
 
--- the second rule is said to have a time, and the argument after it a size
+-- the second rule has a time in the report, and the argument after it a size
 abbrev pub second_report : Report
 second_report = record {
   times = Untimed (NoFunction staying_gap) ∷ Timed (Constant 1) ∷ [];
@@ -72,8 +71,8 @@ pub record EachHasItsOwn : Type 0 where
   pub second_size : second_said 2 1 ≡ Some (Input 0)
   pub no_third : second_said 3 0 ≡ None
 
--- where the second rule has a time, the set of the first is itself alone, and else both. The second enters the symbol
--- then: where it has no size, its place is shut, and else it isn't
+-- where the second rule has a time, the set of the first is the first alone, and else both. The second enters the
+-- symbol then: where it has no size, its place is shut, and else it isn't
 pub record SetsAreSought : Type 0 where
   pub alone : IsSought twice second_said 1 (1 ∷ []) []
   pub not_both : ¬ (IsSought twice second_said 1 (1 ∷ 2 ∷ []) [])
@@ -84,7 +83,7 @@ pub record SetsAreSought : Type 0 where
   pub not_alone : ¬ (IsSought twice both_said 1 (1 ∷ []) [])
 
 -- no function ranks the first rule, as the gap of its own set shows, and no other: the gap of another set or of other
--- shut places says nothing of it, that of the first rule nothing of the second, and a gap that doesn't hold shows
+-- shut places shows nothing of it, that of the first rule nothing of the second, and a gap that doesn't hold shows
 -- nothing
 pub record GapsSaySo : Type 0 where
   pub alone : HasNoTime twice 10 second_said 1 (NoFunction staying_gap)
@@ -96,17 +95,17 @@ pub record GapsSaySo : Type 0 where
   pub not_balanced : ¬ (HasNoTime looping 10 staying_said 1 (NoFunction (gap_alone 1 one one one)))
 
 -- the rank question of the rule passed this limit
-abbrev pub own_trip : TripCause → Trip
-own_trip cause = record { question = asked.Rank 1; cause = cause }
+abbrev pub own_limit_hit : LimitCause → LimitHit
+own_limit_hit cause = record { question = asked.Rank 1; cause = cause }
 
 -- with 10 pivots the limit of 9 isn't passed, and no table of 5 numbers is too wide; and no time is large that has 200
 -- nodes or fewer
 pub record LimitsSaySo : Type 0 where
-  pub other_budget : ¬ (HasNoTime looping 10 staying_said 1 (TimeTripped (own_trip (causes.Budget 9))))
-  pub not_wide : ¬ (HasNoTime looping 10 staying_said 1 (TimeTripped (own_trip (causes.Wide 5))))
+  pub other_budget : ¬ (HasNoTime looping 10 staying_said 1 (TimeTripped (own_limit_hit (causes.Budget 9))))
+  pub not_wide : ¬ (HasNoTime looping 10 staying_said 1 (TimeTripped (own_limit_hit (causes.Wide 5))))
   pub small : (p : Program) (pivots : ℕ) (b : Bounds) (t n : ℕ) → n ≤ 200 → ¬ (HasNoTime p pivots b t (TimeLarge n))
 
--- where a report tells another gap than the one that holds
+-- where a report has another gap than the one that holds
 abbrev pub wrong_report : Report
 wrong_report = record {
   times = Untimed (NoFunction (gap_alone 1 one one one)) ∷ [];
@@ -114,7 +113,7 @@ wrong_report = record {
   sizes = (Sized (Input 0) ∷ []) ∷ [];
 }
 
--- all of these; and the reasons in a whole report are so, and with another gap aren't
+-- all of these; and the reasons in a whole report are true, and with another gap aren't
 pub record MissingTimesAreWorkedOut : Type 0 where
   pub own : EachHasItsOwn
   pub sets : SetsAreSought

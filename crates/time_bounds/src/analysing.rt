@@ -1,4 +1,4 @@
-//! The analysis of a program.
+//! Analyses a program.
 
 ghost use Rattle.std.specs.Prelude.{IfOk, length};
 ghost use Rattle.std.specs.List.{All};
@@ -7,34 +7,34 @@ ghost use Rattle.its_model.specs.Views.{program_of};
 ghost use Rattle.outcome.specs.Views.{report_of};
 ghost use Rattle.outcome.specs.Holding.{ReportHolds, IsReportOn};
 ghost use Rattle.outcome.specs.Printing.{HasItsGap, IsPrintableOutcome};
-ghost use Rattle.bound_book.specs.Books.{IsBook};
+ghost use Rattle.bound_derivations.specs.Books.{AreDerivedBounds};
 ghost use Rattle.time_bounds.specs.Analysis.{IsAnalysis};
 ghost use Rattle.time_bounds.specs.AnalysisLemmas.{HasLemmas};
 ghost use Rattle.time_bounds.specs.Candidates.{AreCandidatesOf};
-ghost use Rattle.time_bounds.specs.Fates.{AreFates};
+ghost use Rattle.time_bounds.specs.RuleStatuses.{AreRuleStatuses};
 ghost use Rattle.time_bounds.specs.ProgramSearches.{searches_of_program};
 ghost use Rattle.time_bounds.specs.Questions.{BelongsTogether, program_in};
 ghost use Rattle.time_bounds.specs.RoundsMade.{AreMade, IsRoundMade};
 ghost use Rattle.time_bounds.specs.Whys.{ReasonsAreTrue};
 
-use crate::beginning::first_finds;
+use crate::beginning::first_derivations;
 use crate::candidates::{Candidate, candidates};
 use crate::context::{Context, context_of};
-use crate::fates::{Fate, fates};
-use crate::new_finds::take_all;
-use crate::reasons::{Said, said_of};
-use crate::rounds::{Kept, rounds};
-use crate::size_reasons::said_sizes;
+use crate::new_derivations::take_all;
+use crate::reasons::{TimesAndGaps, time_entries};
+use crate::rounds::{LastRound, rounds};
+use crate::rule_statuses::{RuleStatus, rule_statuses};
+use crate::size_reasons::size_entries;
 use crate::totals::total;
-use bound_book::{Book, book_of_start, lemmas};
+use bound_derivations::{DerivedBounds, derived_bounds_at_start, lemmas};
 use its_model::Program;
 use model::Memory;
 use outcome::Outcome;
 use std::alloc::Global;
 
-/// What an analysis finds of a program, where each linear program may take so many pivots: of each rule a time or why
-/// there is none, and of each place after it a size or why there is none; the total where each rule has a time; the
-/// lemmas that state them, and the gaps.
+/// Analyses a program, where each linear program may take this many pivots: for each rule a time or why there is none,
+/// and for each place after it a size or why there is none; the total where each rule has a time; the lemmas that state
+/// them, and the gaps.
 ///
 /// # Errors
 ///
@@ -52,56 +52,56 @@ pub fn analyse(alloc: Global, p: &Program, pivots: u32) -> Result<Outcome, Memor
     analysed(&cx)
 }
 
-// What rounds find of the program, and what is said with it.
+// Runs the rounds on the program, and builds the outcome from their bounds.
 fn analysed(cx: &Context) -> Result<Outcome, Memory>
     requires { BelongsTogether cx.now }
     ensures found { IfOk result (λ o. IsAnalysis (program_in cx.now) cx.now.pivots (report_of o)) }
     ensures gaps { IfOk result (λ o. All (HasItsGap (length o.gaps.items)) o.times.items) }
     ensures lemmas { IfOk result (λ o. HasLemmas (program_in cx.now) cx.now.pivots o) }
 {
-    let fates = fates(cx)?;
-    let candidates = candidates(cx, &fates)?;
-    let mut book = first_book(cx, &fates)?;
-    let kept = rounds(cx, &candidates, &mut book)?;
-    said_with(cx, &candidates, book, kept)
+    let rule_statuses = rule_statuses(cx)?;
+    let candidates = candidates(cx, &rule_statuses)?;
+    let mut derived = first_derived(cx, &rule_statuses)?;
+    let kept = rounds(cx, &candidates, &mut derived)?;
+    outcome_from(cx, &candidates, derived, kept)
 }
 
-// The book of what is found before the first round.
-fn first_book(cx: &Context, fates: &[Fate]) -> Result<Book, Memory>
+// The book of the finds before the first round.
+fn first_derived(cx: &Context, rule_statuses: &[RuleStatus]) -> Result<DerivedBounds, Memory>
     requires ready { BelongsTogether cx.now }
-    requires fates { AreFates (searches_of_program (program_in cx.now) cx.now.pivots) (program_in cx.now) fates.now }
-    ensures made { IfOk result (λ book. AreMade cx.now book.finds.items) }
-    ensures book { IfOk result (λ book. IsBook (program_in cx.now) book.table book.finds.items) }
+    requires rule_statuses { AreRuleStatuses (searches_of_program (program_in cx.now) cx.now.pivots) (program_in cx.now) rule_statuses.now }
+    ensures made { IfOk result (λ derived. AreMade cx.now derived.derivations.items) }
+    ensures derived { IfOk result (λ derived. AreDerivedBounds (program_in cx.now) derived.table derived.derivations.items) }
 {
-    let mut book = book_of_start(cx.alloc, cx.program)?;
-    let first = first_finds(cx, fates)?;
-    take_all(cx, &mut book, first)?;
-    Ok(book)
+    let mut derived = derived_bounds_at_start(cx.alloc, cx.program)?;
+    let first = first_derivations(cx, rule_statuses)?;
+    take_all(cx, &mut derived, first)?;
+    Ok(derived)
 }
 
-// What is said with the last finds, by what the last round made of each rule and of each component.
-fn said_with(
+// Builds the outcome from the final bounds and the last round's result for each rule and component.
+fn outcome_from(
     cx: &Context,
     candidates: &[Candidate],
-    book: Book,
-    kept: Kept,
+    derived: DerivedBounds,
+    kept: LastRound,
 ) -> Result<Outcome, Memory>
     requires ready { BelongsTogether cx.now }
     requires candidates { AreCandidatesOf (program_in cx.now) cx.now.pivots candidates.now }
-    requires made { AreMade cx.now book.finds.items }
-    requires last { IsRoundMade cx.now candidates.now book.finds.items book.finds.items kept }
-    requires book { IsBook (program_in cx.now) book.table book.finds.items }
+    requires made { AreMade cx.now derived.derivations.items }
+    requires last { IsRoundMade cx.now candidates.now derived.derivations.items derived.derivations.items kept }
+    requires derived { AreDerivedBounds (program_in cx.now) derived.table derived.derivations.items }
     ensures found { IfOk result (λ o. IsAnalysis (program_in cx.now) cx.now.pivots (report_of o)) }
     ensures gaps { IfOk result (λ o. All (HasItsGap (length o.gaps.items)) o.times.items) }
     ensures lemmas { IfOk result (λ o. HasLemmas (program_in cx.now) cx.now.pivots o) }
 {
-    let Kept { asked, attempts } = kept;
-    let Book { table, finds } = book;
-    let mut sizes = said_sizes(cx.alloc, &table, candidates, &attempts)?;
+    let LastRound { asked, attempts } = kept;
+    let DerivedBounds { table, derivations } = derived;
+    let mut sizes = size_entries(cx.alloc, &table, candidates, &attempts)?;
     sizes.remove(0);
-    let Said { times, gaps } = said_of(cx, &table, asked)?;
+    let TimesAndGaps { times, gaps } = time_entries(cx, &table, asked)?;
     let total = total(cx.alloc, &times)?;
-    let lemmas = lemmas(cx.alloc, &table, finds)?;
+    let lemmas = lemmas(cx.alloc, &table, derivations)?;
     Ok(Outcome {
         times,
         sizes,

@@ -2,7 +2,7 @@
 
 ghost use Rattle.std.specs.Prelude.{◌≡◌, ◌<◌, ◌≤◌, true, IfOk, IfSome, OnOk, Some, None, slice_index_or, false};
 ghost use Rattle.rank_search.specs.RankAnswers.{IsRuleSet, MayAllRun};
-ghost use Rattle.bound_book.specs.ByKey.{bounds_in};
+ghost use Rattle.size_bounds.specs.Tables.{bounds_in};
 ghost use Rattle.time_bounds.specs.Parts.{AreParts};
 ghost use Rattle.time_bounds.specs.Questions.{AnswersQuestion, IsAsked, BelongsTogether, IsSameQuestion, IsTable, program_in};
 
@@ -12,23 +12,23 @@ use model::Memory;
 use rank_search::{RankAnswer, find_rank};
 use size_bounds::Table;
 
-/// A rank question that was answered: over which set, and which places were shut.
+/// A ranking query that was answered, with its set and its shut places.
 #[derive(Debug, Drop)]
-pub(crate) struct Asked {
+pub(crate) struct AnsweredRankQuestion {
     pub set: Vec<u32>,
     pub shut: Vec<(u32, u32)>,
     pub answer: RankAnswer,
 }
 
-/// The rank question of a rule without a time, over what is known. Where the question is the one that was asked before,
-/// its answer is kept.
+/// The ranking query for a rule without a time, given the bounds known so far. If it is the rule's previous query
+/// again, the previous answer is reused.
 pub(crate) fn ask(
     cx: &Context,
     table: &Table,
     parts: &mut Parts,
     rule: u32,
-    before: Option<Asked>,
-) -> Result<Asked, Memory>
+    before: Option<AnsweredRankQuestion>,
+) -> Result<AnsweredRankQuestion, Memory>
     requires ready { BelongsTogether cx.now }
     requires table { IsTable (program_in cx.now) table.now cx.now.empties.items }
     requires parts { AreParts (program_in cx.now) table.now parts.old }
@@ -49,8 +49,8 @@ fn answered(
     rule: u32,
     set: Vec<u32>,
     shut: Vec<(u32, u32)>,
-    before: Option<Asked>,
-) -> Result<Asked, Memory>
+    before: Option<AnsweredRankQuestion>,
+) -> Result<AnsweredRankQuestion, Memory>
     requires ready { BelongsTogether cx.now }
     requires rules { IsRuleSet (program_in cx.now) set.items rule }
     requires may_run { MayAllRun set.items cx.now.empties.items }
@@ -65,8 +65,12 @@ fn answered(
     }
 }
 
-// What was asked before, where it is of this set and these shut places.
-fn same_question(before: Option<Asked>, set: &[u32], shut: &[(u32, u32)]) -> Option<Asked>
+// The previous query, if it has this set and these shut places.
+fn same_question(
+    before: Option<AnsweredRankQuestion>,
+    set: &[u32],
+    shut: &[(u32, u32)],
+) -> Option<AnsweredRankQuestion>
     ensures { IfSome result (λ a. IsSameQuestion before set.now shut.now a) }
 {
     let old = before?;
@@ -101,13 +105,13 @@ fn are_same_places(first: &[(u32, u32)], second: &[(u32, u32)]) -> bool
     true
 }
 
-// The answer to a question that wasn't asked before.
+// The answer to a query that is new.
 fn new_answer(
     cx: &Context,
     rule: u32,
     set: Vec<u32>,
     shut: Vec<(u32, u32)>,
-) -> Result<Asked, Memory>
+) -> Result<AnsweredRankQuestion, Memory>
     requires ready { BelongsTogether cx.now }
     requires rules { IsRuleSet (program_in cx.now) set.items rule }
     requires may_run { MayAllRun set.items cx.now.empties.items }
@@ -118,12 +122,12 @@ fn new_answer(
     let answer = find_rank(
         cx.alloc,
         cx.program,
-        &cx.preps,
+        &cx.prepared_rules,
         &set,
         rule,
         &shut,
         &cx.empties,
         cx.pivots,
     )?;
-    Ok(Asked { set, shut, answer })
+    Ok(AnsweredRankQuestion { set, shut, answer })
 }

@@ -1,43 +1,43 @@
-//! The components of places, with what the local answers of their members give once and for all.
+//! The components of places, with the parts of their members' local answers that never change.
 
 ghost use Rattle.std.specs.Prelude.{◌≡◌, ◌∷◌, [], length, map, IfOk, Some, None, true, false};
 ghost use Rattle.std.specs.List.{All};
 ghost use Rattle.std.specs.Option.{option_map};
-ghost use Rattle.outcome.specs.Views.{loose_of, size_of};
+ghost use Rattle.outcome.specs.Views.{unbounded_of, size_of};
 ghost use Rattle.outcome.specs.Reports.{SizeTripped, Unsized};
-ghost use Rattle.proof_tree.specs.Views.{spot_of, member_of};
+ghost use Rattle.cert_types.specs.Views.{result_variable_of, member_of};
 ghost use Rattle.rvg_components.specs.Listing.{answer_lists, local_from};
 ghost use Rattle.time_bounds.specs.ProgramSearches.{searches_of_program};
-ghost use Rattle.time_bounds.specs.ProgramSizes.{AreMembers, first_reason, loose_reason, trip_reason};
-ghost use Rattle.time_bounds.specs.ProgramSizes.{lacks_arms};
+ghost use Rattle.time_bounds.specs.ProgramSizes.{AreMembers, first_reason, unbounded_reason, limit_hit_reason};
+ghost use Rattle.time_bounds.specs.ProgramSizes.{lacks_side_bounds};
 ghost use Rattle.time_bounds.specs.Questions.{BelongsTogether, program_in};
-ghost use Rattle.time_bounds.specs.Fates.{AreFates};
+ghost use Rattle.time_bounds.specs.RuleStatuses.{AreRuleStatuses};
 ghost use Rattle.time_bounds.specs.Locals.{answer_in, AreAnswered};
-ghost use Rattle.time_bounds.specs.Candidates.{is_bound, IsMember, IsLone, IsAnswered, AreArms, IsArmsOf};
+ghost use Rattle.time_bounds.specs.Candidates.{is_bound, IsMember, IsLone, IsAnswered, AreSideBounds, IsSideBoundsOf};
 ghost use Rattle.time_bounds.specs.Candidates.{IsArmed};
 ghost use Rattle.time_bounds.specs.Candidates.{AreArmed, AreCandidatesOf};
 
 use crate::context::Context;
-use crate::copies::copied_loose;
-use crate::fates::Fate;
+use crate::copies::copied_unbounded;
 use crate::locals::{all_locals, live_rules};
+use crate::rule_statuses::RuleStatus;
+use cert_types::{LimitHit, Member, ResultVariable, copied_local};
 use local_size::LocalAnswer;
 use model::Memory;
-use outcome::{Loose, SizeEntry};
-use proof_tree::{Member, Spot, Trip, copied_local};
+use outcome::{SizeEntry, UnboundedSide};
 use rvg_components::{Component, components};
 use std::alloc::Global;
 
 /// A component of places, with its arms.
 #[derive(Debug, Drop)]
 pub(crate) struct Candidate {
-    pub spots: Vec<Spot>,
-    pub arms: Arms,
+    pub result_variables: Vec<ResultVariable>,
+    pub side_bounds: SideBounds,
 }
 
 /// The arms of the members of a component.
 #[derive(Debug, Drop)]
-pub(crate) enum Arms {
+pub(crate) enum SideBounds {
     /// A member has none, for this reason.
     Lacking(SizeEntry),
     /// The only member doesn't loop.
@@ -47,19 +47,22 @@ pub(crate) enum Arms {
 }
 
 /// The components of the places of live rules, in the order in which they are tried, with the arms of their members.
-pub(crate) fn candidates(cx: &Context, fates: &[Fate]) -> Result<Vec<Candidate>, Memory>
+pub(crate) fn candidates(
+    cx: &Context,
+    rule_statuses: &[RuleStatus],
+) -> Result<Vec<Candidate>, Memory>
     requires ready { BelongsTogether cx.now }
-    requires fates { AreFates (searches_of_program (program_in cx.now) cx.now.pivots) (program_in cx.now) fates.now }
+    requires rule_statuses { AreRuleStatuses (searches_of_program (program_in cx.now) cx.now.pivots) (program_in cx.now) rule_statuses.now }
     ensures { IfOk result (λ cs. AreCandidatesOf (program_in cx.now) cx.now.pivots cs.items) }
 {
-    let live = live_rules(cx.alloc, fates)?;
-    let locals = all_locals(cx, fates)?;
-    let found = components(cx.alloc, &cx.graph, &cx.preps, &locals, &live)?;
-    with_arms(cx.alloc, &locals, found)
+    let live = live_rules(cx.alloc, rule_statuses)?;
+    let locals = all_locals(cx, rule_statuses)?;
+    let found = components(cx.alloc, &cx.graph, &cx.prepared_rules, &locals, &live)?;
+    with_side_bounds(cx.alloc, &locals, found)
 }
 
 // Components with the arms of their members.
-fn with_arms(
+fn with_side_bounds(
     alloc: Global,
     locals: &[Vec<LocalAnswer>],
     found: Vec<Component>,
@@ -69,13 +72,13 @@ fn with_arms(
 {
     let mut candidates = Vec::new(alloc);
     for component in found {
-        candidates.push(with_its_arms(alloc, locals, component)?)?;
+        candidates.push(with_its_side_bounds(alloc, locals, component)?)?;
     }
     Ok(candidates)
 }
 
 // A component with the arms of its members.
-fn with_its_arms(
+fn with_its_side_bounds(
     alloc: Global,
     locals: &[Vec<LocalAnswer>],
     component: Component,
@@ -84,30 +87,30 @@ fn with_its_arms(
     ensures { IfOk result (λ c. IsArmed (local_from (answer_lists locals.now)) component c) }
 {
     let Component { members, looping } = component;
-    let arms = arms_of(alloc, locals, &members, looping)?;
+    let side_bounds = side_bounds_of(alloc, locals, &members, looping)?;
     Ok(Candidate {
-        spots: members,
-        arms,
+        result_variables: members,
+        side_bounds,
     })
 }
 
 // The arms of the members of a component: why one has none, the first that is loose, or else the first that tripped.
-fn arms_of(
+fn side_bounds_of(
     alloc: Global,
     locals: &[Vec<LocalAnswer>],
-    spots: &[Spot],
+    result_variables: &[ResultVariable],
     looping: bool,
-) -> Result<Arms, Memory>
-    requires answered { AreAnswered (answer_lists locals.now) (map spot_of spots.now) }
-    requires lone { IsLone looping (map spot_of spots.now) }
-    ensures { IfOk result (λ arms. AreArms (local_from (answer_lists locals.now)) (map spot_of spots.now) looping
-        arms) }
+) -> Result<SideBounds, Memory>
+    requires answered { AreAnswered (answer_lists locals.now) (map result_variable_of result_variables.now) }
+    requires lone { IsLone looping (map result_variable_of result_variables.now) }
+    ensures { IfOk result (λ side_bounds. AreSideBounds (local_from (answer_lists locals.now)) (map result_variable_of result_variables.now) looping
+        side_bounds) }
 {
-    match lacking(alloc, locals, spots)? {
-        Some(entry) => Ok(Arms::Lacking(entry)),
+    match lacking(alloc, locals, result_variables)? {
+        Some(entry) => Ok(SideBounds::Lacking(entry)),
         None => {
-            let members = members_of(alloc, locals, spots)?;
-            Ok(as_arms(members, looping))
+            let members = members_of(alloc, locals, result_variables)?;
+            Ok(as_side_bounds(members, looping))
         }
     }
 }
@@ -116,59 +119,65 @@ fn arms_of(
 fn lacking(
     alloc: Global,
     locals: &[Vec<LocalAnswer>],
-    spots: &[Spot],
+    result_variables: &[ResultVariable],
 ) -> Result<Option<SizeEntry>, Memory>
-    requires { AreAnswered (answer_lists locals.now) (map spot_of spots.now) }
+    requires { AreAnswered (answer_lists locals.now) (map result_variable_of result_variables.now) }
     ensures { IfOk result (λ entry. option_map size_of entry
-        ≡ option_map Unsized (lacks_arms (local_from (answer_lists locals.now)) (map spot_of spots.now))) }
+        ≡ option_map Unsized (lacks_side_bounds (local_from (answer_lists locals.now)) (map result_variable_of result_variables.now))) }
 {
-    match first_loose(locals, spots) {
-        Some(loose) => Ok(Some(SizeEntry::Loose(copied_loose(alloc, loose)?))),
-        None => match first_trip(locals, spots) {
-            Some(trip) => Ok(Some(SizeEntry::Tripped(trip))),
+    match first_unbounded(locals, result_variables) {
+        Some(unbounded) => Ok(Some(SizeEntry::UnboundedSide(copied_unbounded(alloc, unbounded)?))),
+        None => match first_limit_hit(locals, result_variables) {
+            Some(limit_hit) => Ok(Some(SizeEntry::OutOfLimits(limit_hit))),
             None => Ok(None),
         },
     }
 }
 
 // Members with their arms: of a loop, or the only one.
-fn as_arms(members: Vec<Member>, looping: bool) -> Arms
+fn as_side_bounds(members: Vec<Member>, looping: bool) -> SideBounds
     requires { looping ≡ false → length members.items ≡ 1 }
-    ensures { IsArmsOf members.items looping result }
+    ensures { IsSideBoundsOf members.items looping result }
 {
     if looping {
-        return Arms::Loop(members);
+        return SideBounds::Loop(members);
     }
     let mut members = members;
     match members.pop() {
-        Some(member) => Arms::Alone(member),
+        Some(member) => SideBounds::Alone(member),
         None => unreachable!(),
     }
 }
 
 // The first of these places that is loose.
-fn first_loose<'a>(locals: &'a [Vec<LocalAnswer>], spots: &[Spot]) -> Option<&'a Loose>
-    requires { AreAnswered (answer_lists locals.now) (map spot_of spots.now) }
-    ensures { option_map (λ l. loose_of l.now) result
-        ≡ first_reason loose_reason (local_from (answer_lists locals.now)) (map spot_of spots.now) }
+fn first_unbounded<'a>(
+    locals: &'a [Vec<LocalAnswer>],
+    result_variables: &[ResultVariable],
+) -> Option<&'a UnboundedSide>
+    requires { AreAnswered (answer_lists locals.now) (map result_variable_of result_variables.now) }
+    ensures { option_map (λ l. unbounded_of l.now) result
+        ≡ first_reason unbounded_reason (local_from (answer_lists locals.now)) (map result_variable_of result_variables.now) }
 {
-    for spot in spots {
-        if let LocalAnswer::Loose(loose) = answer_at(locals, *spot) {
-            return Some(loose);
+    for result_variable in result_variables {
+        if let LocalAnswer::UnboundedSide(unbounded) = answer_at(locals, *result_variable) {
+            return Some(unbounded);
         }
     }
     None
 }
 
 // Why the first of these places tripped whose linear programs did.
-fn first_trip(locals: &[Vec<LocalAnswer>], spots: &[Spot]) -> Option<Trip>
-    requires { AreAnswered (answer_lists locals.now) (map spot_of spots.now) }
+fn first_limit_hit(
+    locals: &[Vec<LocalAnswer>],
+    result_variables: &[ResultVariable],
+) -> Option<LimitHit>
+    requires { AreAnswered (answer_lists locals.now) (map result_variable_of result_variables.now) }
     ensures { option_map (λ t. SizeTripped t) result
-        ≡ first_reason trip_reason (local_from (answer_lists locals.now)) (map spot_of spots.now) }
+        ≡ first_reason limit_hit_reason (local_from (answer_lists locals.now)) (map result_variable_of result_variables.now) }
 {
-    for spot in spots {
-        if let LocalAnswer::Tripped(trip) = answer_at(locals, *spot) {
-            return Some(*trip);
+    for result_variable in result_variables {
+        if let LocalAnswer::OutOfLimits(limit_hit) = answer_at(locals, *result_variable) {
+            return Some(*limit_hit);
         }
     }
     None
@@ -178,40 +187,44 @@ fn first_trip(locals: &[Vec<LocalAnswer>], spots: &[Spot]) -> Option<Trip>
 fn members_of(
     alloc: Global,
     locals: &[Vec<LocalAnswer>],
-    spots: &[Spot],
+    result_variables: &[ResultVariable],
 ) -> Result<Vec<Member>, Memory>
-    requires answered { AreAnswered (answer_lists locals.now) (map spot_of spots.now) }
-    requires armed { lacks_arms (local_from (answer_lists locals.now)) (map spot_of spots.now) ≡ None }
-    ensures { IfOk result (λ members. AreMembers (local_from (answer_lists locals.now)) (map spot_of spots.now)
+    requires answered { AreAnswered (answer_lists locals.now) (map result_variable_of result_variables.now) }
+    requires armed { lacks_side_bounds (local_from (answer_lists locals.now)) (map result_variable_of result_variables.now) ≡ None }
+    ensures { IfOk result (λ members. AreMembers (local_from (answer_lists locals.now)) (map result_variable_of result_variables.now)
         (map member_of members.items)) }
 {
     let mut members = Vec::new(alloc);
-    for spot in spots {
-        members.push(member_at(alloc, locals, *spot)?)?;
+    for result_variable in result_variables {
+        members.push(member_at(alloc, locals, *result_variable)?)?;
     }
     Ok(members)
 }
 
 // A place that has a local bound, with this bound.
-fn member_at(alloc: Global, locals: &[Vec<LocalAnswer>], spot: Spot) -> Result<Member, Memory>
-    requires { (a : LocalAnswer) × (answer_in (answer_lists locals.now) spot.rule spot.place ≡ Some a)
+fn member_at(
+    alloc: Global,
+    locals: &[Vec<LocalAnswer>],
+    result_variable: ResultVariable,
+) -> Result<Member, Memory>
+    requires { (a : LocalAnswer) × (answer_in (answer_lists locals.now) result_variable.rule result_variable.place ≡ Some a)
         × (is_bound a ≡ true) }
-    ensures { IfOk result (λ m. IsMember (local_from (answer_lists locals.now)) (spot_of spot) (member_of m)) }
+    ensures { IfOk result (λ m. IsMember (local_from (answer_lists locals.now)) (result_variable_of result_variable) (member_of m)) }
 {
-    match answer_at(locals, spot) {
+    match answer_at(locals, result_variable) {
         LocalAnswer::Bound(local) => Ok(Member {
-            spot,
+            result_variable,
             local: copied_local(alloc, local)?,
         }),
-        LocalAnswer::Loose(_) => unreachable!(),
-        LocalAnswer::Tripped(_) => unreachable!(),
+        LocalAnswer::UnboundedSide(_) => unreachable!(),
+        LocalAnswer::OutOfLimits(_) => unreachable!(),
     }
 }
 
 // The answer for a place that has one.
-fn answer_at(locals: &[Vec<LocalAnswer>], spot: Spot) -> &LocalAnswer
-    requires { (a : LocalAnswer) × (answer_in (answer_lists locals.now) spot.rule spot.place ≡ Some a) }
-    ensures { answer_in (answer_lists locals.now) spot.rule spot.place ≡ Some result.now }
+fn answer_at(locals: &[Vec<LocalAnswer>], result_variable: ResultVariable) -> &LocalAnswer
+    requires { (a : LocalAnswer) × (answer_in (answer_lists locals.now) result_variable.rule result_variable.place ≡ Some a) }
+    ensures { answer_in (answer_lists locals.now) result_variable.rule result_variable.place ≡ Some result.now }
 {
-    &locals[spot.rule as usize - 1][spot.place as usize - 1]
+    &locals[result_variable.rule as usize - 1][result_variable.place as usize - 1]
 }

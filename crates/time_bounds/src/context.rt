@@ -1,34 +1,34 @@
-//! What an analysis stands on: the program, its graph, the rows of its rules, and whether they have a point.
+//! The context of an analysis: the program, its graph, the rows of its rules, and whether they have a point.
 
 ghost use Rattle.std.specs.Prelude.{◌≡◌, ◌<◌, ◌-◌, ◌^◌, length, IfOk};
 ghost use Rattle.std.specs.List.{All};
 ghost use Rattle.its_model.specs.Valid.{IsValid};
 ghost use Rattle.its_model.specs.Views.{program_of};
-ghost use Rattle.proof_tree.specs.Composing.{AreRowsOf};
+ghost use Rattle.cert_types.specs.Composing.{AreRowsOf};
 ghost use Rattle.rank_search.specs.rule_questions.EmptyAnswers.{IsPrepared};
 ghost use Rattle.time_bounds.specs.Questions.{AreAnswersFrom, BelongsTogether};
 
+use cert_types::GuardFeasibility;
 use guard_prep::{RuleRows, rows};
 use its_graph::Graph;
 use its_model::Program;
 use model::Memory;
-use proof_tree::EmptyAnswer;
-use rank_search::find_empty;
+use rank_search::guard_feasibility;
 use std::alloc::Global;
 
-/// What an analysis stands on: the program, its graph, the rows of each rule, for each rule whether its rows have a
+/// The context of an analysis: the program, its graph, the rows of each rule, for each rule whether its rows have a
 /// point, and how many pivots a linear program may take.
 #[derive(Debug, Drop)]
 pub(crate) struct Context<'a> {
     pub alloc: Global,
     pub program: &'a Program,
     pub graph: Graph,
-    pub preps: Vec<RuleRows>,
-    pub empties: Vec<EmptyAnswer>,
+    pub prepared_rules: Vec<RuleRows>,
+    pub empties: Vec<GuardFeasibility>,
     pub pivots: u32,
 }
 
-/// Prepares each rule and asks whether its rows have a point.
+/// Prepares each rule, and decides whether its rows have a point.
 pub(crate) fn context_of<'a>(
     alloc: Global,
     program: &'a Program,
@@ -40,13 +40,13 @@ pub(crate) fn context_of<'a>(
     ensures pivots { IfOk result (λ cx. cx.pivots ≡ pivots) }
 {
     let graph = Graph::new(alloc, program)?;
-    let preps = all_rows(alloc, program)?;
-    let empties = all_empties(alloc, &preps, pivots)?;
+    let prepared_rules = all_rows(alloc, program)?;
+    let empties = all_empties(alloc, &prepared_rules, pivots)?;
     Ok(Context {
         alloc,
         program,
         graph,
-        preps,
+        prepared_rules,
         empties,
         pivots,
     })
@@ -55,24 +55,28 @@ pub(crate) fn context_of<'a>(
 // The rows of each rule, in order.
 fn all_rows(alloc: Global, p: &Program) -> Result<Vec<RuleRows>, Memory>
     requires { IsValid (program_of p.now) }
-    ensures { IfOk result (λ preps. AreRowsOf preps.items (program_of p.now)) }
+    ensures { IfOk result (λ prepared_rules. AreRowsOf prepared_rules.items (program_of p.now)) }
 {
-    let mut preps = Vec::new(alloc);
+    let mut prepared_rules = Vec::new(alloc);
     for rule in &p.rules {
-        preps.push(rows(alloc, rule)?)?;
+        prepared_rules.push(rows(alloc, rule)?)?;
     }
-    Ok(preps)
+    Ok(prepared_rules)
 }
 
 // Whether the rows of each rule have a point, in order.
-fn all_empties(alloc: Global, preps: &[RuleRows], pivots: u32) -> Result<Vec<EmptyAnswer>, Memory>
-    requires prepared { All IsPrepared preps.now }
-    requires few { length preps.now < 2 ^ 32 - 1 }
-    ensures { IfOk result (λ answers. AreAnswersFrom pivots 1 preps.now answers.items) }
+fn all_empties(
+    alloc: Global,
+    prepared_rules: &[RuleRows],
+    pivots: u32,
+) -> Result<Vec<GuardFeasibility>, Memory>
+    requires prepared { All IsPrepared prepared_rules.now }
+    requires few { length prepared_rules.now < 2 ^ 32 - 1 }
+    ensures { IfOk result (λ answers. AreAnswersFrom pivots 1 prepared_rules.now answers.items) }
 {
     let mut answers = Vec::new(alloc);
-    for (position, prep) in preps.iter().enumerate() {
-        answers.push(find_empty(alloc, prep, position as u32 + 1, pivots)?)?;
+    for (position, prepared_rule) in prepared_rules.iter().enumerate() {
+        answers.push(guard_feasibility(alloc, prepared_rule, position as u32 + 1, pivots)?)?;
     }
     Ok(answers)
 }

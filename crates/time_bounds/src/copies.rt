@@ -1,21 +1,24 @@
 //! Copies of loose sides.
 
 ghost use Rattle.std.specs.Prelude.{◌≡◌, IfOk};
-ghost use Rattle.outcome.specs.Views.{loose_of};
+ghost use Rattle.outcome.specs.Views.{unbounded_of};
 
+use cert_types::copied_scaled;
 use model::Memory;
-use outcome::Loose;
-use proof_tree::copied_scaled;
+use outcome::UnboundedSide;
 use std::alloc::Global;
 
 /// The same loose side.
-pub(crate) fn copied_loose(alloc: Global, loose: &Loose) -> Result<Loose, Memory>
-    ensures { IfOk result (λ l. loose_of l ≡ loose_of loose.now) }
+pub(crate) fn copied_unbounded(
+    alloc: Global,
+    unbounded: &UnboundedSide,
+) -> Result<UnboundedSide, Memory>
+    ensures { IfOk result (λ l. unbounded_of l ≡ unbounded_of unbounded.now) }
 {
-    let ray = Vec::from_slice(alloc, &loose.ray)?;
-    let kept = copied_scaled(alloc, &loose.kept)?;
-    Ok(Loose {
-        up: loose.up,
+    let ray = Vec::from_slice(alloc, &unbounded.ray)?;
+    let kept = copied_scaled(alloc, &unbounded.kept)?;
+    Ok(UnboundedSide {
+        up: unbounded.up,
         ray,
         kept,
     })

@@ -1,8 +1,12 @@
-//! The analysis of a program: rounds of times and sizes, and all times taken together. Contract to the layer above: the
-//! report is read off the last finds of the rounds, each bound holds on all runs, each missing bound has its reason,
-//! which is so of the program, and the total, where every rule has a time, bounds the length of every run. The lemmas
-//! are those of the finds in their order and are accepted, and each known bound has the number of one that states it. A
-//! program has one analysis within a number of pivots, its lemmas, its gaps and their numbers among it.
+//! The analysis of a program: rounds of runtime bounds and size bounds, up to a fixpoint, and the total of all runtime
+//! bounds.
+//!
+//! Builds on `rank_search`, `local_size` and `rvg_components` (the searches), `size_bounds` and `bound_derivations` (the
+//! bounds found so far), and `bound_fixpoint` (the rounds as definitions). Main guarantee: the report is read off the
+//! last finds of the rounds; each bound holds on all runs; each missing bound has a reason that is true of the program;
+//! and the total, where every rule has a runtime bound, bounds the length of every run. The lemmas are those of the
+//! finds in their order and are accepted, and each known bound carries the number of a lemma that states it. For a
+//! number of pivots a program has one analysis, including its lemmas, its gaps and their numbers.
 #![tactic(auto)]
 
 mod analysing;
@@ -11,14 +15,14 @@ mod beginning;
 mod candidates;
 mod context;
 mod copies;
-mod fates;
 mod law;
 mod locals;
-mod needs;
-mod new_finds;
+mod new_derivations;
 mod parts;
+mod premises;
 mod reasons;
 mod rounds;
+mod rule_statuses;
 mod sets;
 mod size_reasons;
 mod sizing;

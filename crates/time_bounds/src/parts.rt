@@ -1,4 +1,4 @@
-//! The rules without a time and their sets, with their shut places: those of a component are made once in a round.
+//! The rules without a time and their sets, with their shut places; the set of a component is computed once in a round.
 
 ghost use Rattle.std.specs.Prelude.{◌≡◌, IfOk, OnOk, Some, None, replicate, slice_index_or, true, false};
 ghost use Rattle.time_bounds.specs.Parts.{AreParts, IsOpenSet};
@@ -6,8 +6,8 @@ ghost use Rattle.time_bounds.specs.Questions.{AreUntimed, BelongsTogether, IsTab
 
 use crate::context::Context;
 use crate::sets::{shut_places, untimed_rules};
+use cert_types::entries;
 use model::Memory;
-use proof_tree::entries;
 use size_bounds::Table;
 use std::alloc::Global;
 
@@ -23,13 +23,13 @@ pub(crate) struct OpenSet {
 pub(crate) struct Parts {
     /// Which rules have no time; the virtual entry, at 0, has one.
     pub untimed: Vec<bool>,
-    /// The component that each rule stays in, where it stays in one.
+    /// The component that each rule stays in, if it stays in one.
     pub of_rules: Vec<Option<u32>>,
-    /// What was found of each component.
+    /// The set that was computed for each component.
     pub found: Vec<Option<OpenSet>>,
 }
 
-/// The rules that have no time in a table, and the components of their graph; nothing was found of any.
+/// The rules without a time in a table, and the components of their graph; no set has been computed yet.
 pub(crate) fn parts_of(cx: &Context, table: &Table) -> Result<Parts, Memory>
     requires ready { BelongsTogether cx.now }
     requires table { IsTable (program_in cx.now) table.now cx.now.empties.items }
@@ -45,7 +45,7 @@ pub(crate) fn parts_of(cx: &Context, table: &Table) -> Result<Parts, Memory>
     })
 }
 
-// Nothing was found of so many components.
+// This many components without a computed set.
 fn nothing_found(alloc: Global, count: usize) -> Result<Vec<Option<OpenSet>>, Memory>
     ensures { IfOk result (λ found. found.items ≡ replicate count None) }
 {
@@ -77,7 +77,7 @@ pub(crate) fn open_set(
     }
 }
 
-// The set of a rule that stays in this component: what was found of it, or else what is made now.
+// The set of a rule that stays in this component: the one computed before, or else a new one.
 fn set_of_part(
     cx: &Context,
     table: &Table,
@@ -103,7 +103,7 @@ fn set_of_part(
     Ok(made)
 }
 
-// The same set, with the same shut places.
+// A copy of a set, with the same shut places.
 fn copied_set(alloc: Global, first: &OpenSet) -> Result<OpenSet, Memory>
     ensures set { IfOk result (λ s. s.set.items ≡ first.now.set.items) }
     ensures shut { IfOk result (λ s. s.shut.items ≡ first.now.shut.items) }

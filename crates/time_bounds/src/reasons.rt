@@ -1,16 +1,16 @@
-//! What an analysis says of each time: a bound, or why there is none.
+//! Builds the entry of each time: a bound, or why there is none.
 
 ghost use Rattle.std.specs.Prelude.{◌≡◌, ◌⊎◌, ◌+◌, ◌<◌, ◌≤◌, ◌^◌, ◌++◌, ◌∷◌, [], length, map, true, false};
 ghost use Rattle.std.specs.Prelude.{IfOk, OnOk};
 ghost use Rattle.std.specs.List.{All};
 ghost use Rattle.outcome.specs.Views.{time_of};
 ghost use Rattle.outcome.specs.Printing.{HasItsGap};
-ghost use Rattle.proof_tree.specs.proof_nodes.GapChecks.{GapHolds};
-ghost use Rattle.proof_tree.specs.AnswerViews.{gap_of};
+ghost use Rattle.cert_types.specs.cert_rules.GapChecks.{GapHolds};
+ghost use Rattle.cert_types.specs.AnswerViews.{gap_of};
 ghost use Rattle.rank_search.specs.rule_questions.ProgramQuestions.{forms_at};
-ghost use Rattle.bound_rounds.specs.Keys.{is_untimed};
+ghost use Rattle.bound_fixpoint.specs.Keys.{is_untimed};
 ghost use Rattle.size_bounds.specs.Tables.{number_at};
-ghost use Rattle.bound_book.specs.ByKey.{bounds_in};
+ghost use Rattle.size_bounds.specs.Tables.{bounds_in};
 ghost use Rattle.time_bounds.specs.ProgramSearches.{searches_of_program};
 ghost use Rattle.time_bounds.specs.Questions.{BelongsTogether, program_in};
 ghost use Rattle.time_bounds.specs.TriedRules.{IsAskedOver, AreAskedOver, IsMissing, IsGrown};
@@ -18,30 +18,30 @@ ghost use Rattle.time_bounds.specs.TimesSaid.{IsTimeOver, AreTimesOver, IsKnownT
 ghost use Rattle.time_bounds.specs.AnalysisLemmas.{CarriesTime, AreGapsInOrder};
 ghost use Rattle.time_bounds.specs.Numbered.{EachNumbered};
 
-use crate::asking::Asked;
+use crate::asking::AnsweredRankQuestion;
 use crate::context::Context;
-use bound_table::Within;
+use bound_table::RewriteResult;
+use cert_types::{Gap, rank_time};
 use model::Memory;
 use outcome::{Stored, TimeEntry};
-use proof_tree::{Gap, rank_time};
 use rank_search::RankAnswer;
 use size_bounds::Table;
 use std::alloc::Global;
 
-/// What is said of each rule's time, and the gaps that are named.
+/// The entry of each rule's time, and the gaps that these name.
 #[derive(Debug, Drop)]
-pub(crate) struct Said {
+pub(crate) struct TimesAndGaps {
     pub times: Vec<TimeEntry>,
     pub gaps: Vec<Gap>,
 }
 
-/// For each rule its time, or by the question that the last round kept of it why there is none. The gaps are numbered
-/// from 1 in the order of rules.
-pub(crate) fn said_of(
+/// For each rule its time, or why there is none, by the query that the last round kept. The gaps are numbered from 1 in
+/// the order of rules.
+pub(crate) fn time_entries(
     cx: &Context,
     table: &Table,
-    asked: Vec<Option<Asked>>,
-) -> Result<Said, Memory>
+    asked: Vec<Option<AnsweredRankQuestion>>,
+) -> Result<TimesAndGaps, Memory>
     requires ready { BelongsTogether cx.now }
     requires start { is_untimed (bounds_in table.now) 0 ≡ false }
     requires asked { AreAskedOver (program_in cx.now) (bounds_in table.now) (bounds_in table.now) cx.now.pivots
@@ -61,17 +61,17 @@ pub(crate) fn said_of(
     let mut gaps = Vec::new(cx.alloc);
     for question in asked {
         let rule = times.len() as u32 + 1;
-        times.push(said_by(cx, table, rule, question, &mut gaps)?)?;
+        times.push(time_entry(cx, table, rule, question, &mut gaps)?)?;
     }
-    Ok(Said { times, gaps })
+    Ok(TimesAndGaps { times, gaps })
 }
 
 // The time of a rule, or why there is none.
-fn said_by(
+fn time_entry(
     cx: &Context,
     table: &Table,
     rule: u32,
-    question: Option<Asked>,
+    question: Option<AnsweredRankQuestion>,
     gaps: &mut Vec<Gap>,
 ) -> Result<TimeEntry, Memory>
     requires ready { BelongsTogether cx.now }
@@ -117,7 +117,7 @@ fn no_time(
     cx: &Context,
     table: &Table,
     rule: u32,
-    asked: Asked,
+    asked: AnsweredRankQuestion,
     gaps: &mut Vec<Gap>,
 ) -> Result<TimeEntry, Memory>
     requires ready { BelongsTogether cx.now }
@@ -138,11 +138,11 @@ fn no_time(
     ensures in_order { IfOk result (λ entry. AreGapsInOrder (length gaps.old.items) (entry ∷ [])
         (length gaps.new.items)) }
 {
-    let Asked { answer, .. } = asked;
+    let AnsweredRankQuestion { answer, .. } = asked;
     match answer {
         RankAnswer::Ranked(node) => match rank_time(cx.alloc, cx.program, &node, table)? {
-            Within::Large { nodes } => Ok(TimeEntry::Large { nodes }),
-            Within::Rewritten(_) => unreachable!(),
+            RewriteResult::Large { nodes } => Ok(TimeEntry::Large { nodes }),
+            RewriteResult::Rewritten(_) => unreachable!(),
         },
         RankAnswer::NoRank(gap) => {
             gaps.push(gap)?;
@@ -150,6 +150,6 @@ fn no_time(
                 gap: gaps.len() as u32,
             })
         }
-        RankAnswer::Tripped(trip) => Ok(TimeEntry::Tripped(trip)),
+        RankAnswer::OutOfLimits(limit_hit) => Ok(TimeEntry::OutOfLimits(limit_hit)),
     }
 }

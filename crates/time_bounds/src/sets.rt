@@ -1,4 +1,4 @@
-//! The set of a rule without a time, and the places that a ranking function over it may not read.
+//! Computes the set of a rule without a time, and the shut places of the set.
 
 ghost use Rattle.std.specs.Prelude.{◌≡◌, ◌<◌, ◌≤◌, ◌-◌, ◌^◌, ◌++◌, length, map, filter, IfOk, IfSome};
 ghost use Rattle.std.specs.Prelude.{OnOk, Some, None, replicate};
@@ -12,9 +12,9 @@ ghost use Rattle.time_bounds.specs.Shutting.{lacks_any, place_if, shut_at, shut_
 ghost use Rattle.time_bounds.specs.Shutting.{marks_of, put_mark};
 
 use crate::context::Context;
+use cert_types::target_of;
 use its_model::{Program, Symbol};
 use model::Memory;
-use proof_tree::target_of;
 use size_bounds::Table;
 use std::alloc::Global;
 
@@ -82,7 +82,7 @@ fn mark(marks: &mut Vec<Option<u32>>, symbol: Option<u32>)
     }
 }
 
-// Appends the shut places of a symbol, where there is one.
+// Appends the shut places of a symbol, if there is one.
 fn push_marked(
     cx: &Context,
     table: &Table,

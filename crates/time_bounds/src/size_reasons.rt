@@ -1,11 +1,11 @@
-//! What an analysis says of each size: a bound, or why there is none.
+//! Builds the entry of each size: a bound, or why there is none.
 
 ghost use Rattle.std.specs.Prelude.{◌≡◌, ◌<◌, ◌∷◌, [], length, map, IfOk, OnOk, Some, None};
 ghost use Rattle.std.specs.List.{All};
 ghost use Rattle.std.specs.Option.{option_map};
 ghost use Rattle.outcome.specs.Views.{size_of};
 ghost use Rattle.outcome.specs.Reports.{Unsized};
-ghost use Rattle.time_bounds.specs.Candidates.{spots_in};
+ghost use Rattle.time_bounds.specs.Candidates.{result_variables_in};
 ghost use Rattle.time_bounds.specs.Attempts.{why_armless, why_by, why_in, why_of};
 ghost use Rattle.time_bounds.specs.SizeSaid.{seen_row, seen_rows, said_stored, said_table, put_some};
 ghost use Rattle.time_bounds.specs.SizeSaid.{put_why, put_whys, AreThere, CarriesIfThere, CarryRow, CarryPlaces};
@@ -13,26 +13,26 @@ ghost use Rattle.time_bounds.specs.SizeSaid.{KeepPlaces, IsReason};
 ghost use Rattle.time_bounds.specs.AnalysisLemmas.{CarriesSizes};
 ghost use Rattle.time_bounds.specs.Numbered.{EachNumbered};
 ghost use Rattle.size_bounds.specs.Tables.{lemma_stored, number_at};
-ghost use Rattle.proof_tree.specs.Views.{spot_of};
+ghost use Rattle.cert_types.specs.Views.{result_variable_of};
 
-use crate::candidates::{Arms, Candidate};
-use crate::copies::copied_loose;
-use crate::sizing::Attempt;
-use bound_book::put_place;
+use crate::candidates::{Candidate, SideBounds};
+use crate::copies::copied_unbounded;
+use crate::sizing::ComponentAttempt;
+use bound_derivations::put_place;
+use cert_types::ResultVariable;
 use model::Memory;
 use outcome::{SizeEntry, Stored};
-use proof_tree::Spot;
 use size_bounds::Table;
 use size_nodes::Sizing;
 use std::alloc::Global;
 
-/// For the virtual entry and for each rule, and for each place after it, its size, or by what the last round made of
-/// its component why there is none.
-pub(crate) fn said_sizes(
+/// For the virtual entry and for each rule, and for each place after it, its size, or why there is none, by the last
+/// round's result for its component.
+pub(crate) fn size_entries(
     alloc: Global,
     table: &Table,
     candidates: &[Candidate],
-    attempts: &[Attempt],
+    attempts: &[ComponentAttempt],
 ) -> Result<Vec<Vec<SizeEntry>>, Memory>
     requires one_each { length attempts.now ≡ length candidates.now }
     requires there { All AreThere (put_whys (said_table table.now) candidates.now attempts.now) }
@@ -45,7 +45,7 @@ pub(crate) fn said_sizes(
     for (position, candidate) in candidates.iter().enumerate() {
         write_reason(alloc, &mut entries, candidate, &attempts[position])?;
     }
-    all_said(alloc, entries)
+    entry_rows(alloc, entries)
 }
 
 // The sizes that the table has, row by row.
@@ -94,59 +94,63 @@ fn write_reason(
     alloc: Global,
     entries: &mut Vec<Vec<Option<SizeEntry>>>,
     candidate: &Candidate,
-    attempt: &Attempt,
+    attempt: &ComponentAttempt,
 ) -> Result<(), Memory>
     ensures sizes { OnOk result (seen_rows (map (λ row. row.items) entries.new.items)
-        ≡ put_why (seen_rows (map (λ row. row.items) entries.old.items)) (spots_in candidate.now)
+        ≡ put_why (seen_rows (map (λ row. row.items) entries.old.items)) (result_variables_in candidate.now)
         (why_of candidate.now attempt.now)) }
     ensures kept { OnOk result (KeepPlaces (map (λ row. row.items) entries.old.items)
         (map (λ row. row.items) entries.new.items)) }
 {
-    for spot in &candidate.spots {
+    for result_variable in &candidate.result_variables {
         let entry = reason(alloc, candidate, attempt)?;
-        write_some(entries, *spot, entry);
+        write_some(entries, *result_variable, entry);
     }
     Ok(())
 }
 
 // Writes an entry, where there is one.
-fn write_some(entries: &mut Vec<Vec<Option<SizeEntry>>>, spot: Spot, entry: Option<SizeEntry>)
+fn write_some(
+    entries: &mut Vec<Vec<Option<SizeEntry>>>,
+    result_variable: ResultVariable,
+    entry: Option<SizeEntry>,
+)
     requires { IsReason entry }
     ensures sizes { seen_rows (map (λ row. row.items) entries.new.items)
-        ≡ put_some (seen_rows (map (λ row. row.items) entries.old.items)) (spot_of spot) (option_map size_of entry) }
+        ≡ put_some (seen_rows (map (λ row. row.items) entries.old.items)) (result_variable_of result_variable) (option_map size_of entry) }
     ensures kept { KeepPlaces (map (λ row. row.items) entries.old.items) (map (λ row. row.items) entries.new.items) }
 {
     match entry {
-        Some(e) => put_place(entries, spot.rule, spot.place, e),
+        Some(e) => put_place(entries, result_variable.rule, result_variable.place, e),
         None => {}
     }
 }
 
-// Why the places of a component have no size, by what the last round made of it.
+// Why the places of a component have no size, by the last round's result for it.
 fn reason(
     alloc: Global,
     candidate: &Candidate,
-    attempt: &Attempt,
+    attempt: &ComponentAttempt,
 ) -> Result<Option<SizeEntry>, Memory>
     ensures { IfOk result (λ entry. option_map size_of entry
         ≡ option_map Unsized (why_of candidate.now attempt.now)) }
 {
     match attempt {
-        Attempt::Known => Ok(None),
-        Attempt::Found => Ok(None),
-        Attempt::Armless => lacking_arms(alloc, &candidate.arms),
-        Attempt::Failed(answer) => Ok(failed(answer)),
+        ComponentAttempt::Known => Ok(None),
+        ComponentAttempt::Found => Ok(None),
+        ComponentAttempt::Armless => lacking_side_bounds(alloc, &candidate.side_bounds),
+        ComponentAttempt::Failed(answer) => Ok(failed(answer)),
     }
 }
 
 // Why a member has no arms.
-fn lacking_arms(alloc: Global, arms: &Arms) -> Result<Option<SizeEntry>, Memory>
-    ensures { IfOk result (λ entry. option_map size_of entry ≡ option_map Unsized (why_armless arms.now)) }
+fn lacking_side_bounds(alloc: Global, side_bounds: &SideBounds) -> Result<Option<SizeEntry>, Memory>
+    ensures { IfOk result (λ entry. option_map size_of entry ≡ option_map Unsized (why_armless side_bounds.now)) }
 {
-    match arms {
-        Arms::Lacking(entry) => copied_reason(alloc, entry),
-        Arms::Alone(_) => Ok(None),
-        Arms::Loop(_) => Ok(None),
+    match side_bounds {
+        SideBounds::Lacking(entry) => copied_reason(alloc, entry),
+        SideBounds::Alone(_) => Ok(None),
+        SideBounds::Loop(_) => Ok(None),
     }
 }
 
@@ -156,13 +160,13 @@ fn copied_reason(alloc: Global, entry: &SizeEntry) -> Result<Option<SizeEntry>, 
 {
     match entry {
         SizeEntry::Known(_) => Ok(None),
-        SizeEntry::Loose(loose) => {
-            let copy = copied_loose(alloc, loose)?;
-            Ok(Some(SizeEntry::Loose(copy)))
+        SizeEntry::UnboundedSide(unbounded) => {
+            let copy = copied_unbounded(alloc, unbounded)?;
+            Ok(Some(SizeEntry::UnboundedSide(copy)))
         }
-        SizeEntry::Tripped(trip) => Ok(Some(SizeEntry::Tripped(*trip))),
-        SizeEntry::Missing(spot) => Ok(Some(SizeEntry::Missing(*spot))),
-        SizeEntry::Bent(spot) => Ok(Some(SizeEntry::Bent(*spot))),
+        SizeEntry::OutOfLimits(limit_hit) => Ok(Some(SizeEntry::OutOfLimits(*limit_hit))),
+        SizeEntry::Missing(result_variable) => Ok(Some(SizeEntry::Missing(*result_variable))),
+        SizeEntry::Nonlinear(result_variable) => Ok(Some(SizeEntry::Nonlinear(*result_variable))),
         SizeEntry::Untimed { rule } => Ok(Some(SizeEntry::Untimed { rule: *rule })),
         SizeEntry::Large { nodes } => Ok(Some(SizeEntry::Large { nodes: *nodes })),
     }
@@ -174,15 +178,15 @@ fn failed(answer: &Sizing) -> Option<SizeEntry>
 {
     match answer {
         Sizing::Found { .. } => None,
-        Sizing::Missing(spot) => Some(SizeEntry::Missing(*spot)),
-        Sizing::Bent(spot) => Some(SizeEntry::Bent(*spot)),
+        Sizing::Missing(result_variable) => Some(SizeEntry::Missing(*result_variable)),
+        Sizing::Nonlinear(result_variable) => Some(SizeEntry::Nonlinear(*result_variable)),
         Sizing::Untimed { rule } => Some(SizeEntry::Untimed { rule: *rule }),
         Sizing::Large { nodes } => Some(SizeEntry::Large { nodes: *nodes }),
     }
 }
 
-// What is said of the places after rules, each of which has an entry.
-fn all_said(
+// The entries of the places after rules; each place has one.
+fn entry_rows(
     alloc: Global,
     entries: Vec<Vec<Option<SizeEntry>>>,
 ) -> Result<Vec<Vec<SizeEntry>>, Memory>
@@ -192,13 +196,13 @@ fn all_said(
 {
     let mut rows = Vec::new(alloc);
     for row in entries {
-        rows.push(said_row(alloc, row)?)?;
+        rows.push(entry_row(alloc, row)?)?;
     }
     Ok(rows)
 }
 
-// What is said of the places after a rule, each of which has an entry.
-fn said_row(alloc: Global, row: Vec<Option<SizeEntry>>) -> Result<Vec<SizeEntry>, Memory>
+// The entries of the places after a rule; each place has one.
+fn entry_row(alloc: Global, row: Vec<Option<SizeEntry>>) -> Result<Vec<SizeEntry>, Memory>
     requires { AreThere (seen_row row.items) }
     ensures { IfOk result (λ said. map (λ e. Some e) said.items ≡ row.items) }
 {

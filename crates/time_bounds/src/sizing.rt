@@ -1,34 +1,34 @@
-//! The sizes of a round: each component of which a place has no size is tried, with the sizes found so far.
+//! The sizes of a round: tries each component with a place without a size, over the sizes found so far.
 
 ghost use Rattle.std.specs.Prelude.{◌≡◌, ◌++◌, map, IfOk, IfSome, OnOk, true, false};
-ghost use Rattle.proof_tree.specs.Views.{spot_of};
+ghost use Rattle.cert_types.specs.Views.{result_variable_of};
 ghost use Rattle.rvg_components.specs.Flows.{Locals};
 ghost use Rattle.size_bounds.specs.Tables.{table_of};
-ghost use Rattle.bound_rounds.specs.Keys.{Bounds};
-ghost use Rattle.bound_rounds.specs.Answers.{are_open as are_open_of};
-ghost use Rattle.bound_rounds.specs.Laws.{AreUniform};
-ghost use Rattle.bound_book.specs.ByKey.{bounds_in};
-ghost use Rattle.bound_book.specs.Books.{IsBook, AreOpen};
-ghost use Rattle.bound_book.specs.Views.{finds_of, node_of};
+ghost use Rattle.bound_fixpoint.specs.Keys.{Bounds};
+ghost use Rattle.bound_fixpoint.specs.Answers.{are_open as are_open_of};
+ghost use Rattle.bound_fixpoint.specs.Laws.{AreUniform};
+ghost use Rattle.size_bounds.specs.Tables.{bounds_in};
+ghost use Rattle.bound_derivations.specs.Books.{AreDerivedBounds, AreOpen};
+ghost use Rattle.bound_derivations.specs.Views.{derivations_of, node_of};
 ghost use Rattle.time_bounds.specs.Questions.{BelongsTogether, program_in};
-ghost use Rattle.time_bounds.specs.Candidates.{IsRightCandidate, AreCandidatesOf, spots_in};
-ghost use Rattle.time_bounds.specs.Attempts.{IsSizeStep, ArePlacesOf, attempt_by, finds_by as finds_by_of, node_in};
-ghost use Rattle.time_bounds.specs.Attempts.{has_arms};
+ghost use Rattle.time_bounds.specs.Candidates.{IsRightCandidate, AreCandidatesOf, result_variables_in};
+ghost use Rattle.time_bounds.specs.Attempts.{IsSizeStep, ArePlacesOf, attempt_by, derivations_by as derivations_by_of, node_in};
+ghost use Rattle.time_bounds.specs.Attempts.{has_side_bounds};
 ghost use Rattle.time_bounds.specs.EarlierAnswers.{ReasonStands, StandsAt, IsStanding, WereAttempts};
 ghost use Rattle.time_bounds.specs.RoundsMade.{known_with, AreMadeWithTimes, AreSizesMade};
 
-use crate::candidates::{Arms, Candidate};
+use crate::candidates::{Candidate, SideBounds};
 use crate::context::Context;
-use bound_book::{Book, Find, Node, is_known};
+use bound_derivations::{Derivation, DerivedBounds, Node, is_known};
+use cert_types::ResultVariable;
 use model::Memory;
-use proof_tree::Spot;
 use size_bounds::{Table, copied_member, copied_members};
 use size_nodes::{Sizing, sized_cycle, sized_spread};
 use std::alloc::Global;
 
-/// What a round made of a component.
+/// The result of a round for a component.
 #[derive(Debug, Drop)]
-pub(crate) enum Attempt {
+pub(crate) enum ComponentAttempt {
     /// Its places had sizes.
     Known,
     /// They have one now.
@@ -39,59 +39,61 @@ pub(crate) enum Attempt {
     Failed(Sizing),
 }
 
-/// Tries each component of which a place has no size, in order, and takes the sizes that are found into the book.
-/// `before` has what the last round made of the components, if there was one: an answer of it whose reason still stands
-/// is given again.
+/// Tries each component with a place without a size, in order, and takes the sizes that are found into the book.
+/// `before` has the last round's attempts, if there was one: an answer whose reason remains true is reused.
 pub(crate) fn try_components(
     cx: &Context,
     candidates: &[Candidate],
-    before: &[Attempt],
-    book: &mut Book,
-) -> Result<Vec<Attempt>, Memory>
+    before: &[ComponentAttempt],
+    derived: &mut DerivedBounds,
+) -> Result<Vec<ComponentAttempt>, Memory>
     requires ready { BelongsTogether cx.now }
     requires candidates { AreCandidatesOf (program_in cx.now) cx.now.pivots candidates.now }
     requires before { (first : Bounds) × WereAttempts (program_in cx.now) cx.now.pivots first
-        (known_with cx.now book.old.finds.items) candidates.now before.now }
-    requires made { AreMadeWithTimes cx.now book.old.finds.items }
-    requires book { IsBook (program_in cx.now) book.old.table book.old.finds.items }
-    ensures sizes { IfOk result (λ attempts. AreSizesMade cx.now candidates.now book.old.finds.items
-        book.new.finds.items attempts.items) }
-    ensures book { OnOk result (IsBook (program_in cx.now) book.new.table book.new.finds.items) }
+        (known_with cx.now derived.old.derivations.items) candidates.now before.now }
+    requires made { AreMadeWithTimes cx.now derived.old.derivations.items }
+    requires derived { AreDerivedBounds (program_in cx.now) derived.old.table derived.old.derivations.items }
+    ensures sizes { IfOk result (λ attempts. AreSizesMade cx.now candidates.now derived.old.derivations.items
+        derived.new.derivations.items attempts.items) }
+    ensures derived { OnOk result (AreDerivedBounds (program_in cx.now) derived.new.table derived.new.derivations.items) }
 {
     let mut attempts = Vec::new(cx.alloc);
     for candidate in candidates {
-        let again = standing(&book.table, before, attempts.len());
-        attempts.push(try_component(cx, candidate, again, book)?)?;
+        let again = standing(&derived.table, before, attempts.len());
+        attempts.push(try_component(cx, candidate, again, derived)?)?;
     }
     Ok(attempts)
 }
 
-// The earlier answer for the component at a position, where there is one and its reason stands over the table.
-fn standing(table: &Table, before: &[Attempt], position: usize) -> Option<Sizing>
+// The earlier answer for the component at a position, if there is one and its reason remains true over the table.
+fn standing(table: &Table, before: &[ComponentAttempt], position: usize) -> Option<Sizing>
     ensures { IfSome result (λ a. StandsAt (table_of table.now) before.now position a) }
 {
     if position >= before.len() {
         return None;
     }
     match &before[position] {
-        Attempt::Known => None,
-        Attempt::Found => None,
-        Attempt::Armless => None,
-        Attempt::Failed(answer) => again(table, answer),
+        ComponentAttempt::Known => None,
+        ComponentAttempt::Found => None,
+        ComponentAttempt::Armless => None,
+        ComponentAttempt::Failed(answer) => again(table, answer),
     }
 }
 
-// An answer by which there was no size, where its reason stands over the table.
+// An answer without a size, if its reason remains true over the table.
 fn again(table: &Table, answer: &Sizing) -> Option<Sizing>
     ensures { IfSome result (λ a. (a ≡ answer.now) × ReasonStands (table_of table.now) a) }
 {
     match answer {
         Sizing::Found { .. } => None,
-        Sizing::Missing(spot) => match table.stored_size(spot.rule, spot.place) {
+        Sizing::Missing(result_variable) => match table.stored_size(
+            result_variable.rule,
+            result_variable.place,
+        ) {
             Some(_) => None,
-            None => Some(Sizing::Missing(*spot)),
+            None => Some(Sizing::Missing(*result_variable)),
         },
-        Sizing::Bent(spot) => Some(Sizing::Bent(*spot)),
+        Sizing::Nonlinear(result_variable) => Some(Sizing::Nonlinear(*result_variable)),
         Sizing::Untimed { rule } => match table.stored_time(*rule) {
             Some(_) => None,
             None => Some(Sizing::Untimed { rule: *rule }),
@@ -100,64 +102,80 @@ fn again(table: &Table, answer: &Sizing) -> Option<Sizing>
     }
 }
 
-// Tries a component, where a place of it has no size and there is no earlier answer for it that stands.
+// Tries a component, if a place of it has no size and there is no earlier answer for it that remains valid.
 fn try_component(
     cx: &Context,
     candidate: &Candidate,
     again: Option<Sizing>,
-    book: &mut Book,
-) -> Result<Attempt, Memory>
+    derived: &mut DerivedBounds,
+) -> Result<ComponentAttempt, Memory>
     requires ready { BelongsTogether cx.now }
     requires candidate { (local : Locals) × IsRightCandidate (program_in cx.now) cx.now.pivots local candidate.now }
     requires within { ArePlacesOf (program_in cx.now) candidate.now }
-    requires uniform { AreUniform (known_with cx.now book.old.finds.items) (spots_in candidate.now) }
+    requires uniform { AreUniform (known_with cx.now derived.old.derivations.items) (result_variables_in candidate.now) }
     requires again { IfSome again (λ a. IsStanding (program_in cx.now) cx.now.pivots
-        (known_with cx.now book.old.finds.items) candidate.now a) }
-    requires book { IsBook (program_in cx.now) book.old.table book.old.finds.items }
-    ensures step { IfOk result (λ x. IsSizeStep (program_in cx.now) cx.now.pivots book.old.finds.items candidate.now x
-        book.new.finds.items) }
-    ensures book { OnOk result (IsBook (program_in cx.now) book.new.table book.new.finds.items) }
+        (known_with cx.now derived.old.derivations.items) candidate.now a) }
+    requires derived { AreDerivedBounds (program_in cx.now) derived.old.table derived.old.derivations.items }
+    ensures step { IfOk result (λ x. IsSizeStep (program_in cx.now) cx.now.pivots derived.old.derivations.items candidate.now x
+        derived.new.derivations.items) }
+    ensures derived { OnOk result (AreDerivedBounds (program_in cx.now) derived.new.table derived.new.derivations.items) }
 {
-    if !are_open(&book.table, &candidate.spots) {
-        return Ok(Attempt::Known);
+    if !are_open(&derived.table, &candidate.result_variables) {
+        return Ok(ComponentAttempt::Known);
     }
     match again {
-        Some(answer) => Ok(Attempt::Failed(answer)),
-        None => try_arms(cx, candidate, book),
+        Some(answer) => Ok(ComponentAttempt::Failed(answer)),
+        None => try_side_bounds(cx, candidate, derived),
     }
 }
 
 // Tries a component of which a place has no size, by the arms of its members.
-fn try_arms(cx: &Context, candidate: &Candidate, book: &mut Book) -> Result<Attempt, Memory>
+fn try_side_bounds(
+    cx: &Context,
+    candidate: &Candidate,
+    derived: &mut DerivedBounds,
+) -> Result<ComponentAttempt, Memory>
     requires ready { BelongsTogether cx.now }
     requires candidate { (local : Locals) × IsRightCandidate (program_in cx.now) cx.now.pivots local candidate.now }
     requires within { ArePlacesOf (program_in cx.now) candidate.now }
-    requires uniform { AreUniform (known_with cx.now book.old.finds.items) (spots_in candidate.now) }
-    requires lacking { are_open_of (known_with cx.now book.old.finds.items) (spots_in candidate.now) ≡ true }
-    requires book { IsBook (program_in cx.now) book.old.table book.old.finds.items }
-    ensures step { IfOk result (λ x. IsSizeStep (program_in cx.now) cx.now.pivots book.old.finds.items candidate.now x
-        book.new.finds.items) }
-    ensures book { OnOk result (IsBook (program_in cx.now) book.new.table book.new.finds.items) }
+    requires uniform { AreUniform (known_with cx.now derived.old.derivations.items) (result_variables_in candidate.now) }
+    requires lacking { are_open_of (known_with cx.now derived.old.derivations.items) (result_variables_in candidate.now) ≡ true }
+    requires derived { AreDerivedBounds (program_in cx.now) derived.old.table derived.old.derivations.items }
+    ensures step { IfOk result (λ x. IsSizeStep (program_in cx.now) cx.now.pivots derived.old.derivations.items candidate.now x
+        derived.new.derivations.items) }
+    ensures derived { OnOk result (AreDerivedBounds (program_in cx.now) derived.new.table derived.new.derivations.items) }
 {
-    match &candidate.arms {
-        Arms::Lacking(_) => Ok(Attempt::Armless),
-        Arms::Alone(member) => {
-            let sizing = sized_spread(cx.alloc, &cx.graph, &cx.preps, &book.table, member)?;
-            take(cx, candidate, sizing, book)
+    match &candidate.side_bounds {
+        SideBounds::Lacking(_) => Ok(ComponentAttempt::Armless),
+        SideBounds::Alone(member) => {
+            let sizing = sized_spread(
+                cx.alloc,
+                &cx.graph,
+                &cx.prepared_rules,
+                &derived.table,
+                member,
+            )?;
+            take(cx, candidate, sizing, derived)
         }
-        Arms::Loop(members) => {
-            let sizing = sized_cycle(cx.alloc, &cx.graph, &cx.preps, &book.table, members)?;
-            take(cx, candidate, sizing, book)
+        SideBounds::Loop(members) => {
+            let sizing = sized_cycle(
+                cx.alloc,
+                &cx.graph,
+                &cx.prepared_rules,
+                &derived.table,
+                members,
+            )?;
+            take(cx, candidate, sizing, derived)
         }
     }
 }
 
 // Whether one of these places has no size.
-fn are_open(table: &Table, spots: &[Spot]) -> bool
-    ensures { result ≡ are_open_of (bounds_in table.now) (map spot_of spots.now) }
+fn are_open(table: &Table, result_variables: &[ResultVariable]) -> bool
+    ensures { result ≡ are_open_of (bounds_in table.now) (map result_variable_of result_variables.now) }
 {
-    for spot in spots {
-        let known = is_known(table, *spot);
+    for result_variable in result_variables {
+        let known = is_known(table, *result_variable);
         if !known {
             return true;
         }
@@ -170,44 +188,48 @@ fn take(
     cx: &Context,
     candidate: &Candidate,
     sizing: Sizing,
-    book: &mut Book,
-) -> Result<Attempt, Memory>
-    requires arms { has_arms candidate.now.arms ≡ true }
-    requires open { AreOpen (program_in cx.now) (finds_of book.old.finds.items) (spots_in candidate.now) }
-    requires book { IsBook (program_in cx.now) book.old.table book.old.finds.items }
+    derived: &mut DerivedBounds,
+) -> Result<ComponentAttempt, Memory>
+    requires side_bounds { has_side_bounds candidate.now.side_bounds ≡ true }
+    requires open { AreOpen (program_in cx.now) (derivations_of derived.old.derivations.items) (result_variables_in candidate.now) }
+    requires derived { AreDerivedBounds (program_in cx.now) derived.old.table derived.old.derivations.items }
     ensures attempt { IfOk result (λ x. x ≡ attempt_by sizing) }
-    ensures finds { OnOk result (finds_of book.new.finds.items ≡ finds_of book.old.finds.items
-        ++ finds_by_of (spots_in candidate.now) (node_in candidate.now.arms) sizing) }
-    ensures book { OnOk result (IsBook (program_in cx.now) book.new.table book.new.finds.items) }
+    ensures derivations { OnOk result (derivations_of derived.new.derivations.items ≡ derivations_of derived.old.derivations.items
+        ++ derivations_by_of (result_variables_in candidate.now) (node_in candidate.now.side_bounds) sizing) }
+    ensures derived { OnOk result (AreDerivedBounds (program_in cx.now) derived.new.table derived.new.derivations.items) }
 {
     match sizing {
-        Sizing::Found { needs, bound } => {
-            let spots = Vec::from_slice(cx.alloc, &candidate.spots)?;
-            let node = node_by(cx.alloc, &candidate.arms)?;
-            let find = Find {
-                keys: spots,
+        Sizing::Found { premises, bound } => {
+            let result_variables = Vec::from_slice(cx.alloc, &candidate.result_variables)?;
+            let node = node_by(cx.alloc, &candidate.side_bounds)?;
+            let derivation = Derivation {
+                keys: result_variables,
                 node,
-                needs,
+                premises,
                 bound,
             };
-            book.take(cx.alloc, find)?;
-            Ok(Attempt::Found)
+            derived.take(cx.alloc, derivation)?;
+            Ok(ComponentAttempt::Found)
         }
-        Sizing::Missing(spot) => Ok(Attempt::Failed(Sizing::Missing(spot))),
-        Sizing::Bent(spot) => Ok(Attempt::Failed(Sizing::Bent(spot))),
-        Sizing::Untimed { rule } => Ok(Attempt::Failed(Sizing::Untimed { rule })),
-        Sizing::Large { nodes } => Ok(Attempt::Failed(Sizing::Large { nodes })),
+        Sizing::Missing(result_variable) => Ok(ComponentAttempt::Failed(Sizing::Missing(
+            result_variable,
+        ))),
+        Sizing::Nonlinear(result_variable) => Ok(ComponentAttempt::Failed(Sizing::Nonlinear(
+            result_variable,
+        ))),
+        Sizing::Untimed { rule } => Ok(ComponentAttempt::Failed(Sizing::Untimed { rule })),
+        Sizing::Large { nodes } => Ok(ComponentAttempt::Failed(Sizing::Large { nodes })),
     }
 }
 
 // The node that arms give.
-fn node_by(alloc: Global, arms: &Arms) -> Result<Node, Memory>
-    requires { has_arms arms.now ≡ true }
-    ensures { IfOk result (λ node. node_of node ≡ node_in arms.now) }
+fn node_by(alloc: Global, side_bounds: &SideBounds) -> Result<Node, Memory>
+    requires { has_side_bounds side_bounds.now ≡ true }
+    ensures { IfOk result (λ node. node_of node ≡ node_in side_bounds.now) }
 {
-    match arms {
-        Arms::Lacking(_) => unreachable!(),
-        Arms::Alone(member) => Ok(Node::Spread(copied_member(alloc, member)?)),
-        Arms::Loop(members) => Ok(Node::Cycle(copied_members(alloc, members)?)),
+    match side_bounds {
+        SideBounds::Lacking(_) => unreachable!(),
+        SideBounds::Alone(member) => Ok(Node::Spread(copied_member(alloc, member)?)),
+        SideBounds::Loop(members) => Ok(Node::Cycle(copied_members(alloc, members)?)),
     }
 }

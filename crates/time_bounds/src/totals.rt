@@ -1,4 +1,4 @@
-//! The total: the rewritten sum of all times.
+//! Computes the total: the rewritten sum of all times.
 
 ghost use Rattle.std.specs.Prelude.{◌≡◌, None, Some, map, MatchOption, IfOk};
 ghost use Rattle.std.specs.Option.{option_map};
@@ -47,7 +47,7 @@ fn bound_in(entry: &TimeEntry) -> Option<&Bound>
     match entry {
         TimeEntry::Known(stored) => Some(&stored.bound),
         TimeEntry::Gap { .. } => None,
-        TimeEntry::Tripped(_) => None,
+        TimeEntry::OutOfLimits(_) => None,
         TimeEntry::Large { .. } => None,
     }
 }

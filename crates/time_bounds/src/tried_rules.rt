@@ -1,45 +1,45 @@
-//! A round: each rule without a time is tried over what was known before.
+//! The times of a round: tries each rule without a time over what was known before.
 
 ghost use Rattle.std.specs.Prelude.{◌≡◌, ◌≤◌, length, IfOk, OnOk, IfSome, true};
-ghost use Rattle.bound_rounds.specs.Keys.{is_untimed};
-ghost use Rattle.bound_book.specs.ByKey.{bounds_in};
+ghost use Rattle.bound_fixpoint.specs.Keys.{is_untimed};
+ghost use Rattle.size_bounds.specs.Tables.{bounds_in};
 ghost use Rattle.time_bounds.specs.Parts.{AreParts};
 ghost use Rattle.time_bounds.specs.Questions.{AnswersQuestion, IsAsked, AreAnsweredFrom, IsTable, BelongsTogether, program_in};
 ghost use Rattle.time_bounds.specs.TriedRules.{IsTried, AreTried};
 
-use crate::asking::{Asked, ask};
+use crate::asking::{AnsweredRankQuestion, ask};
 use crate::context::Context;
-use crate::needs::rank_needs;
 use crate::parts::{Parts, parts_of};
+use crate::premises::rank_premises;
 use bound_expr::Bound;
-use bound_table::Within;
+use bound_table::RewriteResult;
+use cert_types::{RankNode, ResultVariable, rank_time};
 use model::Memory;
-use proof_tree::{RankNode, Spot, rank_time};
 use rank_search::RankAnswer;
 use size_bounds::Table;
 
-/// What a round made of a rule.
+/// The result of a round for a rule.
 #[derive(Debug, Drop)]
-pub(crate) enum Tried {
+pub(crate) enum RuleAttempt {
     /// Its time was known.
     Known,
     /// A function ranks it, and with the bounds of these keys the node composes this time.
     Found {
         node: RankNode,
-        needs: Vec<Spot>,
+        premises: Vec<ResultVariable>,
         bound: Bound,
     },
     /// It has none, by this answer.
-    Missing(Asked),
+    Missing(AnsweredRankQuestion),
 }
 
-/// Tries each rule without a time over what is known, in order. `before` has for each rule the question that was asked
-/// in the round before, if it was.
+/// Tries each rule without a time over what is known, in order. `before` has for each rule its query of the round
+/// before, if there was one.
 pub(crate) fn try_rules(
     cx: &Context,
     table: &Table,
-    before: Vec<Option<Asked>>,
-) -> Result<Vec<Tried>, Memory>
+    before: Vec<Option<AnsweredRankQuestion>>,
+) -> Result<Vec<RuleAttempt>, Memory>
     requires ready { BelongsTogether cx.now }
     requires table { IsTable (program_in cx.now) table.now cx.now.empties.items }
     requires one_each { length before.items ≡ length cx.now.program.now.rules.items }
@@ -63,8 +63,8 @@ fn try_rule(
     table: &Table,
     parts: &mut Parts,
     rule: u32,
-    before: Option<Asked>,
-) -> Result<Tried, Memory>
+    before: Option<AnsweredRankQuestion>,
+) -> Result<RuleAttempt, Memory>
     requires ready { BelongsTogether cx.now }
     requires table { IsTable (program_in cx.now) table.now cx.now.empties.items }
     requires parts { AreParts (program_in cx.now) table.now parts.old }
@@ -75,14 +75,19 @@ fn try_rule(
     ensures parts { OnOk result (AreParts (program_in cx.now) table.now parts.new) }
 {
     if !parts.untimed[rule as usize] {
-        return Ok(Tried::Known);
+        return Ok(RuleAttempt::Known);
     }
     let asked = ask(cx, table, parts, rule, before)?;
     try_answer(cx, table, rule, asked)
 }
 
-// What an answer gives: a time where it has a function and the composed time isn't large.
-fn try_answer(cx: &Context, table: &Table, rule: u32, asked: Asked) -> Result<Tried, Memory>
+// The result of an answer: a time if it has a function and the composed time isn't too large.
+fn try_answer(
+    cx: &Context,
+    table: &Table,
+    rule: u32,
+    asked: AnsweredRankQuestion,
+) -> Result<RuleAttempt, Memory>
     requires ready { BelongsTogether cx.now }
     requires untimed { is_untimed (bounds_in table.now) rule ≡ true }
     requires asked { IsAsked (program_in cx.now) (bounds_in table.now) rule asked }
@@ -90,28 +95,32 @@ fn try_answer(cx: &Context, table: &Table, rule: u32, asked: Asked) -> Result<Tr
     ensures { IfOk result (λ x. IsTried (program_in cx.now) (bounds_in table.now) cx.now.pivots
         cx.now.empties.items rule x) }
 {
-    let Asked { set, shut, answer } = asked;
+    let AnsweredRankQuestion { set, shut, answer } = asked;
     match answer {
         RankAnswer::Ranked(node) => match rank_time(cx.alloc, cx.program, &node, table)? {
-            Within::Rewritten(bound) => {
-                let needs = rank_needs(cx.alloc, cx.program, &node)?;
-                Ok(Tried::Found { node, needs, bound })
+            RewriteResult::Rewritten(bound) => {
+                let premises = rank_premises(cx.alloc, cx.program, &node)?;
+                Ok(RuleAttempt::Found {
+                    node,
+                    premises,
+                    bound,
+                })
             }
-            Within::Large { .. } => Ok(Tried::Missing(Asked {
+            RewriteResult::Large { .. } => Ok(RuleAttempt::Missing(AnsweredRankQuestion {
                 set,
                 shut,
                 answer: RankAnswer::Ranked(node),
             })),
         },
-        RankAnswer::NoRank(gap) => Ok(Tried::Missing(Asked {
+        RankAnswer::NoRank(gap) => Ok(RuleAttempt::Missing(AnsweredRankQuestion {
             set,
             shut,
             answer: RankAnswer::NoRank(gap),
         })),
-        RankAnswer::Tripped(trip) => Ok(Tried::Missing(Asked {
+        RankAnswer::OutOfLimits(limit_hit) => Ok(RuleAttempt::Missing(AnsweredRankQuestion {
             set,
             shut,
-            answer: RankAnswer::Tripped(trip),
+            answer: RankAnswer::OutOfLimits(limit_hit),
         })),
     }
 }

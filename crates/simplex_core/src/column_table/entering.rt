@@ -1,4 +1,4 @@
-//! The entering column, and the end as infeasible.
+//! Chooses the entering column, or finds that the linear program is infeasible.
 
 ghost use Rattle.std.specs.Prelude.{◌≡◌, ◌+◌, ◌<◌, ◌≤◌, pos, None, int_lt, nat_le, ◌&&◌};
 ghost use Rattle.int_laws.specs.NormalForm.{is_zero};
@@ -55,7 +55,7 @@ impl ColumnTable {
         true
     }
 
-    /// Whether an artificial unknown is over 0.
+    /// Whether an artificial unknown is above 0.
     pub(super) fn has_artificial(&self) -> bool
         ensures { (p : LinearProgram) (t : Tableau) → ShowsColumns p self.now t → result ≡ has_artificial p t }
     {
@@ -67,7 +67,7 @@ impl ColumnTable {
         false
     }
 
-    /// Whether a row is solved for an artificial unknown, and that is over 0.
+    /// Whether a row is solved for an artificial unknown, and that is above 0.
     fn is_artificial_over_zero(&self, row: u32) -> bool
         requires { row < self.now.rows }
         ensures { (p : LinearProgram) (t : Tableau) → ShowsColumns p self.now t

@@ -1,4 +1,4 @@
-//! The table of the first tableau.
+//! Builds the table of the first tableau.
 
 ghost use Rattle.std.specs.Prelude.{◌≡◌, ℕ, ◌+◌, ◌<◌, ◌≤◌, ◌^◌, ℤ, pos, ◌*ℤ◌, ◌-ℤ◌, IfOk, IfSome, true, List, length};
 ghost use Rattle.std.specs.Prelude.{slice_index_or, unsigned_abs};
@@ -19,7 +19,7 @@ use crate::sparse_table::first_basis;
 use sparse_columns::Column;
 use std::alloc::{AllocError, Global};
 
-/// The table of the first tableau of a problem whose numbers are below 2^31. None where a number of it has no room.
+/// The table of the first tableau of a problem whose numbers are below 2^31. None where a number doesn't fit.
 pub(crate) fn first_columns(
     alloc: Global,
     problem: &Problem,
@@ -82,7 +82,7 @@ fn zero_columns(alloc: Global, count: u32) -> Result<Vec<Column>, AllocError>
     Ok(columns)
 }
 
-/// Puts the entries into columns of zeros, with the signs of the right sides. The answer is whether each was put.
+/// Puts the entries into columns of zeros, with the signs of the right sides. Returns whether each was put.
 fn put_entries(
     columns: &mut Vec<Column>,
     entries: &[Entry],
@@ -122,7 +122,7 @@ fn narrow(number: i128) -> i64
     number as i64
 }
 
-/// Puts the cost rows, behind the equations, into the columns. The answer is whether each number was put.
+/// Puts the cost rows, behind the equations, into the columns. Returns whether each number was put.
 fn put_costs(
     columns: &mut Vec<Column>,
     rows: u32,
@@ -152,7 +152,7 @@ fn put_costs(
     Ok(true)
 }
 
-/// Puts the numbers of the cost rows, behind the equations, into a column. The answer is whether each was put.
+/// Puts the numbers of the cost rows, behind the equations, into a column. Returns whether each was put.
 fn put_column_costs(
     column: &mut Column,
     rows: u32,
@@ -179,7 +179,7 @@ fn put_column_costs(
     column.put(rows + 2, narrow(second))
 }
 
-/// The negation of a number. None where it has no room.
+/// The negation of a number. None where it doesn't fit.
 fn negated(number: i64) -> Option<i64>
     ensures { IfSome result (λ z. z ≡ pos 0 -ℤ number) }
 {
@@ -204,7 +204,7 @@ fn push_units(alloc: Global, columns: &mut Vec<Column>, rows: u32) -> Result<boo
     Ok(true)
 }
 
-/// The column of the right sides, with their signs. None where one has no room.
+/// The column of the right sides, with their signs. None where one doesn't fit.
 fn right_column(alloc: Global, right: &[i128]) -> Result<Option<Column>, AllocError>
     requires length { length right.now < 2 ^ 31 }
     requires small { AreNumbersSmall right.now }

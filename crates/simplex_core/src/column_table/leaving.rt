@@ -1,4 +1,4 @@
-//! The leaving row.
+//! Chooses the leaving row, by least ratios.
 
 ghost use Rattle.std.specs.Prelude.{◌≡◌, ℕ, ◌+◌, ◌<◌, pos, ◌<ℤ◌, ◌*ℤ◌, Some, None, IfSome, MatchOption, int_lt, List};
 ghost use Rattle.std.specs.Prelude.{slice_get, false};
@@ -12,7 +12,7 @@ use crate::column_table::ColumnTable;
 use sparse_columns::{Cell, product};
 
 impl ColumnTable {
-    /// The cell of the leaving row in a column, if a row has an entry over 0 there.
+    /// The cell of the leaving row in a column, if a row has an entry above 0 there.
     pub(super) fn leaving_cell(&self, column: usize) -> Option<Cell>
         requires { column < self.now.width }
         ensures within { IfSome result (λ d. IsCellOf self.now column d × (pos 0 <ℤ d.number)) }
@@ -53,8 +53,8 @@ impl ColumnTable {
         }
     }
 
-    /// Whether the row of one cell of a column goes before that of another as the leaving row: a lesser quotient of
-    /// right side by number, or the same and a lesser basic column.
+    /// Whether the row of one cell of a column is a better leaving row than that of another: it has a lesser quotient
+    /// of right side by number, or the same and a lesser basic column.
     fn goes_before(&self, column: usize, a: Cell, b: Cell) -> bool
         requires column { column < self.now.width }
         requires a { IsCellOf self.now column a }

@@ -1,4 +1,4 @@
-//! For each row the columns that may have a number there.
+//! For each row the columns that may have a nonzero number there.
 
 ghost use Rattle.std.specs.Prelude.{◌≡◌, ◌<◌, ◌^◌, IfOk, length, ◌++◌, List, [], ◌∷◌};
 ghost use Rattle.simplex_core.specs.ColumnListing.{AreListed, PutsCells, AreRowsBelow, HasBoth};
@@ -10,7 +10,8 @@ use crate::column_table::ColumnTable;
 use sparse_columns::{Cell, Column};
 use std::alloc::{AllocError, Global};
 
-/// How many columns may be put into lists before they are made anew, for each list, beside eight times those they name.
+/// How many columns may be appended to each list before the lists are rebuilt, in addition to eight times as many as
+/// they name.
 const ROOM: usize = 16;
 
 /// Columns, in any order.
@@ -65,7 +66,7 @@ impl RowColumns {
 }
 
 impl ColumnTable {
-    /// Where much was put into the lists, makes them anew, of the columns with a number in each row alone.
+    /// Rebuilds the lists, from the columns with a number in each row, once much has been appended to them.
     pub(super) fn renew_lists(&mut self, alloc: Global) -> Result<(), AllocError>
         requires { IsKept self.old }
         ensures { IfOk result (λ _. ChangesBeside self.old self.new) }
@@ -90,7 +91,8 @@ impl ColumnTable {
     }
 }
 
-/// How many columns may be put into lists before they are made anew: eight times as many as they name, and `ROOM` each.
+/// How many columns may be appended to the lists before they are rebuilt: eight times as many as they name, and `ROOM`
+/// for each.
 pub(super) fn room_of(lists: &[RowColumns]) -> usize {
     let mut room: usize = 0;
     for list in lists {

@@ -1,4 +1,4 @@
-//! The table of columns as a table of the method.
+//! The table of columns implements the operations of the simplex loop.
 
 use crate::column_table::ColumnTable;
 use crate::simplex_table::{SimplexTable, Unmade};
@@ -12,7 +12,7 @@ impl SimplexTable for ColumnTable {
 
     ghost gives_up = { Unit {0} };
 
-    /// As the trait says: each number has room, so each is in range.
+    /// As the trait says: every number of this table fits, so each is in range.
     fn is_in_range(&self) -> bool {
         true
     }

@@ -1,4 +1,4 @@
-//! The pivot.
+//! Executes a pivot on the columns.
 
 ghost use Rattle.std.specs.Prelude.{◌≡◌, ℕ, ◌+◌, ◌<◌, ◌≤◌, ◌^◌, ℤ, pos, ◌<ℤ◌, ◌≤ℤ◌, Some, IfOk, List, slice_get, unsigned_abs};
 ghost use Rattle.std.specs.Prelude.{length};
@@ -16,8 +16,8 @@ use sparse_columns::{Cell, Cells, Column};
 use std::alloc::{AllocError, Global};
 
 impl ColumnTable {
-    /// Pivots at a row and a column with a number over 0 there. `Beyond` where a number has no room; the table is then
-    /// open.
+    /// Executes a pivot at a row and a column with a number above 0 there. `Beyond` where a number doesn't fit; the
+    /// table's contents are then unspecified.
     pub(super) fn pivot(&mut self, alloc: Global, row: u32, column: usize) -> Result<(), Unmade>
         requires row { row < self.old.rows }
         requires column { column < self.old.width }
@@ -95,7 +95,7 @@ impl ColumnTable {
         Ok(())
     }
 
-    /// Puts columns into the lists of these cells' rows, but for one row.
+    /// Puts columns into the lists of these cells' rows, except for one row.
     fn list_touched(&mut self, row: u32, cells: &[Cell], touched: &[u32]) -> Result<(), AllocError>
         requires cells { AreRowsBelow cells.now self.old.rows }
         requires beside { IsKept self.old }

@@ -1,4 +1,4 @@
-//! What is read off the table: the basic solution and the dual.
+//! Reads the basic solution and the dual off the table.
 
 ghost use Rattle.std.specs.Prelude.{◌≡◌, ℕ, ◌+◌, ◌<◌, ◌^◌, ℤ, pos, ◌*ℤ◌, ◌-ℤ◌, ◌<ℤ◌, Some, length, slice_get};
 ghost use Rattle.std.specs.Prelude.{unsigned_abs, IfOk, negsuc};
@@ -80,7 +80,7 @@ fn rest(number: i64, den: i64, is_negated: bool) -> i64
     }
 }
 
-/// The fraction of a numerator and a denominator over 0.
+/// The fraction of a numerator and a denominator above 0.
 fn fraction(over: i64, under: i64) -> Frac
     requires over { unsigned_abs over < 2 ^ 32 }
     requires under { unsigned_abs under < 2 ^ 31 }

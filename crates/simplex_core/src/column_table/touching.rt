@@ -1,4 +1,4 @@
-//! The columns with a number in a row.
+//! The columns that a pivot changes: those with a nonzero number in its row.
 
 ghost use Rattle.std.specs.Prelude.{◌≡◌, ◌≢◌, ℕ, ◌+◌, ◌<◌, IfOk, IsTrue, false, Some, List, length, slice_get, pos};
 ghost use Rattle.sparse_columns.specs.declared.column.Column.{Column};
@@ -11,7 +11,7 @@ use sparse_columns::Column;
 use std::alloc::{AllocError, Global};
 
 impl ColumnTable {
-    /// The columns with a number in a row, each once. No mark is set after.
+    /// The columns with a number in a row, each once. No mark is set afterwards.
     pub(super) fn touched_columns(
         &mut self,
         alloc: Global,
@@ -39,7 +39,7 @@ impl ColumnTable {
     }
 }
 
-/// Those of the listed columns that have a number in a row, each once. No mark is set after.
+/// Those of the listed columns that have a number in a row, each once. No mark is set afterwards.
 fn touched_of(
     alloc: Global,
     columns: &[Column],
@@ -60,7 +60,7 @@ fn touched_of(
     Ok(touched)
 }
 
-/// Puts a column behind those that were found, and marks it, if it has a number in a row and no mark.
+/// Appends a column to those that were found, and marks it, if it has a number in a row and no mark.
 fn touch(
     columns: &[Column],
     position: u32,

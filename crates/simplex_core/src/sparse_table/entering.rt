@@ -1,4 +1,4 @@
-//! The entering column, and the end as infeasible.
+//! Chooses the entering column, or finds that the linear program is infeasible.
 
 ghost use Rattle.std.specs.Prelude.{◌≡◌, ◌+◌, ◌<◌, pos, int_lt, nat_le, nat_lt, ◌&&◌};
 ghost use Rattle.int_laws.specs.NormalForm.{is_zero};
@@ -56,7 +56,7 @@ impl SparseTable {
         true
     }
 
-    /// Whether an artificial unknown is over 0.
+    /// Whether an artificial unknown is above 0.
     pub(super) fn has_artificial(&self) -> bool
         ensures { (p : LinearProgram) (t : Tableau) → Shows p self.now t
             → result ≡ has_artificial p t }
@@ -69,7 +69,7 @@ impl SparseTable {
         false
     }
 
-    /// Whether a row is solved for an artificial unknown, and that is over 0.
+    /// Whether a row is solved for an artificial unknown, and that is above 0.
     fn is_artificial_over_zero(&self, row: usize) -> bool
         requires { row < self.now.rows }
         ensures { (p : LinearProgram) (t : Tableau) → Shows p self.now t
@@ -100,7 +100,7 @@ impl SparseTable {
         self.at(row, column).num == 0
     }
 
-    /// Whether a number of an equation, or its right side, is over 0.
+    /// Whether a number of an equation, or its right side, is above 0.
     pub(super) fn is_positive_at(&self, row: usize, column: usize) -> bool
         requires row { row < self.now.rows }
         requires column { column < width self.now }

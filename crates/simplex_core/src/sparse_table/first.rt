@@ -1,4 +1,4 @@
-//! The table of the first tableau.
+//! Builds the table of the first tableau.
 
 ghost use Rattle.std.specs.Prelude.{IfOk};
 ghost use Rattle.linear_forms.specs.LinearProgram.{LinearProgram};
@@ -35,7 +35,7 @@ pub(crate) fn first_table(alloc: Global, problem: &Problem) -> Result<SparseTabl
     Ok(table)
 }
 
-/// The table, which has noted whether its numbers are below 2^31.
+/// The table with its flag set, which says whether all its numbers are below 2^31.
 pub(crate) fn tested(table: SparseTable) -> SparseTable
     ensures { (p : LinearProgram) (t : Tableau) → Shows p table t → ShowsTested p result t }
 {

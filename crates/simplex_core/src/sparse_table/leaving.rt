@@ -1,4 +1,4 @@
-//! The leaving row.
+//! Chooses the leaving row, by least ratios.
 
 ghost use Rattle.std.specs.Prelude.{◌≡◌, ◌+◌, ◌*◌, ◌<◌, ℤ, ◌*ℤ◌, IfSome, int_lt};
 ghost use Rattle.linear_forms.specs.LinearProgram.{LinearProgram};
@@ -11,7 +11,7 @@ use crate::arithmetic::cross_product;
 use crate::sparse_table::SparseTable;
 
 impl SparseTable {
-    /// The leaving row of a column, if a row has an entry over 0 there.
+    /// The leaving row of a column, if a row has an entry above 0 there.
     pub(super) fn leaving_row(&self, column: usize) -> Option<usize>
         requires small { AreSmall self.now }
         requires column { column < self.now.columns }
@@ -50,8 +50,8 @@ impl SparseTable {
         }
     }
 
-    /// Whether row `i` goes before row `r` as the leaving row: a lesser quotient of right side by entry
-    /// in the column, or the same and a lesser basic column.
+    /// Whether row `i` is a better leaving row than row `r`: it has a lesser quotient of right side by entry in the
+    /// column, or the same and a lesser basic column.
     fn goes_before(&self, column: usize, i: usize, r: usize) -> bool
         requires small { AreSmall self.now }
         requires i { i < self.now.rows }

@@ -1,4 +1,4 @@
-//! Arithmetic of the lines of a table within the limit.
+//! Arithmetic on the lines of a table, within the limit on numbers.
 
 ghost use Rattle.std.specs.Prelude.{◌≡◌, ℕ, pos, ◌<ℤ◌, IfOk, IfErr, Ok, MatchBool};
 ghost use Rattle.sparse_rows.specs.Rows.{fraction_at};
@@ -24,7 +24,7 @@ pub(super) fn is_line_small(line: &SparseRow) -> bool
     true
 }
 
-/// A line divided by a number over 0. Error: memory ran out.
+/// A line divided by a number above 0. Error: memory ran out.
 pub(super) fn divided(alloc: Global, line: &SparseRow, by: Frac) -> Result<SparseRow, AllocError>
     requires small { IsLineBelow 31 line.now }
     requires by_small { IsBelow 31 by }
@@ -64,7 +64,7 @@ fn added(sum: Result<SparseRow, SparseError>) -> Result<SparseRow, AllocError>
     }
 }
 
-/// Want of memory, as the error that it is.
+/// Running out of memory, as the type of error that it is.
 fn memory_of(error: SparseError) -> AllocError
     requires { error ≡ SparseError.Memory }
 {

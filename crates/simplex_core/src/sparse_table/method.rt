@@ -1,4 +1,4 @@
-//! The sparse table as a table of the method.
+//! The table of fractions implements the operations of the simplex loop.
 
 use crate::simplex_table::{SimplexTable, Unmade};
 use crate::sparse_table::SparseTable;

@@ -1,4 +1,4 @@
-//! The first tableau is written into a table of zeros.
+//! Writes the first tableau into a table of zeros.
 
 ghost use Rattle.std.specs.Prelude.{◌≡◌, ℕ, ◌+◌, ◌*◌, ◌<◌, ◌^◌, ℤ, pos, ◌*ℤ◌, List, length, IfOk, slice_index};
 ghost use Rattle.std.specs.Prelude.{slice_index_or, unsigned_abs};
@@ -162,7 +162,7 @@ impl SparseTable {
         self.write(self.rows + 2, column, second)
     }
 
-    /// Writes a whole number where the line of a row is 0. Error: memory ran out.
+    /// Writes an integer where the line of a row is 0. Error: memory ran out.
     fn write(&mut self, row: usize, column: usize, number: i128) -> Result<(), AllocError>
         requires row { row < self.old.rows + 3 }
         requires column { column < self.old.columns + self.old.rows }

@@ -1,4 +1,4 @@
-//! The pivot.
+//! Executes a pivot on the lines.
 
 ghost use Rattle.std.specs.Prelude.{◌≡◌, ◌≢◌, ℕ, ◌+◌, ◌<◌, ℤ, pos, ◌<ℤ◌, ◌*ℤ◌, Some, MatchBool, IfOk, ◌&&◌};
 ghost use Rattle.frac128.specs.Fraction.{IsFraction};
@@ -15,10 +15,9 @@ use frac128::Frac;
 use std::alloc::{AllocError, Global};
 
 impl SparseTable {
-    /// Pivots: the row is divided by its number in the column, and the column is cleared in the other
-    /// rows.
+    /// Pivots: the row is divided by its number in the column, and the column is cleared in the other rows.
     ///
-    /// Error: memory ran out; the table is then open.
+    /// Error: memory ran out; the table's contents are then unspecified.
     pub(super) fn pivot(
         &mut self,
         alloc: Global,
@@ -53,7 +52,7 @@ impl SparseTable {
         self.is_row_small(row)
     }
 
-    /// Divides a row by a number over 0. Error: memory ran out.
+    /// Divides a row by a number above 0. Error: memory ran out.
     fn divide_row(&mut self, alloc: Global, row: usize, by: Frac) -> Result<(), AllocError>
         requires row { row < self.old.rows }
         requires small { IsRowBelow 31 self.old row }
@@ -70,7 +69,7 @@ impl SparseTable {
         Ok(())
     }
 
-    /// Clears the column in each row but the pivot's. The answer is whether these rows' numbers are below 2^31. Error:
+    /// Clears the column in each row but the pivot row. Returns whether these rows' numbers are below 2^31. Error:
     /// memory ran out.
     fn clear_others(
         &mut self,
@@ -96,8 +95,8 @@ impl SparseTable {
         Ok(are_small)
     }
 
-    /// Takes from a row, if it isn't the pivot's, the multiple of the pivot row that its number in the
-    /// column shows. The answer is whether the row's numbers are below 2^31; of the pivot's row it isn't asked. Error:
+    /// Subtracts from a row, unless it is the pivot row, the multiple of the pivot row that its number in the column
+    /// gives. Returns whether the row's numbers are below 2^31; for the pivot row the result has no meaning. Error:
     /// memory ran out.
     fn clear_by(
         &mut self,
@@ -127,8 +126,8 @@ impl SparseTable {
         self.clear_row(alloc, row, pivot, factor)
     }
 
-    /// Takes a multiple of the pivot row from a row. The answer is whether the row's numbers are below 2^31.
-    /// Error: memory ran out.
+    /// Subtracts a multiple of the pivot row from a row. Returns whether the row's numbers are below 2^31. Error:
+    /// memory ran out.
     fn clear_row(
         &mut self,
         alloc: Global,
@@ -155,7 +154,7 @@ impl SparseTable {
         Ok(self.is_row_small(row))
     }
 
-    /// Takes a multiple of the pivot row's right side from a row's.
+    /// Subtracts a multiple of the pivot row's right side from a row's.
     fn clear_side(&mut self, row: usize, pivot: usize, factor: Frac)
         requires row { row < self.old.rows }
         requires pivot { pivot < self.old.rows }

@@ -1,4 +1,4 @@
-//! Whether the numbers are in range.
+//! Checks whether the numbers are in range.
 
 ghost use Rattle.std.specs.Prelude.{◌+◌, ◌<◌, MatchBool};
 ghost use Rattle.simplex_core.specs.Cells.{AreSmall, IsRowBelow, HasLarge, HasLargeIn};

@@ -1,4 +1,4 @@
-//! What is read off the table: the basic solution and the dual.
+//! Reads the basic solution and the dual off the table.
 
 ghost use Rattle.std.specs.Prelude.{◌≡◌, ◌+◌, ◌*◌, ◌<◌, ℤ, ◌*ℤ◌, ◌-ℤ◌, Some, length, IfOk};
 ghost use Rattle.frac128.specs.declared.frac.Frac.{Frac};

@@ -7,7 +7,7 @@ use Rattle.analysis_tests.proofs.Answered.{locals_for}
 use Rattle.analysis_tests.proofs.loops.components_by.Goals as goal
 
 pub all_locals-requires : goal.all_locals-requires
-all_locals-requires g c = are_prepared c.requires.0 c.requires.1.0 c.args.preps.now c.requires.1.1.1.0
+all_locals-requires g c = are_prepared c.requires.0 c.requires.1.0 c.args.prepared_rules.now c.requires.1.1.1.0
 
 pub components-requires : goal.components-requires
 components-requires g c =
@@ -20,6 +20,6 @@ components-requires g c =
         rows = rest.1.1.0;
         locals_for =
             subst (λ (ls : List (Vec LocalAnswer Global)). AreLocalsFor p (answer_lists ls) c.args.live.now) (sym c.deref.ensures.value)
-            (locals_for p c.args.preps.now c.in_ok-locals.locals.items c.args.live.now rest.0 rest.1.1.0 c.in_ok-locals.ensures rest.1.1.1);
+            (locals_for p c.args.prepared_rules.now c.in_ok-locals.locals.items c.args.live.now rest.0 rest.1.1.0 c.in_ok-locals.ensures rest.1.1.1);
       },
     )

@@ -2,11 +2,11 @@ use Rattle.std.proofs.Common.{map}
 use Rattle.std.specs.List.{All}
 use Rattle.model.specs.Programs.{Program}
 use Rattle.its_model.specs.Valid.{IsValid}
-use Rattle.proof_tree.specs.Composing.{AreRowsOf}
-use Rattle.proof_tree.specs.Views.{member_of}
+use Rattle.cert_types.specs.Composing.{AreRowsOf}
+use Rattle.cert_types.specs.Views.{member_of}
 use Rattle.time_bounds.specs.Candidates.{IsAccepted}
 use Rattle.analysis_tests.proofs.members.members_at.Given as goal
 
 -- the arms of the members so far are accepted
 abbrev pub invariant-loop-rule : goal.invariant-loop-rule
-invariant-loop-rule l = (p : Program) → IsValid p → AreRowsOf l.preps p → All (IsAccepted p) (map member_of l.members.items)
+invariant-loop-rule l = (p : Program) → IsValid p → AreRowsOf l.prepared_rules p → All (IsAccepted p) (map member_of l.members.items)

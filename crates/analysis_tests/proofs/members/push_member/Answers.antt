@@ -1,8 +1,8 @@
 use Rattle.std.proofs.Common.{List, map, Option, sym, subst}
 use Rattle.std.specs.Prelude.{IfSome}
 use Rattle.std.specs.List.{All}
-use Rattle.proof_tree.specs.Views.{member_of}
-use Rattle.proof_tree.specs.declared.arm.Member.{Member}
+use Rattle.cert_types.specs.Views.{member_of}
+use Rattle.cert_types.specs.declared.side_bound.Member.{Member}
 use Rattle.time_bounds.specs.Candidates.{IsAccepted}
 use Rattle.analysis_tests.proofs.Accepted.{accepted_more}
 use Rattle.analysis_tests.proofs.members.push_member.Goals as goal

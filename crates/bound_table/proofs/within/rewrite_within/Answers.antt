@@ -5,7 +5,7 @@ use Rattle.bound_expr.specs.Views.{bound_of}
 use Rattle.bound_expr.specs.Measure.{is_large}
 use Rattle.bound_expr.specs.Tidy.{IsTidy}
 use Rattle.bound_table.specs.Laws.{HasValueOf, ReadsNoMore, KeepsNumbers}
-use Rattle.bound_table.specs.Within.{answer_of, rewritten_within, WhereFits}
+use Rattle.bound_table.specs.RewriteResult.{answer_of, rewritten_within, WhereFits}
 use Rattle.bound_table.proofs.TableInForce.{rewritten-value, rewritten-reads, rewritten-numbers, rewritten-tidy}
 use Rattle.bound_table.proofs.WithinLimits.{answer-fits}
 use Rattle.bound_table.proofs.within.rewrite_within.Goals as goal

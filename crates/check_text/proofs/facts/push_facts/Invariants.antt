@@ -1,6 +1,6 @@
 use Rattle.std.proofs.Common.{◌≡◌, ◌++◌, map, drop}
 use Rattle.its_model.specs.Views.{name_of}
-use Rattle.proof_tree.specs.Views.{facts_of}
+use Rattle.cert_types.specs.Views.{facts_of}
 use Rattle.check_text.specs.Texts.{fact_lines}
 use Rattle.check_text.proofs.facts.push_facts.Given as goal
 

@@ -1,5 +1,5 @@
 use Rattle.std.proofs.Common.{◌≡◌, ◌++◌, map, drop}
-use Rattle.proof_tree.specs.AnswerViews.{gap_of}
+use Rattle.cert_types.specs.AnswerViews.{gap_of}
 use Rattle.check_text.specs.Texts.{gap_lines}
 use Rattle.check_text.proofs.facts.push_gaps.Given as goal
 

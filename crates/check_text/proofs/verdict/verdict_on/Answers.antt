@@ -1,9 +1,9 @@
 use Rattle.std.proofs.Common.{ℕ, List, All, length, subst, sym}
 use Rattle.std.proofs.lemmas.List.{length-map}
 use Rattle.its_model.specs.Views.{name_of, program_of}
-use Rattle.proof_tree.specs.AnswerViews.{file_of}
-use Rattle.proof_tree.specs.Views.{fact_of}
-use Rattle.proof_tree.specs.declared.fact.Fact.{Fact}
+use Rattle.cert_types.specs.AnswerViews.{file_of}
+use Rattle.cert_types.specs.Views.{fact_of}
+use Rattle.cert_types.specs.declared.fact.Fact.{Fact}
 use Rattle.check_text.specs.Told.{IsListedFact}
 use Rattle.check_text.proofs.Verdicts.{facts-listed}
 use Rattle.check_text.proofs.verdict.verdict_on.Goals as goal

@@ -5,7 +5,7 @@ use Rattle.location_facts.specs.Strengthening.{greatest_least}
 use Rattle.facts_report.specs.FactTexts.{lines_of_each, line_by}
 use Rattle.facts_report.proofs.lines.push_with_plus.Given as goal
 
--- the lines with a minus passed stand behind what was written
+-- the lines of the minus places passed are appended to what was written
 abbrev pub invariant-loop-minus : goal.invariant-loop-minus
 invariant-loop-minus l =
     l.text.items ≡ l.initial.text.items ++ lines_of_each (λ j. line_by (name_of l.name) l.plus j

@@ -1,5 +1,5 @@
-use Rattle.proof_tree.specs.proof_setting.RankedSets.{forms_at}
-use Rattle.proof_tree.specs.AnswerViews.{gap_of}
+use Rattle.cert_types.specs.cert_program.RankedSets.{forms_at}
+use Rattle.cert_types.specs.AnswerViews.{gap_of}
 use Rattle.gap_checks.specs.GapBalances.{program}
 use Rattle.gap_checks.specs.GapTests.{coefficient_at}
 use Rattle.gap_checks.specs.Touches.{share_of}

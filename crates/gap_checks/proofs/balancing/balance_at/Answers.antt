@@ -1,9 +1,9 @@
 use Rattle.std.proofs.Common.{◌∙◌, ap, arith}
 use Rattle.std.specs.Prelude.{ℤ, ◌+ℤ◌}
 use Rattle.its_model.specs.Views.{program_of}
-use Rattle.proof_tree.specs.proof_setting.RankedSets.{forms_at}
-use Rattle.proof_tree.specs.proof_nodes.GapChecks.{net}
-use Rattle.proof_tree.specs.AnswerViews.{gap_of}
+use Rattle.cert_types.specs.cert_program.RankedSets.{forms_at}
+use Rattle.cert_types.specs.cert_rules.GapChecks.{net}
+use Rattle.cert_types.specs.AnswerViews.{gap_of}
 use Rattle.gap_checks.specs.GapBalances.{sum_at}
 use Rattle.gap_checks.specs.GapTests.{coefficient_at}
 use Rattle.gap_checks.proofs.GapFaults.{near-floor}

@@ -1,5 +1,5 @@
 use Rattle.std.proofs.Common.{ℕ, sym, subst, arith}
-use Rattle.proof_tree.specs.AnswerViews.{gap_of}
+use Rattle.cert_types.specs.AnswerViews.{gap_of}
 use Rattle.gap_checks.specs.GapBalances.{program, flags_at}
 use Rattle.gap_checks.specs.GapTests.{AreShutFlags}
 use Rattle.gap_checks.specs.declared.touching.Way.TheVariants.{Leaves}

@@ -1,5 +1,5 @@
 use Rattle.std.proofs.Common.{◌-◌, length}
-use Rattle.proof_tree.specs.AnswerViews.{gap_of}
+use Rattle.cert_types.specs.AnswerViews.{gap_of}
 use Rattle.gap_checks.specs.GapBalances.{program}
 use Rattle.gap_checks.proofs.SymbolsInOrder.{AreDoneBefore}
 use Rattle.gap_checks.proofs.balancing.first_of_touches.Given as goal

@@ -3,8 +3,8 @@ use Rattle.std.proofs.lemmas.Int.{to_z-of_z}
 use mir.Syntax.{w128}
 use Rattle.farkas_cert.specs.model.Programs.{arity_of}
 use Rattle.its_model.specs.Views.{program_of}
-use Rattle.proof_tree.specs.proof_nodes.Gaps.{is_shut}
-use Rattle.proof_tree.specs.AnswerViews.{gap_of}
+use Rattle.cert_types.specs.cert_rules.Gaps.{is_shut}
+use Rattle.cert_types.specs.AnswerViews.{gap_of}
 use Rattle.gap_checks.specs.GapTests.{IsBalanced}
 use Rattle.gap_checks.proofs.Balances.{places-hold, places-fail, open-alike}
 use Rattle.gap_checks.proofs.balancing.first_place.Goals as goal

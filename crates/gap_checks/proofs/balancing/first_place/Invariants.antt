@@ -1,7 +1,7 @@
 use Rattle.std.proofs.Common.{◌≡◌, ◌⊎◌, ℕ, ◌<◌, false}
 use Rattle.its_model.specs.Views.{program_of}
-use Rattle.proof_tree.specs.proof_nodes.Gaps.{is_shut}
-use Rattle.proof_tree.specs.AnswerViews.{gap_of}
+use Rattle.cert_types.specs.cert_rules.Gaps.{is_shut}
+use Rattle.cert_types.specs.AnswerViews.{gap_of}
 use Rattle.gap_checks.specs.GapTests.{coefficient_at, IsBalanced}
 use Rattle.gap_checks.proofs.balancing.first_place.Given as goal
 

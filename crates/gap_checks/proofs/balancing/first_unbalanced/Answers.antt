@@ -1,6 +1,6 @@
 use Rattle.std.proofs.Common.{arith}
 use Rattle.its_model.specs.Views.{program_of}
-use Rattle.proof_tree.specs.AnswerViews.{gap_of}
+use Rattle.cert_types.specs.AnswerViews.{gap_of}
 use Rattle.gap_checks.proofs.GapFaults.{shape-short}
 use Rattle.gap_checks.proofs.balancing.first_unbalanced.Goals as goal
 

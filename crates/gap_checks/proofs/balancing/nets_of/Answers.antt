@@ -1,8 +1,8 @@
 use Rattle.std.proofs.Common.{◌*◌, ◌<◌, ◌≤◌, length, get_or, arith}
 use Rattle.std.proofs.lemmas.List.{get_or_default}
 use Rattle.guard_prep.proofs.StepLaws.{few-places}
-use Rattle.proof_tree.specs.proof_setting.RankedSets.{forms_at}
-use Rattle.proof_tree.specs.AnswerViews.{gap_of}
+use Rattle.cert_types.specs.cert_program.RankedSets.{forms_at}
+use Rattle.cert_types.specs.AnswerViews.{gap_of}
 use Rattle.gap_checks.specs.GapBalances.{program}
 use Rattle.gap_checks.specs.GapTests.{near_value_limit}
 use Rattle.gap_checks.specs.declared.touching.Way.TheVariants.{Leaves}

@@ -1,4 +1,4 @@
-use Rattle.proof_tree.specs.AnswerViews.{gap_of}
+use Rattle.cert_types.specs.AnswerViews.{gap_of}
 use Rattle.gap_checks.specs.GapBalances.{program}
 use Rattle.gap_checks.proofs.Sums.{AreSumsSoFar}
 use Rattle.gap_checks.proofs.balancing.nets_of.Given as goal

@@ -2,9 +2,9 @@ use Rattle.std.proofs.Common.{◌<◌, length, get_or, sym, ◌∙◌, subst, ar
 use Rattle.std.proofs.lemmas.Int.{to_z-of_z}
 use Rattle.std.proofs.lemmas.List.{get_or_default, length-map}
 use mir.Syntax.{w128}
-use Rattle.proof_tree.specs.proof_nodes.AcceptsPlain.{IsRule}
-use Rattle.proof_tree.specs.proof_setting.RankedSets.{forms_at}
-use Rattle.proof_tree.specs.AnswerViews.{gap_of, scaled_of}
+use Rattle.cert_types.specs.cert_rules.AcceptsPlain.{IsRule}
+use Rattle.cert_types.specs.cert_program.RankedSets.{forms_at}
+use Rattle.cert_types.specs.AnswerViews.{gap_of, scaled_of}
 use Rattle.gap_checks.specs.GapBalances.{program}
 use Rattle.gap_checks.specs.GapTests.{IsNear}
 use Rattle.gap_checks.proofs.GapFaults.{in-list, have-small, near-moves}
@@ -45,9 +45,9 @@ arriving-requires-clause-near c =
     (position-is (λ t z. IsNear z) g.set.items g.moves.items i c.index-z.result.now near.ascending near.long c.requires.inside
     c.index-z.ensures) (near.near (get_or g.set.items i 0) (in-list g.set.items i 0 c.requires.inside))
 
-pub arriving-requires-clause-news : goal.arriving-requires-clause-news
-arriving-requires-clause-news c =
-    (have-small (program c.args.rules.now) c.requires.valid c.args.rules.now.preps.now c.requires.rows).news c.index-rule.result.now
+pub arriving-requires-clause-new_values : goal.arriving-requires-clause-new_values
+arriving-requires-clause-new_values c =
+    (have-small (program c.args.rules.now) c.requires.valid c.args.rules.now.prepared_rules.now c.requires.rows).new_values c.index-rule.result.now
 
 pub returns-in-Leaves-clause-value : goal.returns-in-Leaves-clause-value
 returns-in-Leaves-clause-value c =

@@ -1,4 +1,4 @@
-use Rattle.proof_tree.proofs.proof_setting.RankedSets.{gap-excludes_all}
+use Rattle.cert_types.proofs.cert_program.RankedSets.{gap-excludes_all}
 use Rattle.gap_checks.proofs.gap_faults.gaps_exclude_functions.Goals as goal
 
 pub returns : goal.returns

@@ -1,5 +1,5 @@
 use Rattle.std.proofs.Common.{◌∙◌, ap, arith}
-use Rattle.proof_tree.specs.proof_nodes.Gaps.{ScaledPoint}
+use Rattle.cert_types.specs.cert_rules.Gaps.{ScaledPoint}
 use Rattle.gap_checks.proofs.GapPositions.{point-passed}
 use Rattle.gap_checks.proofs.gap_points.den_of.Goals as goal
 

@@ -1,6 +1,6 @@
 use Rattle.std.proofs.Common.{◌≡◌, drop, map}
-use Rattle.proof_tree.specs.proof_nodes.GapChecks.{point_of}
-use Rattle.proof_tree.specs.AnswerViews.{scaled_of}
+use Rattle.cert_types.specs.cert_rules.GapChecks.{point_of}
+use Rattle.cert_types.specs.AnswerViews.{scaled_of}
 use Rattle.gap_checks.proofs.gap_points.den_of.Given as goal
 
 abbrev pub invariant-loop-i : goal.invariant-loop-i

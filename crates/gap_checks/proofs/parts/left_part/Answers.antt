@@ -1,7 +1,7 @@
 use Rattle.std.proofs.Common.{◌-◌, ◌≤◌, length, List, ap, arith}
 use Rattle.std.specs.Prelude.{ℤ}
 use Rattle.std.proofs.lemmas.Bool.Decides.{nat_tests}
-use Rattle.proof_tree.specs.AnswerViews.{scaled_of}
+use Rattle.cert_types.specs.AnswerViews.{scaled_of}
 use Rattle.gap_checks.proofs.GapValues.{before-past, part-read}
 use Rattle.gap_checks.proofs.parts.left_part.Goals as goal
 

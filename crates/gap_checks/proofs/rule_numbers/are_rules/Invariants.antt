@@ -1,7 +1,7 @@
 use Rattle.std.proofs.Common.{take}
 use Rattle.std.specs.List.{All}
 use Rattle.its_model.specs.Views.{program_of}
-use Rattle.proof_tree.specs.proof_nodes.AcceptsPlain.{IsRule}
+use Rattle.cert_types.specs.cert_rules.AcceptsPlain.{IsRule}
 use Rattle.gap_checks.proofs.rule_numbers.are_rules.Given as goal
 
 abbrev pub invariant-loop-number : goal.invariant-loop-number

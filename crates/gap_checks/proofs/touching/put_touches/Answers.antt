@@ -1,6 +1,6 @@
 use Rattle.std.proofs.Common.{arith}
 use Rattle.its_model.specs.Views.{program_of}
-use Rattle.proof_tree.specs.proof_setting.RankedSets.{forms_at}
+use Rattle.cert_types.specs.cert_program.RankedSets.{forms_at}
 use Rattle.gap_checks.proofs.GapFaults.{in-list}
 use Rattle.gap_checks.proofs.TouchLists.{put-next, put-all}
 use Rattle.gap_checks.proofs.touching.put_touches.Goals as goal

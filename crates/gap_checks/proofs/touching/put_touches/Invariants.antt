@@ -1,6 +1,6 @@
 use Rattle.std.proofs.Common.{◌≡◌, ◌*◌, take}
 use Rattle.its_model.specs.Views.{program_of}
-use Rattle.proof_tree.specs.proof_setting.RankedSets.{forms_at}
+use Rattle.cert_types.specs.cert_program.RankedSets.{forms_at}
 use Rattle.gap_checks.specs.Touches.{touches_from}
 use Rattle.gap_checks.proofs.touching.put_touches.Given as goal
 

@@ -19,5 +19,5 @@ returns c = record {
     degree_two = refl;
     cancelled = refl;
   };
-  updates = record { news = refl; bent = refl; unknowns = refl; row = refl; two_bent = refl; cancelled = refl };
+  updates = record { new_values = refl; nonlinear = refl; unknowns = refl; row = refl; two_nonlinear = refl; cancelled = refl };
 }

@@ -5,6 +5,6 @@ use Rattle.guard_prep.proofs.preparing.count_of.Given as goal
 -- what is counted and what is left are all
 abbrev pub invariant-loop-b : goal.invariant-loop-b
 invariant-loop-b l = record {
-  whole : l.count + count_true (drop l.b-index l.bent) ≡ count_true l.bent;
+  whole : l.count + count_true (drop l.b-index l.nonlinear) ≡ count_true l.nonlinear;
   few : l.count ≤ l.b-index;
 }

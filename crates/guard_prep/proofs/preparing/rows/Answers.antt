@@ -9,7 +9,7 @@ use Rattle.poly_terms.specs.Views.{term_of, poly_of}
 use Rattle.its_model.specs.declared.guard.Atom.{Atom}
 use Rattle.its_model.specs.Valid.{IsValidAtom}
 use Rattle.its_model.specs.Views.{atom_of, rule_of}
-use Rattle.guard_prep.specs.Prepared.{is_bent, count_true, bent_of, polys_of}
+use Rattle.guard_prep.specs.Prepared.{is_nonlinear, count_true, nonlinear_of, polys_of}
 use Rattle.guard_prep.proofs.SizeLaws.{few-unknowns}
 use Rattle.guard_prep.proofs.RangeLaws.{atoms-more, all-ascending, all-below}
 use Rattle.guard_prep.proofs.preparing.rows.Goals as goal
@@ -18,19 +18,19 @@ pub overflow_add-unknowns : goal.overflow_add-unknowns
 overflow_add-unknowns c =
     let r = rule_of c.args.r.now in
     let polys : map poly_of c.in_ok-polys.polys.items ≡ polys_of r = c.in_ok-polys.ensures ∙ ap (λ (us : List Expr). map expanded (map term_of us)) c.deref.ensures.value in
-    let bent : c.in_ok-bent.bent.items ≡ bent_of r =
-    c.in_ok-bent.ensures ∙ (ap (λ (ps : List Poly). map is_bent (map poly_of ps)) c.deref-2.ensures.value ∙ ap (map is_bent) polys) in
-    let count : c.count_of.result ≡ count_true (bent_of r) = c.count_of.ensures ∙ ap count_true (c.deref-3.ensures.value ∙ bent) in
+    let nonlinear : c.in_ok-nonlinear.nonlinear.items ≡ nonlinear_of r =
+    c.in_ok-nonlinear.ensures ∙ (ap (λ (ps : List Poly). map is_nonlinear (map poly_of ps)) c.deref-2.ensures.value ∙ ap (map is_nonlinear) polys) in
+    let count : c.count_of.result ≡ count_true (nonlinear_of r) = c.count_of.ensures ∙ ap count_true (c.deref-3.ensures.value ∙ nonlinear) in
     record { fits = omega (arith, count, few-unknowns r c.requires) }
 
-pub news_of-requires-clause-ascending : goal.news_of-requires-clause-ascending
-news_of-requires-clause-ascending c =
+pub new_values_of-requires-clause-ascending : goal.new_values_of-requires-clause-ascending
+new_values_of-requires-clause-ascending c =
     let r = rule_of c.args.r.now in
     let polys : map poly_of c.in_ok-polys.polys.items ≡ polys_of r = c.in_ok-polys.ensures ∙ ap (λ (us : List Expr). map expanded (map term_of us)) c.deref.ensures.value in
     subst (AllByRecursion IsAscending) (sym (ap (map poly_of) c.deref-4.ensures.value ∙ polys)) (all-ascending r.updates)
 
-pub news_of-requires-clause-in_range : goal.news_of-requires-clause-in_range
-news_of-requires-clause-in_range c =
+pub new_values_of-requires-clause-in_range : goal.new_values_of-requires-clause-in_range
+new_values_of-requires-clause-in_range c =
     let r = rule_of c.args.r.now in
     let polys : map poly_of c.in_ok-polys.polys.items ≡ polys_of r = c.in_ok-polys.ensures ∙ ap (λ (us : List Expr). map expanded (map term_of us)) c.deref.ensures.value in
     subst (AllByRecursion (HasVariablesBelow (r.left + r.free + c.count_of.result))) (sym (ap (map poly_of) c.deref-4.ensures.value ∙ polys))

@@ -56,7 +56,7 @@ returns c =
     subst (λ (t : List (Vec ℕ Global)). IsListing (IsPair (map link_of rules)) n (map items_of t)) (sym c.deref-4.ensures.value)
     (subst (λ (es : List Pair). IsListing (IsPair es) n (map items_of c.in_ok-components.components.items)) (c.deref-3.ensures.value ∙ links) c.in_ok-components.ensures.listing) in
     let numbers : AreNumbers c.deref-4.result.now c.deref-5.result.now = subst (λ (xs : List ℕ). AreNumbers c.deref-4.result.now xs) (sym c.deref-5.ensures.value) c.in_ok-numbers.ensures.numbered in
-    let told : IsTrue c.has_link_inside.result ↔ HasInside c.deref-5.result.now (map link_of rules) =
+    let decided : IsTrue c.has_link_inside.result ↔ HasInside c.deref-5.result.now (map link_of rules) =
     subst (λ (es : List Pair). IsTrue c.has_link_inside.result ↔ HasInside c.deref-5.result.now es) (c.deref-6.ensures.value ∙ links) c.has_link_inside.ensures in
     let cycle = cycle-inside c.args.p.now n c.deref-4.result.now c.deref-5.result.now below listing numbers in
-    (λ h. cycle.0 (told.0 h), λ h. told.1 (cycle.1 h))
+    (λ h. cycle.0 (decided.0 h), λ h. decided.1 (cycle.1 h))

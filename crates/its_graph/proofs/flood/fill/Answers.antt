@@ -21,7 +21,7 @@ bounds-next-node c =
     let within : node < length c.args.colors.now = (c.loop-done.invariant.from node found).1 in
     omega (arith, c.requires.one_each)
 
--- so are its successors
+-- the same for its successors
 pub paint_all-requires : goal.paint_all-requires
 paint_all-requires c =
     let node = c.index-node.result.now in

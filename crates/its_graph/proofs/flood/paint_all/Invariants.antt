@@ -2,7 +2,7 @@ use Rattle.std.proofs.Common.{◌≡◌, drop}
 use Rattle.its_graph.specs.Floods.{Painting, all_painted}
 use Rattle.its_graph.proofs.flood.paint_all.Given as goal
 
--- painting the nodes that are left makes of the state now what painting all makes of the first
+-- painting the remaining nodes from the current state gives the same state as painting all nodes from the first one
 abbrev pub invariant-loop-node : goal.invariant-loop-node
 invariant-loop-node l =
     let now : Painting = record { colors = l.colors; found = l.found.items } in

@@ -25,7 +25,7 @@ loop-next-preserved c = record {
   reading = next_read c.loop-next.behind (tokens_in c.loop-next.lexer) (listed c.next-more.result (tokens_in c.next-more.new.self)) c.next-more.ensures.tokens
       (turned_on c.in_ok-turn.turn c.in-On.reached c.in-On.is c.in_ok-turn.ensures
       (piece_listed c.loop-next.behind (listed c.loop-next.behind (tokens_in c.loop-next.lexer)) (tokens_in c.loop-next.lexer) refl ∙ sym c.piece_of.ensures)
-      (subst (λ o. IsReading c.args.bytes.now c.loop-next.stand.place c.loop-next.stand.last (maybe_fault c.loop-next.stand.best) c.loop-next.draft (listed o (listed c.loop-next.behind (tokens_in c.loop-next.lexer)))) c.in-Some.is c.loop-next.invariant.reading));
+      (subst (λ o. IsReading c.args.bytes.now c.loop-next.stand.state c.loop-next.stand.last (maybe_fault c.loop-next.stand.best) c.loop-next.draft (listed o (listed c.loop-next.behind (tokens_in c.loop-next.lexer)))) c.in-Some.is c.loop-next.invariant.reading));
 }
 
 -- the answer is known
@@ -33,7 +33,7 @@ pub returns-in-Over : goal.returns-in-Over
 returns-in-Over c =
     turned_over c.in_ok-turn.turn c.in-Over.fault c.error.result c.in-Over.is c.error.ensures c.in_ok-turn.ensures
     (piece_listed c.loop-next.behind (listed c.loop-next.behind (tokens_in c.loop-next.lexer)) (tokens_in c.loop-next.lexer) refl ∙ sym c.piece_of.ensures)
-    (subst (λ o. IsReading c.args.bytes.now c.loop-next.stand.place c.loop-next.stand.last (maybe_fault c.loop-next.stand.best) c.loop-next.draft (listed o (listed c.loop-next.behind (tokens_in c.loop-next.lexer)))) c.in-Some.is c.loop-next.invariant.reading)
+    (subst (λ o. IsReading c.args.bytes.now c.loop-next.stand.state c.loop-next.stand.last (maybe_fault c.loop-next.stand.best) c.loop-next.draft (listed o (listed c.loop-next.behind (tokens_in c.loop-next.lexer)))) c.in-Some.is c.loop-next.invariant.reading)
 
 -- memory ran out
 pub returns-in_err-turn : goal.returns-in_err-turn
@@ -45,4 +45,4 @@ returns-in_err-turn c =
 pub returns : goal.returns
 returns c =
     c.end.ensures.each c.args.bytes.now refl
-    (subst (λ o. IsReading c.args.bytes.now c.loop-next.stand.place c.loop-next.stand.last (maybe_fault c.loop-next.stand.best) c.loop-next.draft (listed o (listed c.loop-next.behind (tokens_in c.loop-next.lexer)))) c.in_default.is c.loop-next.invariant.reading)
+    (subst (λ o. IsReading c.args.bytes.now c.loop-next.stand.state c.loop-next.stand.last (maybe_fault c.loop-next.stand.best) c.loop-next.draft (listed o (listed c.loop-next.behind (tokens_in c.loop-next.lexer)))) c.in_default.is c.loop-next.invariant.reading)

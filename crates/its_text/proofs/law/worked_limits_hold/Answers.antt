@@ -1,6 +1,6 @@
 -- It is worked out.
-use Rattle.its_text.proofs.WorkedLimits.{limits_are_told}
+use Rattle.its_text.proofs.WorkedLimits.{limits_are_worked}
 use Rattle.its_text.proofs.law.worked_limits_hold.Goals as goal
 
 pub returns : goal.returns
-returns c = limits_are_told
+returns c = limits_are_worked

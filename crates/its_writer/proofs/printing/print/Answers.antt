@@ -1,4 +1,4 @@
--- Nothing stands before the text.
+-- The buffer is empty before the text is written.
 use Rattle.std.proofs.Common.{sym, subst}
 use Rattle.its_model.specs.Views.{program_of}
 use Rattle.its_writer.specs.Texts.{program_then}

@@ -1,4 +1,4 @@
--- The sections are written one behind the other.
+-- The sections are written one after the other.
 use Rattle.std.proofs.Common.{ap, subst, ◌∙◌, ◌++◌, [], map}
 use Rattle.its_model.specs.Views.{program_of, symbol_of, rule_of}
 use Rattle.expr_reader.specs.Variables.{names_in}

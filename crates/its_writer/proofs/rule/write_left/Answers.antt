@@ -1,4 +1,4 @@
--- So many names are the left ones.
+-- This many names are the left ones.
 use Rattle.std.proofs.Common.{◌≡◌, ap, subst, ◌∙◌, arith, min, length, map, take, List}
 use Rattle.std.specs.Prelude.{codes, OnOk}
 use Rattle.its_text.specs.expr_text.text_core.Names.{name_of}

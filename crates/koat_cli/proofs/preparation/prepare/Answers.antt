@@ -1,5 +1,5 @@
 use Rattle.std.proofs.Common.{List, ℕ, IfOk, subst}
-use Rattle.asks.specs.declared.request.Request.TheVariants as requests
+use Rattle.command_line.specs.declared.request.Request.TheVariants as requests
 use Rattle.std.specs.Prelude.{string_bytes}
 use Rattle.koat_cli.specs.Calls.{Seen, call_of, seen_of}
 use Rattle.koat_cli.specs.OnFiles.{OnProgram}

@@ -16,7 +16,7 @@ pub returns-in_ok-refusal-in-Err : goal.returns-in_ok-refusal-in-Err
 returns-in_ok-refusal-in-Err c =
     let bytes : List ℕ = c.args.bytes.now in
     let text : List ℕ = c.in_ok-refusal-in-Err.field-0.items in
-    λ seen file fetched. refused_first seen file bytes c.in-Err.error text c.in-Err.ensures.says c.in_ok-refusal-in-Err.ensures.told
+    λ seen file fetched. refused_first seen file bytes c.in-Err.error text c.in-Err.ensures.says c.in_ok-refusal-in-Err.ensures.result_is
     (λ none. apart (c.in_ok-refusal-in-Err.ensures.memory none)) fetched
   where
     apart : false ≡ true → ⊥

@@ -1,9 +1,9 @@
 use Rattle.std.proofs.Common.{ℕ, All, length, subst}
 use Rattle.std.proofs.lemmas.List.{length-map}
 use Rattle.its_model.specs.Views.{name_of, program_of}
-use Rattle.proof_text.specs.OverFirst.{IsOverFirst}
-use Rattle.proof_tree.specs.Views.{proof_of}
-use Rattle.proved_files.proofs.ProvedFiles.{proved-accepted}
+use Rattle.cert_text.specs.OverFirst.{IsOverFirst}
+use Rattle.cert_types.specs.Views.{proof_of}
+use Rattle.analysis_certs.proofs.ProvedFiles.{proved-accepted}
 use Rattle.koat_cli.proofs.ProofFiles.{proof_said}
 use Rattle.koat_cli.proofs.proving.proved.Goals as goal
 

@@ -8,7 +8,7 @@ returns-in_ok-run_refusal-in-Err c =
     let bytes : List ℕ = c.args.bytes.now in
     let text : List ℕ = c.in_ok-run_refusal-in-Err.field-0.items in
     λ seen file fetched. run_refused_first (program_of c.args.program.now) seen file bytes c.in-Err.error text c.in-Err.ensures.answer
-    c.in_ok-run_refusal-in-Err.ensures.told (λ none. apart (c.in_ok-run_refusal-in-Err.ensures.memory none)) fetched
+    c.in_ok-run_refusal-in-Err.ensures.result_is (λ none. apart (c.in_ok-run_refusal-in-Err.ensures.memory none)) fetched
   where
     apart : false ≡ true → ⊥
     apart e = cc

@@ -1,5 +1,5 @@
 use Rattle.std.proofs.Common.{◌≡◌, ◌+◌, ◌++◌, map, sym, subst}
-use Rattle.proof_tree.specs.rule_forms.Kinds.{arguments}
+use Rattle.cert_types.specs.rule_forms.Kinds.{arguments}
 use Rattle.local_size.specs.Asking.{kind_of, other_places}
 use Rattle.local_size.proofs.KindLists.{others-pushed, others-passed}
 use Rattle.local_size.proofs.kinds.push_others.Goals as goal

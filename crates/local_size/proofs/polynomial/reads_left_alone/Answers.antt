@@ -8,9 +8,9 @@ use Rattle.local_size.proofs.polynomial.reads_left_alone.Goals as goal
 
 pub returns-in-Some : goal.returns-in-Some
 returns-in-Some c =
-    let left = c.args.prep.now.left in
+    let left = c.args.prepared_rule.now.left in
     c.are_of_left.ensures
     ∙ (ap (λ (ms : List Monomial). is_of_left left (monomials_of ms)) c.deref-in-Some.ensures.value
-    ∙ ap (is_of_left left) (update-read c.args.prep.now c.args.place c.deref.result.now c.in-Some.update.now _
+    ∙ ap (is_of_left left) (update-read c.args.prepared_rule.now c.args.place c.deref.result.now c.in-Some.update.now _
     c.requires
     c.deref.ensures.value c.in-Some.ensures.lookup.0 c.in-Some.ensures.lookup.1))

@@ -18,9 +18,9 @@ use Rattle.local_size.proofs.problem.kind_problem.Goals as goal
 
 pub goals_of-requires : goal.goals_of-requires
 goals_of-requires c =
-    let a = few-unknowns c.args.prep.now c.requires.prepared in
-    let b = left-fits c.args.prep.now c.requires.prepared in
-    let l = sought-few c.args.prep.now.left (kind_of c.args.kind) (omega (arith, a, b)) in
+    let a = few-unknowns c.args.prepared_rule.now c.requires.prepared in
+    let b = left-fits c.args.prepared_rule.now c.requires.prepared in
+    let l = sought-few c.args.prepared_rule.now.left (kind_of c.args.kind) (omega (arith, a, b)) in
     let e = ap (λ (ps : List ℕ). length ps) c.in_ok-places.ensures in
     let f = ap (λ (ps : List ℕ). length ps) c.deref.ensures.value in omega (arith, l, e, f)
 
@@ -29,18 +29,18 @@ difference-requires-clause-before c = subst IsSmall (sym c.in_ok-fixed.ensures) 
 
 pub overflow_cast-len : goal.overflow_cast-len
 overflow_cast-len c =
-    let a = few-unknowns c.args.prep.now c.requires.prepared in
-    let b = left-fits c.args.prep.now c.requires.prepared in
-    let l = sought-few c.args.prep.now.left (kind_of c.args.kind) (omega (arith, a, b)) in
+    let a = few-unknowns c.args.prepared_rule.now c.requires.prepared in
+    let b = left-fits c.args.prepared_rule.now c.requires.prepared in
+    let l = sought-few c.args.prepared_rule.now.left (kind_of c.args.kind) (omega (arith, a, b)) in
     let e = ap (λ (ps : List ℕ). length ps) c.in_ok-places.ensures in
     let f = c.len.ensures in
     let g = c.in_ok-places.places.ok.0 in omega (arith, l, e, f, g)
 
 pub new-builder-requires : goal.new-builder-requires
 new-builder-requires c =
-    let a = few-unknowns c.args.prep.now c.requires.prepared in
-    let b = left-fits c.args.prep.now c.requires.prepared in
-    let l = sought-few c.args.prep.now.left (kind_of c.args.kind) (omega (arith, a, b)) in
+    let a = few-unknowns c.args.prepared_rule.now c.requires.prepared in
+    let b = left-fits c.args.prepared_rule.now c.requires.prepared in
+    let l = sought-few c.args.prepared_rule.now.left (kind_of c.args.kind) (omega (arith, a, b)) in
     let e = ap (λ (ps : List ℕ). length ps) c.in_ok-places.ensures in
     let f = c.len.ensures in
     let g = c.in_ok-places.places.ok.0 in omega (arith, l, e, f, g)
@@ -50,7 +50,7 @@ add_group-requires-clause-writable c =
     let f = c.len.ensures in
     let g = c.in_ok-places.places.ok.0 in
     let h = c.new-builder.ensures.parameters in
-    group-writable c.args.prep.now c.requires.prepared (form_of c.args.value.now) c.requires.value (kind_of c.args.kind)
+    group-writable c.args.prepared_rule.now c.requires.prepared (form_of c.args.value.now) c.requires.value (kind_of c.args.kind)
     c.requires.kind _ c.in_ok-places.places.items _ _ c.in_ok-goals.goals.items _ c.in_ok-places.ensures
     (omega (arith, f, g, h)) c.deref-3.ensures.value c.deref-4.ensures.value
     (subst (λ (ps : List ℕ). AreParameters (length ps) c.in_ok-goals.goals.items) c.deref.ensures.value
@@ -62,18 +62,18 @@ add_group-requires-clause-writable c =
 
 pub add_group-requires-clause-few_rows : goal.add_group-requires-clause-few_rows
 add_group-requires-clause-few_rows c =
-    let l = few-unknowns c.args.prep.now c.requires.prepared in
+    let l = few-unknowns c.args.prepared_rule.now c.requires.prepared in
     let r = c.new-builder.ensures.rows in omega (arith, l, r)
 
 pub add_group-requires-clause-few_columns : goal.add_group-requires-clause-few_columns
 add_group-requires-clause-few_columns c =
-    let a = few-unknowns c.args.prep.now c.requires.prepared in
-    let b = left-fits c.args.prep.now c.requires.prepared in
-    let l = sought-few c.args.prep.now.left (kind_of c.args.kind) (omega (arith, a, b)) in
+    let a = few-unknowns c.args.prepared_rule.now c.requires.prepared in
+    let b = left-fits c.args.prepared_rule.now c.requires.prepared in
+    let l = sought-few c.args.prepared_rule.now.left (kind_of c.args.kind) (omega (arith, a, b)) in
     let e = ap (λ (ps : List ℕ). length ps) c.in_ok-places.ensures in
     let f = c.len.ensures in
     let g = c.in_ok-places.places.ok.0 in
-    let k = few-rows c.args.prep.now c.requires.prepared in
+    let k = few-rows c.args.prepared_rule.now c.requires.prepared in
     let r = c.new-builder.ensures.columns in
     let h = ap (λ (rows : List Row). length rows) c.deref-3.ensures.value in omega (arith, l, e, f, g, k, r, h)
 
@@ -95,7 +95,7 @@ returns c =
     let g = c.in_ok-places.places.ok.0 in
     let h = c.new-builder.ensures.parameters in
     IfOk-weaker c.finish.result _ _
-    (λ p built. problem-built c.args.prep.now c.requires.prepared (form_of c.args.value.now) c.requires.value
+    (λ p built. problem-built c.args.prepared_rule.now c.requires.prepared (form_of c.args.value.now) c.requires.value
     (kind_of c.args.kind) c.requires.kind c.new-builder.result.parameters c.in_ok-places.places.items
     c.deref-3.result.now c.deref-4.result.now c.in_ok-goals.goals.items c.in_ok-rest.rest c.deref-5.result.now
     c.in_ok-costs.costs.items c.add_group.new.self p c.in_ok-places.ensures (omega (arith, f, g, h))

@@ -1,5 +1,5 @@
 use Rattle.std.proofs.Common.{◌≡◌, ◌+◌, length, sym, subst}
-use Rattle.proof_tree.specs.rule_forms.SoughtParts.{sought_places}
+use Rattle.cert_types.specs.rule_forms.SoughtParts.{sought_places}
 use Rattle.local_size.specs.declared.kinds.Kind.{Kind}
 use Rattle.local_size.specs.Asking.{kind_of}
 use Rattle.local_size.proofs.Problems.{sought-affine}

@@ -1,7 +1,7 @@
 use Rattle.std.proofs.Common.{◌≡◌, ◌∙◌, sym, subst}
 use Rattle.simplex_core.specs.linear_forms.Combinations.{form_times}
 use Rattle.simplex_core.specs.linear_forms.RuleQuestions.{before_rule}
-use Rattle.proof_tree.specs.rule_forms.Kinds.{unit_of}
+use Rattle.cert_types.specs.rule_forms.Kinds.{unit_of}
 use Rattle.poly_terms.specs.Views.{form_of}
 use Rattle.local_size.specs.declared.kinds.Sign.{Sign}
 use Rattle.local_size.specs.Asking.{sign_of}

@@ -7,16 +7,16 @@ use Rattle.poly_terms.specs.declared.poly.Row.{Row}
 use Rattle.poly_terms.specs.Views.{form_of}
 use Rattle.farkas_cert.specs.Scales.{numerators_of}
 use Rattle.location_facts.specs.Rows.{value_after}
-use Rattle.location_facts.proofs.ElementRules.{fact-value, news_ready}
+use Rattle.location_facts.proofs.ElementRules.{fact-value, new_values_ready}
 use Rattle.location_facts.proofs.elements.is_against.Goals as goal
 
 pub value_at-plus-requires-clause-small : goal.value_at-plus-requires-clause-small
 value_at-plus-requires-clause-small c =
-    news_ready c.args.prep.now c.deref.result.now c.requires.prepared c.deref.ensures.value
+    new_values_ready c.args.prepared_rule.now c.deref.result.now c.requires.prepared c.deref.ensures.value
 
 pub value_at-minus-requires-clause-small : goal.value_at-minus-requires-clause-small
 value_at-minus-requires-clause-small c =
-    news_ready c.args.prep.now c.deref-2.result.now c.requires.prepared c.deref-2.ensures.value
+    new_values_ready c.args.prepared_rule.now c.deref-2.result.now c.requires.prepared c.deref-2.ensures.value
 
 pub returns : goal.returns
 returns c =
@@ -27,7 +27,7 @@ returns c =
     let minus = c.value_at-minus.ensures.value
     ∙ ap (λ (rs : List Row). form_value (value_after (map form_of rs) c.args.fact.minus) z d) c.deref-2.ensures.value in
     let cast : to_z w128 (of_z w128 c.from.result) ≡ c.args.fact.least = omega (arith, ints) in
-    let value = fact-value (map form_of c.args.prep.now.news.items) c.args.fact z d c.value_at-plus.result
+    let value = fact-value (map form_of c.args.prepared_rule.now.new_values.items) c.args.fact z d c.value_at-plus.result
     c.value_at-minus.result c.product-least.result plus minus
     (c.product-least.ensures ∙ ap (λ (x : ℤ). d *ℤ x) cast) in (
       λ h. (let l = c.is_below.ensures.0 h in omega (arith, ints, value, l)),

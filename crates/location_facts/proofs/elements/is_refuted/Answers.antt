@@ -3,7 +3,7 @@ use Rattle.its_model.specs.Views.{program_of, rule_of}
 use Rattle.location_facts.proofs.CombinedLists.{prepared-many}
 use Rattle.location_facts.proofs.ElementRules.{measured-at, element-at, refuted, rule-numbered}
 use Rattle.location_facts.proofs.ShownRules.{rule-count}
-use Rattle.location_facts.proofs.UnderRules.{prep-read}
+use Rattle.location_facts.proofs.UnderRules.{prepared_rule-read}
 use Rattle.location_facts.proofs.elements.is_refuted.Goals as goal
 
 pub overflow_sub-number : goal.overflow_sub-number
@@ -16,18 +16,18 @@ index-rule-requires c =
     c.requires.measured (omega arith) c.index-elements-k.is).rule in
     omega (arith, w.0, w.1, rule-count c.args.p.now)
 
-pub bounds-preps-number : goal.bounds-preps-number
-bounds-preps-number c =
+pub bounds-prepared_rules-number : goal.bounds-prepared_rules-number
+bounds-prepared_rules-number c =
     let w = (measured-at (program_of c.args.p.now) c.args.elements.now c.loop-k.k c.index-elements-k.result
     c.requires.measured (omega arith) c.index-elements-k.is).rule in
-    omega (arith, w.0, w.1, prepared-many (program_of c.args.p.now) c.args.preps.now c.requires.rows)
+    omega (arith, w.0, w.1, prepared-many (program_of c.args.p.now) c.args.prepared_rules.now c.requires.rows)
 
 pub stands_against-requires-clause-prepared : goal.stands_against-requires-clause-prepared
 stands_against-requires-clause-prepared c =
-    prep-read (program_of c.args.p.now) c.args.preps.now c.index-elements-k.result.rule c.index-preps-number.result
+    prepared_rule-read (program_of c.args.p.now) c.args.prepared_rules.now c.index-elements-k.result.rule c.index-prepared_rules-number.result
     c.requires.valid c.requires.rows
     (measured-at (program_of c.args.p.now) c.args.elements.now c.loop-k.k c.index-elements-k.result
-    c.requires.measured (omega arith) c.index-elements-k.is).rule c.index-preps-number.is
+    c.requires.measured (omega arith) c.index-elements-k.is).rule c.index-prepared_rules-number.is
 
 pub stands_against-requires-clause-unknowns : goal.stands_against-requires-clause-unknowns
 stands_against-requires-clause-unknowns c =
@@ -49,8 +49,8 @@ returns-then-stands_against c = λ yes pivots kept on.
     let within = (measured-at (program_of c.args.p.now) c.args.elements.now c.loop-k.k c.index-elements-k.result
     c.requires.measured (omega arith) c.index-elements-k.is).rule in
     let (same, below) = c.stands_against.ensures.0 c.if-stands_against.true in
-    refuted (program_of c.args.p.now) c.args.preps.now c.index-elements-k.result c.index-preps-number.result c.args.fact
-    (rule_of c.index-rule.result.now) c.requires.valid c.requires.rows within c.index-preps-number.is
+    refuted (program_of c.args.p.now) c.args.prepared_rules.now c.index-elements-k.result c.index-prepared_rules-number.result c.args.fact
+    (rule_of c.index-rule.result.now) c.requires.valid c.requires.rows within c.index-prepared_rules-number.is
     (rule-numbered c.args.p.now c.index-elements-k.result.rule c.index-rule.result.now within c.index-rule.ensures)
     same below pivots kept
     (element-at (program_of c.args.p.now) pivots kept c.args.elements.now c.loop-k.k c.index-elements-k.result on

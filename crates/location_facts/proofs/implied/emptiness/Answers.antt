@@ -1,7 +1,7 @@
 use Rattle.std.proofs.Common.{map, subst}
 use Rattle.poly_terms.specs.Views.{form_of}
 use Rattle.location_facts.specs.Replies.{IsReply}
-use Rattle.location_facts.proofs.ImpliedLaws.{minus-one-writable, empty-told, nothing-told}
+use Rattle.location_facts.proofs.ImpliedLaws.{minus-one-writable, empty-worked, nothing-sound}
 use Rattle.location_facts.proofs.PointRules.{point-shown}
 use Rattle.location_facts.proofs.implied.emptiness.Goals as goal
 
@@ -13,14 +13,14 @@ pub returns-in-Follows-clause-empty : goal.returns-in-Follows-clause-empty
 returns-in-Follows-clause-empty c =
     let rows = map form_of c.args.rows.now in
     let minus_one = form_of c.constant_row-goal.result in
-    empty-told c.args.pivots c.args.unknowns rows minus_one c.in-Follows.multipliers _ c.constant_row-goal.ensures
+    empty-worked c.args.pivots c.args.unknowns rows minus_one c.in-Follows.multipliers _ c.constant_row-goal.ensures
     (subst (IsReply c.args.pivots c.args.unknowns rows minus_one) c.in-Follows.is (c.in_ok-multipliers.ensures {u = tt}))
 
 pub returns-in-Fails-clause-empty : goal.returns-in-Fails-clause-empty
 returns-in-Fails-clause-empty c =
     let rows = map form_of c.args.rows.now in
     let minus_one = form_of c.constant_row-goal.result in
-    nothing-told c.args.pivots c.args.unknowns rows minus_one c.constant_row-goal.ensures
+    nothing-sound c.args.pivots c.args.unknowns rows minus_one c.constant_row-goal.ensures
     (subst (IsReply c.args.pivots c.args.unknowns rows minus_one) c.in-Fails.is (c.in_ok-multipliers.ensures {u = tt})).0
 
 pub returns-in-Fails-clause-point : goal.returns-in-Fails-clause-point
@@ -34,5 +34,5 @@ pub returns-clause-empty : goal.returns-clause-empty
 returns-clause-empty c =
     let rows = map form_of c.args.rows.now in
     let minus_one = form_of c.constant_row-goal.result in
-    nothing-told c.args.pivots c.args.unknowns rows minus_one c.constant_row-goal.ensures
-    (subst (IsReply c.args.pivots c.args.unknowns rows minus_one) c.in-Tripped.is (c.in_ok-multipliers.ensures {u = tt}))
+    nothing-sound c.args.pivots c.args.unknowns rows minus_one c.constant_row-goal.ensures
+    (subst (IsReply c.args.pivots c.args.unknowns rows minus_one) c.in-OutOfLimits.is (c.in_ok-multipliers.ensures {u = tt}))

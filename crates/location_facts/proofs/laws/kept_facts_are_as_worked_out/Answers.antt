@@ -1,4 +1,4 @@
-use Rattle.location_facts.proofs.WorkedPivots.{kept-facts-are-worked-out}
+use Rattle.location_facts.proofs.WorkedSomeKept.{kept-facts-are-worked-out}
 use Rattle.location_facts.proofs.laws.kept_facts_are_as_worked_out.Goals as goal
 
 pub returns : goal.returns

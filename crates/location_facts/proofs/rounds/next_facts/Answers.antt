@@ -37,21 +37,21 @@ loop-i-preserved c =
     let stand = subst (λ (ps : List FactProof). IsShownEarlier p pivots c.args.due.now kept f ps)
     (sym (c.taken_proofs-before.ensures.taken ∙ listed-same c.loop-i.standing.items c.args.listed.proofs.items c.loop-i.i
     (c.loop-i.invariant.standing c.loop-i.i (omega arith)))) (c.requires.shown.each c.loop-i.i f there) in
-    let told = c.in_ok-told.ensures.told c.args.due.now kept are on stand in
-    let pushed = c.in_ok-push_told.ensures.facts in
+    let verdict = c.in_ok-verdict.ensures.verdict c.args.due.now kept are on stand in
+    let pushed = c.in_ok-push_verdict.ensures.facts in
     record {
-      next = next-pushed p pivots kept c.loop-i.i d (omega arith) (proofs_in c.in_ok-told.told)
-          c.loop-i.kept.items c.push_told.new.kept.items c.loop-i.proofs.items c.push_told.new.proofs.items
-          c.loop-i.invariant.next told pushed;
-      shown = shown-pushed p pivots kept c.loop-i.i d (omega arith) (proofs_in c.in_ok-told.told)
-          c.loop-i.kept.items c.push_told.new.kept.items c.loop-i.proofs.items c.push_told.new.proofs.items
-          c.loop-i.invariant.shown told pushed;
+      next = next-pushed p pivots kept c.loop-i.i d (omega arith) (proofs_in c.in_ok-verdict.verdict)
+          c.loop-i.kept.items c.push_verdict.new.kept.items c.loop-i.proofs.items c.push_verdict.new.proofs.items
+          c.loop-i.invariant.next verdict pushed;
+      shown = shown-pushed p pivots kept c.loop-i.i d (omega arith) (proofs_in c.in_ok-verdict.verdict)
+          c.loop-i.kept.items c.push_verdict.new.kept.items c.loop-i.proofs.items c.push_verdict.new.proofs.items
+          c.loop-i.invariant.shown verdict pushed;
       standing = rest-same c.loop-i.standing.items c.taken_proofs-before.new.proofs.items c.args.listed.proofs.items c.loop-i.i
           c.loop-i.invariant.standing c.taken_proofs-before.ensures.others;
-      measured = subst (All (IsMeasured p)) (sym c.in_ok-push_told.ensures.elements)
-          (All-append (IsMeasured p) c.begin_symbol.new.elements.items (elements_in c.in_ok-told.told) measured
-          c.in_ok-told.ensures.measured);
-      elements = subst (AreElements p pivots kept) (sym c.in_ok-push_told.ensures.elements)
-          (All-append (IsElement p pivots kept) c.begin_symbol.new.elements.items (elements_in c.in_ok-told.told)
-          elements (c.in_ok-told.ensures.elements c.args.due.now kept are stand));
+      measured = subst (All (IsMeasured p)) (sym c.in_ok-push_verdict.ensures.elements)
+          (All-append (IsMeasured p) c.begin_symbol.new.elements.items (elements_in c.in_ok-verdict.verdict) measured
+          c.in_ok-verdict.ensures.measured);
+      elements = subst (AreElements p pivots kept) (sym c.in_ok-push_verdict.ensures.elements)
+          (All-append (IsElement p pivots kept) c.begin_symbol.new.elements.items (elements_in c.in_ok-verdict.verdict)
+          elements (c.in_ok-verdict.ensures.elements c.args.due.now kept are stand));
     }

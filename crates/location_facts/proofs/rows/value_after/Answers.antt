@@ -8,7 +8,7 @@ use Rattle.location_facts.proofs.rows.value_after.Goals as goal
 pub returns-in_ok-copy-in-Some-clause-same : goal.returns-in_ok-copy-in-Some-clause-same
 returns-in_ok-copy-in-Some-clause-same c =
     let found = c.in-Some.ensures.lookup in
-    after_found (form_of c.in_ok-copy-in-Some.copy) c.args.news.now c.args.place c.in-Some.row.now
+    after_found (form_of c.in_ok-copy-in-Some.copy) c.args.new_values.now c.args.place c.in-Some.row.now
     c.if-place-eq0.false
-    (read c.args.news.now (c.args.place - 1) c.in-Some.row.now (ltb-true _ _ (sym found.0)) found.1)
+    (read c.args.new_values.now (c.args.place - 1) c.in-Some.row.now (ltb-true _ _ (sym found.0)) found.1)
     (c.in_ok-copy-in-Some.ensures {u = tt})

@@ -28,6 +28,6 @@ returns c =
     let pairs = signed (map (number c.args.line.unknowns c.args.line.number) (goal_forms 0 c.args.parameters c.args.goals.now)) in
     let zeros = replicate c.args.before (pos 0) in
     let multipliers : List ℤ = map {A = Form} {B = ℤ} (λ r. neg_ℤ (number c.args.line.unknowns c.args.line.number r)) (map form_of c.args.rows.now) in
-    let pieces = line-pieces c.args.sheet.now c.put_goals.new.sheet c.skip.new.self c.put_rows.new.sheet pairs zeros {zs = multipliers} c.in_ok-put_goals.ensures.0 c.skip.ensures c.in_ok-put_rows.ensures.0 in
+    let pieces = line-pieces c.args.writer.now c.put_goals.new.writer c.skip.new.self c.put_rows.new.writer pairs zeros {zs = multipliers} c.in_ok-put_goals.ensures.0 c.skip.ensures c.in_ok-put_rows.ensures.0 in
     IfOk-weaker c.put.result _ _
-    (λ x w. slack-behind c.args.sheet.now c.put_rows.new.sheet c.put.new.self pairs zeros multipliers _ (slack c.args.line.unknowns c.args.line.number) pieces value w) c.put.ensures
+    (λ x w. slack-behind c.args.writer.now c.put_rows.new.writer c.put.new.self pairs zeros multipliers _ (slack c.args.line.unknowns c.args.line.number) pieces value w) c.put.ensures

@@ -5,8 +5,8 @@ use Rattle.simplex_core.specs.linear_forms.QuestionLaws.{parameters_of}
 use Rattle.poly_terms.specs.model.Programs.{arity_of}
 use Rattle.std.proofs.lemmas.List.Elements.{All-get_or}
 use Rattle.its_model.specs.Views.{program_of}
-use Rattle.proof_tree.specs.Views.{form_of}
-use Rattle.proof_tree.specs.proof_nodes.Gaps.{is_shut}
+use Rattle.cert_types.specs.Views.{form_of}
+use Rattle.cert_types.specs.cert_rules.Gaps.{is_shut}
 use Rattle.rule_questions.specs.ProgramQuestions.{places_of}
 use Rattle.rank_search.specs.Reading.{open_count, form_by}
 use Rattle.rank_search.specs.ShutPlaces.{is_listed}

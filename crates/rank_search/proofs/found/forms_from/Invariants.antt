@@ -2,7 +2,7 @@ use Rattle.std.proofs.Common.{◌≡◌, ◌++◌, ◌*◌, ◌≤◌, map, drop
 use Rattle.simplex_core.specs.linear_forms.Forms.{at}
 use Rattle.simplex_core.specs.linear_forms.QuestionLaws.{parameters_of}
 use Rattle.its_model.specs.Views.{program_of}
-use Rattle.proof_tree.specs.Views.{form_of}
+use Rattle.cert_types.specs.Views.{form_of}
 use Rattle.rule_questions.specs.ProgramQuestions.{places_of}
 use Rattle.rank_search.specs.Reading.{read_forms}
 use Rattle.rank_search.proofs.found.forms_from.Given as goal

@@ -12,12 +12,12 @@ loop-rule-preserved c =
     let x = at c.args.numbers.now in
     let m = c.in_ok-multipliers.multipliers in
     let k = multipliers-many (after c.loop-rule.next x)
-    (shape_at c.args.preps.now
+    (shape_at c.args.prepared_rules.now
     (get_or c.args.set.now c.loop-rule.rule-index 0)) m.items c.in_ok-multipliers.ensures in
     let a = c.len.ensures in
     let b = m.ok.0 in
     record {
-      kept = multipliers-more x c.args.preps.now c.args.set.now c.loop-rule.rule-index
+      kept = multipliers-more x c.args.prepared_rules.now c.args.set.now c.loop-rule.rule-index
           (get_or c.args.set.now c.loop-rule.rule-index 0) c.loop-rule.next (c.loop-rule.next + (c.len.result + 1))
           (map (λ v. v.items) c.loop-rule.moves.items)
           (map (λ v. v.items) c.push.new.self.items) _ m.items c.loop-rule-test.true
@@ -25,7 +25,7 @@ loop-rule-preserved c =
           c.in_ok-multipliers.ensures
           (ap (map (λ v. v.items)) c.in_ok-push.ensures.items ∙ map-append (λ v. v.items) c.loop-rule.moves.items
           (m ∷ [])) (omega (arith, k, a, b));
-      left = columns-more x c.args.preps.now c.args.set.now c.loop-rule.rule-index
+      left = columns-more x c.args.prepared_rules.now c.args.set.now c.loop-rule.rule-index
           (get_or c.args.set.now c.loop-rule.rule-index 0) c.loop-rule.next
           (c.loop-rule.next + (c.len.result + 1)) _ c.loop-rule-test.true
           (read-again c.args.set.now c.loop-rule.rule-index 0 _ c.loop-rule-test.true)

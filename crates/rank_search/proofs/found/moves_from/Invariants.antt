@@ -9,8 +9,8 @@ use Rattle.rank_search.proofs.found.moves_from.Given as goal
 abbrev pub invariant-loop-rule : goal.invariant-loop-rule
 invariant-loop-rule l = record {
   kept : map (λ m. m.items) l.moves.items
-      ++ multipliers_by_group (after l.next (at l.numbers)) (map (shape_at l.preps) (drop l.rule-index l.set))
-      ≡ multipliers_by_group (after l.initial.next (at l.numbers)) (map (shape_at l.preps) l.set);
-  left : l.next + group_columns (map (shape_at l.preps) (drop l.rule-index l.set))
-      ≡ l.initial.next + group_columns (map (shape_at l.preps) l.set);
+      ++ multipliers_by_group (after l.next (at l.numbers)) (map (shape_at l.prepared_rules) (drop l.rule-index l.set))
+      ≡ multipliers_by_group (after l.initial.next (at l.numbers)) (map (shape_at l.prepared_rules) l.set);
+  left : l.next + group_columns (map (shape_at l.prepared_rules) (drop l.rule-index l.set))
+      ≡ l.initial.next + group_columns (map (shape_at l.prepared_rules) l.set);
 }

@@ -8,5 +8,5 @@ pub returns : goal.returns
 returns c =
     IfOk-weaker c.multipliers_from.result _ _
     (λ v e. multipliers-one (at c.args.numbers.now) c.args.start c.rows_at.result
-    (shape_at c.args.preps.now c.args.rule) v.items c.rows_at.ensures e)
+    (shape_at c.args.prepared_rules.now c.args.rule) v.items c.rows_at.ensures e)
     c.multipliers_from.ensures

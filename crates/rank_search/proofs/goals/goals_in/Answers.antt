@@ -8,21 +8,21 @@ use Rattle.rank_search.proofs.goals.goals_in.Goals as goal
 
 pub push_goals-requires-clause-before : goal.push_goals-requires-clause-before
 push_goals-requires-clause-before c =
-    let r = forms_of c.args.source c.args.target (prepared_of c.args.prep.now) in
+    let r = forms_of c.args.source c.args.target (prepared_of c.args.prepared_rule.now) in
     let cs = c.args.coefficients.now in
     subst (AreGoalsUpTo c.args.part r cs c.args.first.first) (sym c.new-goals.ensures.items)
     (first-begun c.args.part r cs c.args.first c.args.second c.requires.blocks)
 
 pub push_goals-requires-2-clause-before : goal.push_goals-requires-2-clause-before
 push_goals-requires-2-clause-before c =
-    let r = forms_of c.args.source c.args.target (prepared_of c.args.prep.now) in
+    let r = forms_of c.args.source c.args.target (prepared_of c.args.prepared_rule.now) in
     second-begun c.args.part r c.args.coefficients.now c.args.first c.args.second c.requires.blocks
     c.block_behind-behind.result.first c.push_goals.new.goals.items c.block_behind-behind.ensures.first
     c.in_ok-push_goals.ensures
 
 pub returns-clause-goals : goal.returns-clause-goals
 returns-clause-goals c =
-    let r = forms_of c.args.source c.args.target (prepared_of c.args.prep.now) in
+    let r = forms_of c.args.source c.args.target (prepared_of c.args.prepared_rule.now) in
     let cs = c.args.coefficients.now in
     let gs = c.push_goals-2.new.goals.items in
     forms-whole c.args.part r cs gs
@@ -32,7 +32,7 @@ returns-clause-goals c =
 
 pub returns-clause-listed : goal.returns-clause-listed
 returns-clause-listed c =
-    let r = forms_of c.args.source c.args.target (prepared_of c.args.prep.now) in
+    let r = forms_of c.args.source c.args.target (prepared_of c.args.prepared_rule.now) in
     let cs = c.args.coefficients.now in
     let gs = c.push_goals-2.new.goals.items in
     are-parameters (length cs) gs

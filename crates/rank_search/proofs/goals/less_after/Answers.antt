@@ -14,10 +14,10 @@ returns-clause-same c =
     IfOk-weaker c.difference-2.result _ _
     (λ row e. e ∙ ap (λ (g : Form). form_sum (form_of c.args.before) (opposite g))
     (after-listed c.args.target
-    (prepared_of c.args.prep.now) c.args.prep.now.news.items refl c.args.c.symbol c.args.c.place
+    (prepared_of c.args.prepared_rule.now) c.args.prepared_rule.now.new_values.items refl c.args.c.symbol c.args.c.place
     c.index-after.result.now
     c.if-c-target.false c.if-c-eq0.false
-    (omega (arith, c.len.ensures, c.args.prep.now.news.ok.0, c.if-position-len.false)) c.index-after.ensures))
+    (omega (arith, c.len.ensures, c.args.prepared_rule.now.new_values.ok.0, c.if-position-len.false)) c.index-after.ensures))
     c.difference-2.ensures.same
 
 pub returns-then-position-len-clause-same : goal.returns-then-position-len-clause-same
@@ -25,6 +25,6 @@ returns-then-position-len-clause-same c =
     sym (less-zero (form_of c.args.before))
     ∙ ap (λ (g : Form). form_sum (form_of c.args.before) (opposite g))
     (after-past c.args.target
-    (prepared_of c.args.prep.now) c.args.prep.now.news.items refl c.args.c.symbol c.args.c.place
+    (prepared_of c.args.prepared_rule.now) c.args.prepared_rule.now.new_values.items refl c.args.c.symbol c.args.c.place
     c.if-c-target.false c.if-c-eq0.false
-    (omega (arith, c.len.ensures, c.args.prep.now.news.ok.0, c.if-position-len.true)))
+    (omega (arith, c.len.ensures, c.args.prepared_rule.now.new_values.ok.0, c.if-position-len.true)))

@@ -18,9 +18,9 @@ use Rattle.rank_search.proofs.goals.push_goals.Goals.{then-counts+in_ok-form+in_
 
 pub loop-parameter-preserved : goal.loop-parameter-preserved
 loop-parameter-preserved c =
-    let r = forms_of c.args.source c.args.target (prepared_of c.args.prep.now) in
+    let r = forms_of c.args.source c.args.target (prepared_of c.args.prepared_rule.now) in
     let one = λ (x : Coefficient). goal_form c.args.part r (coefficient_of x) in
-    let writable = λ (g : Goal). IsWritable c.args.prep.now.unknowns (form_of g.form) in
+    let writable = λ (g : Goal). IsWritable c.args.prepared_rule.now.unknowns (form_of g.form) in
     let i = c.loop-parameter.parameter in
     let xs = c.args.coefficients.now in
     let l : i < length xs =
@@ -37,9 +37,9 @@ loop-parameter-preserved c =
             writable = subst (All writable) (sym w.in_ok-push.ensures.items)
                 (All-append writable c.loop-parameter.goals.items _ done.writable
                 (All-cons writable _ []
-                (difference-writable c.args.prep.now.unknowns _
-                (subst (λ (f : Form). length f.coefs ≤ c.args.prep.now.unknowns) (sym w.in_ok-form.ensures.same)
-                (All-get_or (λ (x : Coefficient). length (one x).coefs ≤ c.args.prep.now.unknowns) xs i _ l
+                (difference-writable c.args.prepared_rule.now.unknowns _
+                (subst (λ (f : Form). length f.coefs ≤ c.args.prepared_rule.now.unknowns) (sym w.in_ok-form.ensures.same)
+                (All-get_or (λ (x : Coefficient). length (one x).coefs ≤ c.args.prepared_rule.now.unknowns) xs i _ l
                 c.requires.fit)) w.in_ok-form.ensures.small) (All-nil writable)));
           })
       | else-counts w ↦

@@ -6,7 +6,7 @@ use Rattle.simplex_core.proofs.linear_forms.SolutionLaws.{length-map}
 use Rattle.its_model.specs.Views.{program_of, symbol_of}
 use Rattle.lp_builder.specs.declared.description.Cost.{Cost}
 use Rattle.lp_builder.specs.Builders.{Adds, IsBuilt}
-use Rattle.proof_tree.specs.proof_nodes.AcceptsPlain.{IsRule}
+use Rattle.cert_types.specs.cert_rules.AcceptsPlain.{IsRule}
 use Rattle.rank_search.specs.declared.goals.Part.{Part}
 use Rattle.rank_search.specs.Coefficients.{coefficient_of}
 use Rattle.rank_search.specs.Goals.{Fits}

@@ -6,7 +6,7 @@ use Rattle.std.proofs.lemmas.List.{take_all}
 use Rattle.std.proofs.lemmas.Result.{IfOk-weaker}
 use Rattle.its_model.specs.Views.{program_of}
 use Rattle.poly_terms.specs.model.Paths.{same_symbol, target_of}
-use Rattle.proof_tree.specs.proof_nodes.Graph.{symbols_of, touches}
+use Rattle.cert_types.specs.cert_rules.Graph.{symbols_of, touches}
 use Rattle.rank_search.specs.Marks.{AreMarks}
 use Rattle.rank_search.proofs.Marking.{marks-by, touches-more, symbols-whole}
 use Rattle.rank_search.proofs.symbols.symbols_of_set.Goals as goal

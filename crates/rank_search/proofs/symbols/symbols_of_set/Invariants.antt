@@ -1,6 +1,6 @@
 use Rattle.std.proofs.Common.{◌≡◌, length, take}
 use Rattle.its_model.specs.Views.{program_of}
-use Rattle.proof_tree.specs.proof_nodes.Graph.{touches}
+use Rattle.cert_types.specs.cert_rules.Graph.{touches}
 use Rattle.rank_search.specs.Marks.{AreMarks}
 use Rattle.rank_search.proofs.symbols.symbols_of_set.Given as goal
 

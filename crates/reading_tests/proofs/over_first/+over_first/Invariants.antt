@@ -1,6 +1,6 @@
 use Rattle.std.proofs.Common.{ℕ, map, drop}
-use Rattle.proof_tree.specs.Views.{proof_of, uses_of}
-use Rattle.proof_text.specs.OverFirst.{AreOverFirst}
+use Rattle.cert_types.specs.Views.{proof_of, uses_of}
+use Rattle.cert_text.specs.OverFirst.{AreOverFirst}
 use Rattle.reading_tests.proofs.over_first.+over_first.Given as goal
 
 -- where what is left is so, all is

@@ -1,7 +1,7 @@
 use Rattle.std.proofs.Common.{ℕ, drop}
 use Rattle.std.specs.List.{All}
-use Rattle.proof_tree.specs.Views.{proof_of}
-use Rattle.proof_text.specs.OverFirst.{IsOverFirst}
+use Rattle.cert_types.specs.Views.{proof_of}
+use Rattle.cert_text.specs.OverFirst.{IsOverFirst}
 use Rattle.reading_tests.proofs.over_first.are_over_first.Given as goal
 
 -- where what is left is so, all is

@@ -1,6 +1,6 @@
 use Rattle.std.proofs.Common.{◌≡◌, ◌+◌, ◌++◌, map, drop}
 use Rattle.its_model.specs.Views.{symbol_of}
-use Rattle.proof_tree.specs.AnswerViews.{shut_of}
+use Rattle.cert_types.specs.AnswerViews.{shut_of}
 use Rattle.report_text.specs.Reasons.{shut_lines}
 use Rattle.report_text.proofs.gaps.push_shut_lines.Given as goal
 

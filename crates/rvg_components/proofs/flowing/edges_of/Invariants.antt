@@ -8,4 +8,4 @@ use Rattle.rvg_components.proofs.flowing.edges_of.Given as goal
 -- the edges to the places of the rules so far
 abbrev pub invariant-loop-position : goal.invariant-loop-position
 invariant-loop-position l = (p : Program) → IsGraphOf l.g p
-    → l.edges.items ≡ edges_below p (flow_inputs_of l.preps l.locals l.live l.firsts) l.position
+    → l.edges.items ≡ edges_below p (flow_inputs_of l.prepared_rules l.locals l.live l.firsts) l.position

@@ -6,5 +6,5 @@ use Rattle.rvg_components.proofs.flowing.push_into.Given as goal
 -- what is done and what is left is all
 abbrev pub invariant-loop-position : goal.invariant-loop-position
 invariant-loop-position l =
-    l.edges.items ++ edges_into (prepared_of l.prep) l.before l.first l.position (drop l.position l.answers)
-    ≡ l.initial.edges.items ++ edges_into (prepared_of l.prep) l.before l.first 0 l.answers
+    l.edges.items ++ edges_into (prepared_of l.prepared_rule) l.before l.first l.position (drop l.position l.answers)
+    ≡ l.initial.edges.items ++ edges_into (prepared_of l.prepared_rule) l.before l.first 0 l.answers

@@ -24,13 +24,13 @@ live_firsts-requires-clause-within c =
 -- there are few left variables
 pub push_into-requires-clause-left_few : goal.push_into-requires-clause-left_few
 push_into-requires-clause-left_few c =
-    let preps = c.args.preps.now in
-    let m = c.index-preps-position.result in
-    let rows : length (map prepared_of preps) ≡ length c.args.live.now = c.requires.fitting.rows ∙ sym c.requires.fitting.live in
-    let low : c.args.position < length (map prepared_of preps) = omega (arith, rows, c.requires.within) in
-    let inside : c.args.position < length preps = omega (arith, low, length-map preps prepared_of) in
-    let same : get_or (map prepared_of preps) c.args.position (prepared_of m) ≡ prepared_of m =
-    get_or-map prepared_of preps c.args.position m (prepared_of m) inside ∙ ap prepared_of (sym c.index-preps-position.is) in
+    let prepared_rules = c.args.prepared_rules.now in
+    let m = c.index-prepared_rules-position.result in
+    let rows : length (map prepared_of prepared_rules) ≡ length c.args.live.now = c.requires.fitting.rows ∙ sym c.requires.fitting.live in
+    let low : c.args.position < length (map prepared_of prepared_rules) = omega (arith, rows, c.requires.within) in
+    let inside : c.args.position < length prepared_rules = omega (arith, low, length-map prepared_rules prepared_of) in
+    let same : get_or (map prepared_of prepared_rules) c.args.position (prepared_of m) ≡ prepared_of m =
+    get_or-map prepared_of prepared_rules c.args.position m (prepared_of m) inside ∙ ap prepared_of (sym c.index-prepared_rules-position.is) in
     subst (λ (n : Prepared). n.left < 2 ^ 31) same (c.requires.fitting.few_left c.args.position (prepared_of m) low)
 
 -- first places are few
@@ -42,20 +42,20 @@ push_into-requires-clause-before_few c =
 -- the edges of the rule are appended
 pub returns : goal.returns
 returns c =
-    let preps = c.args.preps.now in
+    let prepared_rules = c.args.prepared_rules.now in
     let locals = c.args.locals.now in
     let live = c.args.live.now in
     let firsts = c.args.firsts.now in
     let k : ℕ = c.args.position in
     let is : get_or live k false ≡ true = grind (arith, c.if-not-live-position.false) in
-    let rows : length (map prepared_of preps) ≡ length live = c.requires.fitting.rows ∙ sym c.requires.fitting.live in
+    let rows : length (map prepared_of prepared_rules) ≡ length live = c.requires.fitting.rows ∙ sym c.requires.fitting.live in
     let lists : length (answer_lists locals) ≡ length live = c.requires.fitting.locals ∙ sym c.requires.fitting.live in
-    let low : k < length preps = omega (arith, rows, c.requires.within, length-map preps prepared_of) in
+    let low : k < length prepared_rules = omega (arith, rows, c.requires.within, length-map prepared_rules prepared_of) in
     let inside : k < length locals = omega (arith, lists, c.requires.within, length-map locals (λ l. l.items)) in
     let next : k + 1 ≡ suc k = omega arith in
     on_ok_weaker c.push_into.result
     (λ e p graph. e ∙ ap (λ (xs : List Pair). c.args.edges.now.items ++ xs)
-    (edges-agree p preps locals live firsts k c.index-preps-position.result c.index-locals-position.result c.deref.result.now c.deref-2.result.now low inside
-    c.index-preps-position.is c.index-locals-position.is is
+    (edges-agree p prepared_rules locals live firsts k c.index-prepared_rules-position.result c.index-locals-position.result c.deref.result.now c.deref-2.result.now low inside
+    c.index-prepared_rules-position.is c.index-locals-position.is is
     (c.deref.ensures.value ∙ (c.in_ok-before.ensures ∙ ap (firsts_of live firsts) (c.pre.ensures p graph ∙ ap (pre p) next))) c.deref-2.ensures.value))
     c.push_into.ensures

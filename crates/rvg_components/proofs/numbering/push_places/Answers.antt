@@ -1,9 +1,9 @@
 use Rattle.std.proofs.Common.{refl}
-use Rattle.rvg_components.proofs.Numbers.{spot_pushed}
+use Rattle.rvg_components.proofs.Numbers.{result_variable_pushed}
 use Rattle.rvg_components.proofs.numbering.push_places.Goals as goal
 
 -- one place more
 pub loop-position-preserved : goal.loop-position-preserved
 loop-position-preserved c =
-    spot_pushed c.args.rule c.loop-position.position c.args.spots.now.items c.loop-position.spots.items c.push.new.self.items _ c.loop-position.invariant
+    result_variable_pushed c.args.rule c.loop-position.position c.args.result_variables.now.items c.loop-position.result_variables.items c.push.new.self.items _ c.loop-position.invariant
     c.in_ok-push.ensures.items refl

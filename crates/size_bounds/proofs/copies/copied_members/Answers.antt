@@ -1,7 +1,7 @@
 use Rattle.std.proofs.Common.{◌≤◌, List, length, map, sym, ap, ◌∙◌, ◌++◌, arith}
 use Rattle.std.proofs.lemmas.List.{drop_all, append-nil}
-use Rattle.proof_tree.specs.declared.arm.Member.{Member}
-use Rattle.proof_tree.specs.Views.{member_of}
+use Rattle.cert_types.specs.declared.side_bound.Member.{Member}
+use Rattle.cert_types.specs.Views.{member_of}
 use Rattle.size_bounds.proofs.copies.copied_members.Goals as goal
 
 pub returns : goal.returns

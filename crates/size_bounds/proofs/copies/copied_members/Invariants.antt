@@ -1,5 +1,5 @@
 use Rattle.std.proofs.Common.{◌≡◌, ◌++◌, drop, map}
-use Rattle.proof_tree.specs.Views.{member_of}
+use Rattle.cert_types.specs.Views.{member_of}
 use Rattle.size_bounds.proofs.copies.copied_members.Given as goal
 
 abbrev pub invariant-loop-member : goal.invariant-loop-member

@@ -1,15 +1,15 @@
 use Rattle.std.proofs.Common.{◌∙◌, ap, subst, List, map}
 use Rattle.model.specs.Bounds.{Bound}
-use Rattle.proof_tree.specs.proof_nodes.Nodes.{Spot, Cycle}
-use Rattle.proof_tree.specs.proof_nodes.AcceptsSizes.{cycle_facts}
-use Rattle.proof_tree.specs.proof_setting.Setting.{setting_of}
-use Rattle.proof_tree.specs.Views.{spot_of, member_of}
-use Rattle.bound_rounds.specs.Needs.{uses_for}
+use Rattle.cert_types.specs.cert_rules.Nodes.{ResultVariable, Cycle}
+use Rattle.cert_types.specs.cert_rules.AcceptsSizes.{cycle_facts}
+use Rattle.cert_types.specs.cert_program.Setting.{setting_of}
+use Rattle.cert_types.specs.Views.{result_variable_of, member_of}
+use Rattle.bound_fixpoint.specs.Needs.{uses_for}
 use Rattle.size_bounds.specs.Tables.{table_of, number_at}
 use Rattle.size_nodes.specs.Sizings.{IsCycleSizing}
 use Rattle.size_bounds.proofs.looping.cycle.Goals as goal
 
--- the node rests on the lemmas of what is needed, and its facts are the sizes
+-- the node cites the lemmas of its premises, and its facts are the sizes
 pub returns-in_ok-size_facts-in-Found : goal.returns-in_ok-size_facts-in-Found
 returns-in_ok-size_facts-in-Found c = λ p given.
     let ms = map member_of c.args.members.now in
@@ -17,8 +17,8 @@ returns-in_ok-size_facts-in-Found c = λ p given.
     (c.in_ok-sizing.ensures p given) in (
       found.0,
       c.in_ok-cycle_node-in-Found.ensures
-          ∙ ap (λ (spots : List Spot). Cycle ms (uses_for (number_at c.args.t.now) spots))
-          (ap (map spot_of) c.deref.ensures.value ∙ found.1),
+          ∙ ap (λ (result_variables : List ResultVariable). Cycle ms (uses_for (number_at c.args.t.now) result_variables))
+          (ap (map result_variable_of) c.deref.ensures.value ∙ found.1),
       c.in_ok-size_facts-in-Found.ensures ∙ ap (λ (b : Bound). cycle_facts b ms) found.2,
     )
 
@@ -29,9 +29,9 @@ returns-in-Missing c = λ p given.
     (c.in_ok-sizing.ensures p given)
 
 -- the first member that is bent
-pub returns-in-Bent : goal.returns-in-Bent
-returns-in-Bent c = λ p given.
-    subst (IsCycleSizing (setting_of p) (table_of c.args.t.now) (map member_of c.args.members.now)) c.in-Bent.is
+pub returns-in-Nonlinear : goal.returns-in-Nonlinear
+returns-in-Nonlinear c = λ p given.
+    subst (IsCycleSizing (setting_of p) (table_of c.args.t.now) (map member_of c.args.members.now)) c.in-Nonlinear.is
     (c.in_ok-sizing.ensures p given)
 
 -- the first rule without a time

@@ -1,6 +1,6 @@
 use Rattle.std.proofs.Common.{ℕ, ◌==◌, ◌∙◌, ap, sym, List, not, filter, take, get_or}
 use Rattle.std.proofs.lemmas.List.{take_more}
-use Rattle.bound_rounds.specs.Needs.{once}
+use Rattle.bound_fixpoint.specs.Needs.{once}
 use Rattle.size_bounds.specs.Lemmas.{with_other}
 use Rattle.size_bounds.proofs.UseLists.{others-append}
 use Rattle.size_bounds.proofs.uses.others_once.Goals as goal

@@ -1,6 +1,6 @@
 use Rattle.std.proofs.Common.{◌≡◌, ◌==◌, not, filter, take}
-use Rattle.bound_rounds.specs.Needs.{once}
-use Rattle.proof_tree.specs.NumberSets.{HasJust}
+use Rattle.bound_fixpoint.specs.Needs.{once}
+use Rattle.cert_types.specs.NumberSets.{HasJust}
 use Rattle.size_bounds.proofs.uses.others_once.Given as goal
 
 -- those so far, each once, and the set has just them

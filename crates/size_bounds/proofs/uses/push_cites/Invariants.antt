@@ -1,6 +1,6 @@
 use Rattle.std.proofs.Common.{◌≡◌, ◌++◌, map, take}
-use Rattle.proof_tree.specs.proof_nodes.Nodes.{Cite}
-use Rattle.proof_tree.specs.Views.{proof_of}
+use Rattle.cert_types.specs.cert_rules.Nodes.{Cite}
+use Rattle.cert_types.specs.Views.{proof_of}
 use Rattle.size_bounds.proofs.uses.push_cites.Given as goal
 
 abbrev pub invariant-loop-lemma : goal.invariant-loop-lemma

@@ -1,6 +1,6 @@
 use Rattle.std.proofs.Common.{subst, sym}
-use Rattle.proof_tree.specs.NumberSets.{HasJust}
-use Rattle.proof_tree.proofs.NumberSets.{set_more}
+use Rattle.cert_types.specs.NumberSets.{HasJust}
+use Rattle.cert_types.proofs.NumberSets.{set_more}
 use Rattle.size_bounds.proofs.uses.push_other.Goals as goal
 
 pub returns-clause-seen : goal.returns-clause-seen

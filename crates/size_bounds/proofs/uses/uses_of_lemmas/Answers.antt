@@ -1,10 +1,10 @@
 use Rattle.std.proofs.Common.{◌≡◌, ◌==◌, ℕ, ◌∙◌, ap, sym, List, ◌∷◌, not, map, filter, true, false}
 use Rattle.std.proofs.lemmas.Result.{IfOk-weaker}
 use Rattle.model.specs.Entries.{is_in}
-use Rattle.proof_tree.specs.proof_nodes.Nodes as nodes
-use Rattle.proof_tree.specs.declared.proof.Proof.{Proof}
-use Rattle.proof_tree.specs.Views.{proof_of, uses_of}
-use Rattle.bound_rounds.specs.Needs.{once, uses_from}
+use Rattle.cert_types.specs.cert_rules.Nodes as nodes
+use Rattle.cert_types.specs.declared.proof.Proof.{Proof}
+use Rattle.cert_types.specs.Views.{proof_of, uses_of}
+use Rattle.bound_fixpoint.specs.Needs.{once, uses_from}
 use Rattle.size_bounds.specs.Lemmas.{uses_of_proofs}
 use Rattle.size_bounds.proofs.UseLists.{cites_seen}
 use Rattle.size_bounds.proofs.uses.uses_of_lemmas.Goals as goal

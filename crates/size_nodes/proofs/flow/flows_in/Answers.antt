@@ -1,9 +1,9 @@
 use Rattle.std.proofs.Common.{List, map, refl}
 use Rattle.model.specs.Paths.{pre}
-use Rattle.proof_tree.specs.proof_nodes.ComposedSizes.{flows_from, flows_into}
-use Rattle.proof_tree.specs.proof_setting.Setting.{setting_of}
-use Rattle.proof_tree.specs.declared.arm.Member.{Member}
-use Rattle.proof_tree.specs.Views.{member_of}
+use Rattle.cert_types.specs.cert_rules.ComposedSizes.{flows_from, flows_into}
+use Rattle.cert_types.specs.cert_program.Setting.{setting_of}
+use Rattle.cert_types.specs.declared.side_bound.Member.{Member}
+use Rattle.cert_types.specs.Views.{member_of}
 use Rattle.size_nodes.specs.Flows.{flow_of}
 use Rattle.size_nodes.specs.Members.{IsMemberIn}
 use Rattle.size_nodes.proofs.ListSteps.{one_more}
@@ -25,7 +25,7 @@ loop-member-preserved g c = λ p h.
     let ms = map member_of c.args.scope.now.cycle.now.members.now in
     let size = (g.K.Known.table c.args.scope.now.known.now).size in
     one_more (λ (ns : List Member). flows_into (setting_of p) ms size (map member_of ns))
-    (λ (m : Member). flows_from (setting_of p) ms size (member_of m) (pre p m.spot.rule)) (λ x ys. refl)
+    (λ (m : Member). flows_from (setting_of p) ms size (member_of m) (pre p m.result_variable.rule)) (λ x ys. refl)
     c.args.scope.now.cycle.now.members.now c.loop-member.member-index c.member-item.result (map flow_of c.loop-member.flows.items)
     (map flow_of c.push_flows_into.new.flows.items) _ c.loop-member-test.true c.member-item.is (c.loop-member.invariant p h)
     (c.in_ok-push_flows_into.ensures {u = tt} p given)

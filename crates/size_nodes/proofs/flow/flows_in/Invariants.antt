@@ -1,8 +1,8 @@
 use Rattle.std.proofs.Common.{◌≡◌, ◌++◌, drop, map}
 use Rattle.model.specs.Programs.{Program}
-use Rattle.proof_tree.specs.proof_nodes.ComposedSizes.{flows_into}
-use Rattle.proof_tree.specs.proof_setting.Setting.{setting_of}
-use Rattle.proof_tree.specs.Views.{member_of}
+use Rattle.cert_types.specs.cert_rules.ComposedSizes.{flows_into}
+use Rattle.cert_types.specs.cert_program.Setting.{setting_of}
+use Rattle.cert_types.specs.Views.{member_of}
 use Rattle.size_nodes.specs.Members.{AreMembersIn}
 use Rattle.size_nodes.specs.Flows.{flow_of}
 use Rattle.size_nodes.proofs.flow.flows_in.Given as goal

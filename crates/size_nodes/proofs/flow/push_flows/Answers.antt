@@ -1,7 +1,7 @@
 use Rattle.std.proofs.Common.{◌++◌, List, map, get_or, ap, ◌∙◌}
-use Rattle.proof_tree.specs.proof_nodes.ComposedSizes.{Flow}
-use Rattle.proof_tree.specs.Composing.{optional_poly}
-use Rattle.proof_tree.specs.Views.{member_of}
+use Rattle.cert_types.specs.cert_rules.ComposedSizes.{Flow}
+use Rattle.cert_types.specs.Composing.{optional_poly}
+use Rattle.cert_types.specs.Views.{member_of}
 use Rattle.size_nodes.specs.Flows.{flow_of}
 use Rattle.size_nodes.proofs.LoopFlows.{same-flows, flows-more}
 use Rattle.size_nodes.proofs.flow.push_flows.Goals as goal

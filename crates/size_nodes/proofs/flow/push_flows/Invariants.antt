@@ -1,6 +1,6 @@
 use Rattle.std.proofs.Common.{◌≡◌, ◌++◌, drop, map}
-use Rattle.proof_tree.specs.Composing.{optional_poly}
-use Rattle.proof_tree.specs.Views.{member_of}
+use Rattle.cert_types.specs.Composing.{optional_poly}
+use Rattle.cert_types.specs.Views.{member_of}
 use Rattle.size_nodes.specs.Flows.{flow_of, flows_over}
 use Rattle.size_nodes.proofs.flow.push_flows.Given as goal
 

@@ -1,5 +1,5 @@
 use Rattle.std.proofs.Common.{◌≡◌, ◌≤◌, max, drop, map}
-use Rattle.proof_tree.specs.proof_nodes.ComposedSizes.{factor_of}
+use Rattle.cert_types.specs.cert_rules.ComposedSizes.{factor_of}
 use Rattle.size_nodes.specs.Flows.{flow_of}
 use Rattle.size_nodes.proofs.growth.factor.Given as goal
 

@@ -1,6 +1,6 @@
 use Rattle.std.proofs.Common.{◌≡◌, drop}
 use Rattle.bound_expr.specs.Views.{bounds_of, parts_of}
-use Rattle.proof_tree.specs.Sizes.{joined}
+use Rattle.cert_types.specs.Sizes.{joined}
 use Rattle.size_nodes.specs.Flows.{flow_of}
 use Rattle.size_nodes.specs.Growths.{is_of, offset_part, all_joined}
 use Rattle.size_nodes.proofs.growth.maximum_offset.Given as goal

@@ -2,7 +2,7 @@ use Rattle.std.proofs.Common.{map, ap, ◌∙◌}
 use Rattle.model.specs.Bounds.{SumOf, ProductOf, Parts, NoParts, Part}
 use Rattle.bound_expr.specs.Views.{bound_of}
 use Rattle.bound_expr.proofs.Views.{bound_of-Prod}
-use Rattle.proof_tree.specs.Sizes.{joined}
+use Rattle.cert_types.specs.Sizes.{joined}
 use Rattle.size_nodes.specs.Growths.{growth_of, all_joined, addition_part}
 use Rattle.size_nodes.proofs.JoinedParts.{one_pushed}
 use Rattle.size_nodes.proofs.loop_bound.loop_bound.Goals as goal

@@ -1,6 +1,6 @@
 use Rattle.std.proofs.Common.{◌≡◌, drop}
 use Rattle.bound_expr.specs.Views.{bounds_of, parts_of}
-use Rattle.proof_tree.specs.Sizes.{joined}
+use Rattle.cert_types.specs.Sizes.{joined}
 use Rattle.size_nodes.specs.Growths.{growth_of, power_part, all_joined}
 use Rattle.size_nodes.proofs.loop_bound.powers.Given as goal
 

@@ -1,7 +1,7 @@
 use Rattle.std.proofs.Common.{◌≡◌, drop}
 use Rattle.model.specs.Bounds.{Part}
 use Rattle.bound_expr.specs.Views.{bound_of, bounds_of, parts_of}
-use Rattle.proof_tree.specs.Sizes.{joined}
+use Rattle.cert_types.specs.Sizes.{joined}
 use Rattle.size_nodes.specs.Growths.{growth_of, addition_part, all_joined}
 use Rattle.size_nodes.proofs.loop_bound.sum.Given as goal
 

@@ -4,12 +4,12 @@ use Rattle.size_nodes.proofs.members.count_below.Goals as goal
 
 pub returns-clause-below : goal.returns-clause-below
 returns-clause-below c =
-    let parted = IsPartitionedBy-ltb (λ m. m.spot.rule) _ c.args.rule c.requires in
-    let point = IsPartitionPoint-from_clause (λ m. ltb m.spot.rule c.args.rule) _ _ c.partition_point.ensures.partitioned parted (λ a r q k. search rules) in
+    let parted = IsPartitionedBy-ltb (λ m. m.result_variable.rule) _ c.args.rule c.requires in
+    let point = IsPartitionPoint-from_clause (λ m. ltb m.result_variable.rule c.args.rule) _ _ c.partition_point.ensures.partitioned parted (λ a r q k. search rules) in
     λ k d l h. ltb-true _ _ (point.0 k d l h)
 
 pub returns-clause-behind : goal.returns-clause-behind
 returns-clause-behind c =
-    let parted = IsPartitionedBy-ltb (λ m. m.spot.rule) _ c.args.rule c.requires in
-    let point = IsPartitionPoint-from_clause (λ m. ltb m.spot.rule c.args.rule) _ _ c.partition_point.ensures.partitioned parted (λ a r q k. search rules) in
+    let parted = IsPartitionedBy-ltb (λ m. m.result_variable.rule) _ c.args.rule c.requires in
+    let point = IsPartitionPoint-from_clause (λ m. ltb m.result_variable.rule c.args.rule) _ _ c.partition_point.ensures.partitioned parted (λ a r q k. search rules) in
     λ k d l h. ltb-false _ _ (point.1 k d l h)

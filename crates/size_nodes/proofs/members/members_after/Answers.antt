@@ -1,9 +1,9 @@
 use Rattle.std.proofs.Common.{◌∙◌, ap, sym, subst, List, map, arith}
 use Rattle.std.specs.List.Sorted.{IsNonDecreasingBy}
 use Rattle.std.proofs.lemmas.List.Sorted.{IsNonDecreasingBy-drop}
-use Rattle.proof_tree.specs.proof_nodes.ComposedSizes.{is_member}
-use Rattle.proof_tree.specs.declared.arm.Member.{Member}
-use Rattle.proof_tree.specs.Views.{member_of}
+use Rattle.cert_types.specs.cert_rules.ComposedSizes.{is_member}
+use Rattle.cert_types.specs.declared.side_bound.Member.{Member}
+use Rattle.cert_types.specs.Views.{member_of}
 use Rattle.size_nodes.proofs.MembersAfter.{behind-lesser, before-greater}
 use Rattle.size_nodes.proofs.members.members_after.Goals as goal
 
@@ -12,8 +12,8 @@ count_below-requires c = c.requires
 
 pub count_below-requires-2 : goal.count_below-requires-2
 count_below-requires-2 c =
-    subst (IsNonDecreasingBy (λ (m : Member). m.spot.rule)) (sym c.split_at.ensures.back)
-    (IsNonDecreasingBy-drop (λ (m : Member). m.spot.rule) c.count_below.result c.args.members.now c.requires)
+    subst (IsNonDecreasingBy (λ (m : Member). m.result_variable.rule)) (sym c.split_at.ensures.back)
+    (IsNonDecreasingBy-drop (λ (m : Member). m.result_variable.rule) c.count_below.result c.args.members.now c.requires)
 
 pub returns : goal.returns
 returns c =

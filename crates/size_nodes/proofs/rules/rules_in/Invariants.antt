@@ -1,5 +1,5 @@
 use Rattle.std.proofs.Common.{◌≡◌, ◌++◌, drop, map}
-use Rattle.proof_tree.specs.Views.{member_of}
+use Rattle.cert_types.specs.Views.{member_of}
 use Rattle.size_nodes.specs.Flows.{rules_after}
 use Rattle.size_nodes.proofs.rules.rules_in.Given as goal
 

@@ -1,7 +1,7 @@
 use Rattle.std.proofs.Common.{◌≡◌, ◌∙◌, ap, sym, refl}
 use Rattle.bound_expr.specs.Views.{bound_of}
-use Rattle.bound_table.specs.Within.{Fits, answer_of, rewritten_within}
-use Rattle.proof_tree.proofs.proof_setting.Small.{small-bounds}
+use Rattle.bound_table.specs.RewriteResult.{Fits, answer_of, rewritten_within}
+use Rattle.cert_types.proofs.cert_program.Small.{small-bounds}
 use Rattle.size_nodes.proofs.sized.sized_where_small.Goals as goal
 
 pub returns-in-Rewritten : goal.returns-in-Rewritten

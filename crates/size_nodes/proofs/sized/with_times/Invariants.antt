@@ -1,10 +1,10 @@
 use Rattle.std.proofs.Common.{◌≡◌, ◌++◌, map, drop}
-use Rattle.proof_tree.specs.Views.{spot_of}
+use Rattle.cert_types.specs.Views.{result_variable_of}
 use Rattle.size_nodes.specs.Sizings.{time_key}
 use Rattle.size_nodes.proofs.sized.with_times.Given as goal
 
 -- what is done and what is left is all
 abbrev pub invariant-loop-rule : goal.invariant-loop-rule
 invariant-loop-rule l =
-    map spot_of l.needs.items ++ map time_key (drop l.rule-index l.rules)
-    ≡ map spot_of l.initial.needs.items ++ map time_key l.rules
+    map result_variable_of l.premises.items ++ map time_key (drop l.rule-index l.rules)
+    ≡ map result_variable_of l.initial.premises.items ++ map time_key l.rules

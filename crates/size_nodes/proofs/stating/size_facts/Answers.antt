@@ -1,9 +1,9 @@
 use Rattle.std.proofs.Common.{◌≤◌, List, length, map, sym, ap, ◌∙◌, ◌++◌, arith}
 use Rattle.std.proofs.lemmas.List.{drop_all, append-nil}
 use Rattle.bound_expr.specs.Views.{bound_of}
-use Rattle.proof_tree.specs.proof_nodes.AcceptsSizes.{cycle_facts}
-use Rattle.proof_tree.specs.declared.arm.Member.{Member}
-use Rattle.proof_tree.specs.Views.{member_of, facts_of}
+use Rattle.cert_types.specs.cert_rules.AcceptsSizes.{cycle_facts}
+use Rattle.cert_types.specs.declared.side_bound.Member.{Member}
+use Rattle.cert_types.specs.Views.{member_of, facts_of}
 use Rattle.size_nodes.proofs.stating.size_facts.Goals as goal
 
 pub returns : goal.returns

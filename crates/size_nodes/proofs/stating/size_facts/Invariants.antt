@@ -1,7 +1,7 @@
 use Rattle.std.proofs.Common.{◌≡◌, ◌++◌, drop, map}
 use Rattle.bound_expr.specs.Views.{bound_of}
-use Rattle.proof_tree.specs.proof_nodes.AcceptsSizes.{cycle_facts}
-use Rattle.proof_tree.specs.Views.{member_of, facts_of}
+use Rattle.cert_types.specs.cert_rules.AcceptsSizes.{cycle_facts}
+use Rattle.cert_types.specs.Views.{member_of, facts_of}
 use Rattle.size_nodes.proofs.stating.size_facts.Given as goal
 
 abbrev pub invariant-loop-member : goal.invariant-loop-member

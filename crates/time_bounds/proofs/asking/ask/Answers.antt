@@ -1,9 +1,9 @@
 use Rattle.std.proofs.Common.{◌≡◌, ℕ, List, sym, subst}
 use Rattle.its_model.specs.Views.{program_of}
 use Rattle.rank_search.specs.rule_questions.ProgramQuestions.{places_of}
-use Rattle.bound_rounds.specs.Sets.{IsSetOfRule, AreShutOf}
-use Rattle.time_bounds.specs.declared.asking.Asked.{Asked}
-use Rattle.bound_book.specs.ByKey.{bounds_in}
+use Rattle.bound_fixpoint.specs.Sets.{IsSetOfRule, AreShutOf}
+use Rattle.time_bounds.specs.declared.asking.AnsweredRankQuestion.{AnsweredRankQuestion}
+use Rattle.size_bounds.specs.Tables.{bounds_in}
 use Rattle.time_bounds.specs.Questions.{IsAsked}
 use Rattle.time_bounds.proofs.SetLaws.{open_rule, rule_set, may_all_run}
 use Rattle.time_bounds.proofs.AnswerLaws.{both}
@@ -32,8 +32,8 @@ returns-clause-asked c =
     let tab = bounds_in c.args.table.now in
     let set = c.in_ok-found.found.set.items in
     let shut = c.in_ok-found.found.shut.items in
-    both c.answered.result (λ (a : Asked). a.set.items ≡ set) (λ (a : Asked). a.shut.items ≡ shut)
-    (λ (a : Asked). IsAsked p tab c.args.rule a)
+    both c.answered.result (λ (a : AnsweredRankQuestion). a.set.items ≡ set) (λ (a : AnsweredRankQuestion). a.shut.items ≡ shut)
+    (λ (a : AnsweredRankQuestion). IsAsked p tab c.args.rule a)
     (λ a f g. record {
       set = subst (λ (xs : List ℕ). IsSetOfRule p tab c.args.rule xs) (sym f) c.in_ok-found.ensures.set.set;
       shut = subst (λ (xs : List ℕ). AreShutOf p tab xs (places_of a.shut.items)) (sym f)

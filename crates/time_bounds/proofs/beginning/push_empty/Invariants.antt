@@ -1,10 +1,10 @@
 use Rattle.std.proofs.Common.{◌≡◌, ◌+◌, ◌++◌, drop}
-use Rattle.bound_book.specs.Views.{finds_of}
-use Rattle.time_bounds.specs.Beginning.{empty_finds}
+use Rattle.bound_derivations.specs.Views.{derivations_of}
+use Rattle.time_bounds.specs.Beginning.{empty_derivations}
 use Rattle.time_bounds.proofs.beginning.push_empty.Given as goal
 
 -- what is done and what is left is all
 abbrev pub invariant-loop-position : goal.invariant-loop-position
 invariant-loop-position l =
-    finds_of l.finds.items ++ empty_finds (l.position + 1) (drop l.position l.empties)
-    ≡ finds_of l.initial.finds.items ++ empty_finds 1 l.empties
+    derivations_of l.derivations.items ++ empty_derivations (l.position + 1) (drop l.position l.empties)
+    ≡ derivations_of l.initial.derivations.items ++ empty_derivations 1 l.empties

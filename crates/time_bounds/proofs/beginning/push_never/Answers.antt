@@ -2,10 +2,10 @@ use Rattle.std.proofs.Common.{ℕ, ◌+◌, ◌<◌, sym, ◌∙◌, ap, subst, 
 use Rattle.model.specs.Programs.{arity_of}
 use Rattle.its_model.specs.declared.program.Rule.{Rule}
 use Rattle.its_model.specs.Views.{rule_of, program_of}
-use Rattle.bound_rounds.specs.Finds.{Find}
-use Rattle.bound_book.specs.Views.{finds_of}
-use Rattle.time_bounds.specs.declared.fates.Fate.TheVariants.{Empty}
-use Rattle.time_bounds.specs.Beginning.{never_here, never_finds}
+use Rattle.bound_fixpoint.specs.Derivations.{Derivation}
+use Rattle.bound_derivations.specs.Views.{derivations_of}
+use Rattle.time_bounds.specs.declared.rule_statuses.RuleStatus.TheVariants.{Empty}
+use Rattle.time_bounds.specs.Beginning.{never_here, never_derivations}
 use Rattle.time_bounds.proofs.StartLists.{more, never-left}
 use Rattle.time_bounds.proofs.RuleSymbols.{target_read, arity_read}
 use Rattle.time_bounds.proofs.ShutByPlace.{arity_few}
@@ -37,15 +37,15 @@ loop-position-preserved c =
     let p = c.args.cx.now.program.now in
     let i = c.loop-position.position in
     let r = c.rule-item.result in
-    let f = get_or c.args.fates.now i Empty in
+    let f = get_or c.args.rule_statuses.now i Empty in
     let low = subst (λ (rs : List Rule). i < length rs) c.deref-rule-items.ensures.value c.loop-position-test.true in
     let read = c.rule-item.is ∙ ap (λ (rs : List Rule). get_or rs i r) c.deref-rule-items.ensures.value in
     let arity = arity_read p r.target c.index.result.now (target_read p c.requires.ready.valid i r low read) c.index.ensures in
-    let done = finds_of c.loop-position.finds.items in
-    more done (finds_of c.push_if_never.new.finds.items) (never_here (i + 1) f (arity_of (program_of p) r.target))
-    (never_finds (program_of p) (i + 1 + 1) (drop (i + 1) c.args.fates.now) (map rule_of (drop (i + 1) p.rules.items)))
-    (finds_of c.args.finds.now.items ++ never_finds (program_of p) 1 c.args.fates.now (map rule_of p.rules.items))
+    let done = derivations_of c.loop-position.derivations.items in
+    more done (derivations_of c.push_if_never.new.derivations.items) (never_here (i + 1) f (arity_of (program_of p) r.target))
+    (never_derivations (program_of p) (i + 1 + 1) (drop (i + 1) c.args.rule_statuses.now) (map rule_of (drop (i + 1) p.rules.items)))
+    (derivations_of c.args.derivations.now.items ++ never_derivations (program_of p) 1 c.args.rule_statuses.now (map rule_of p.rules.items))
     (c.in_ok-push_if_never.ensures ∙ ap (λ (n : ℕ). done ++ never_here (i + 1) f n) (sym arity))
-    (ap (λ (xs : List Find). done ++ xs)
-    (sym (never-left (program_of p) (i + 1) c.args.fates.now p.rules.items i Empty r c.requires.fates low read))
+    (ap (λ (xs : List Derivation). done ++ xs)
+    (sym (never-left (program_of p) (i + 1) c.args.rule_statuses.now p.rules.items i Empty r c.requires.rule_statuses low read))
     ∙ c.loop-position.invariant)

@@ -1,11 +1,11 @@
 use Rattle.std.proofs.Common.{◌≡◌, ◌+◌, ◌++◌, map, drop}
-use Rattle.proof_tree.specs.Views.{spot_of}
-use Rattle.bound_book.specs.Views.{finds_of}
-use Rattle.time_bounds.specs.Beginning.{unreached_finds}
+use Rattle.cert_types.specs.Views.{result_variable_of}
+use Rattle.bound_derivations.specs.Views.{derivations_of}
+use Rattle.time_bounds.specs.Beginning.{unreached_derivations}
 use Rattle.time_bounds.proofs.beginning.push_unreached.Given as goal
 
 -- what is done and what is left is all
 abbrev pub invariant-loop-position : goal.invariant-loop-position
 invariant-loop-position l =
-    finds_of l.finds.items ++ unreached_finds (map spot_of l.dead) (l.position + 1) (drop l.position l.fates)
-    ≡ finds_of l.initial.finds.items ++ unreached_finds (map spot_of l.dead) 1 l.fates
+    derivations_of l.derivations.items ++ unreached_derivations (map result_variable_of l.dead) (l.position + 1) (drop l.position l.rule_statuses)
+    ≡ derivations_of l.initial.derivations.items ++ unreached_derivations (map result_variable_of l.dead) 1 l.rule_statuses

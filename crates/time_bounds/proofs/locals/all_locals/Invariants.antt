@@ -5,4 +5,4 @@ use Rattle.time_bounds.specs.Locals.{AreAllAnswers}
 use Rattle.time_bounds.proofs.locals.all_locals.Given as goal
 
 abbrev pub invariant-loop-position : goal.invariant-loop-position
-invariant-loop-position l = AreAllAnswers (program_of l.cx.program.now) l.cx.pivots 1 (take l.position l.fates) (answer_lists l.locals.items)
+invariant-loop-position l = AreAllAnswers (program_of l.cx.program.now) l.cx.pivots 1 (take l.position l.rule_statuses) (answer_lists l.locals.items)

@@ -3,7 +3,7 @@ use Rattle.std.proofs.lemmas.List.{length-map}
 use Rattle.its_model.specs.Views.{symbol_of, program_of}
 use Rattle.model.specs.Entries.{entries}
 use Rattle.rank_search.specs.rule_questions.ProgramQuestions.{places_of}
-use Rattle.bound_book.specs.ByKey.{bounds_in}
+use Rattle.size_bounds.specs.Tables.{bounds_in}
 use Rattle.time_bounds.proofs.SetLaws.{set_of_rule}
 use Rattle.time_bounds.proofs.ShutBySymbol.{shut_right}
 use Rattle.time_bounds.proofs.parts.made_set.Goals as goal

@@ -2,7 +2,7 @@ use Rattle.std.proofs.Common.{◌≡◌, true, false, Option, sym, ap, ◌∙◌
 use denote.Ref.{Bor}
 use Rattle.model.proofs.Membership.{no_is_not_yes}
 use Rattle.outcome.specs.declared.entry.Stored.{Stored}
-use Rattle.bound_rounds.specs.Keys.{lacks}
+use Rattle.bound_fixpoint.specs.Keys.{lacks}
 use Rattle.size_bounds.specs.Tables.{optional_stored, bound_stored}
 use Rattle.time_bounds.proofs.reasons.known_time.Goals as goal
 

@@ -2,25 +2,25 @@ use Rattle.std.proofs.Common.{◌≡◌, inr, List, [], ◌∷◌, All, refl, sy
 use Rattle.std.proofs.lemmas.List.{length-append}
 use Rattle.std.proofs.lemmas.List.Elements.{All-nil, All-cons, All-append}
 use Rattle.bound_expr.specs.Views.{bound_of}
-use Rattle.bound_table.specs.Within.{answer_of, rewritten_within}
+use Rattle.bound_table.specs.RewriteResult.{answer_of, rewritten_within}
 use Rattle.outcome.specs.Views.{numbered_gap}
-use Rattle.proof_tree.specs.declared.gap.Gap as code
-use Rattle.proof_tree.specs.proof_nodes.Composed.{time_of}
-use Rattle.proof_tree.specs.proof_nodes.GapChecks.{GapHolds}
-use Rattle.proof_tree.specs.proof_nodes.Gaps.{Gap}
-use Rattle.proof_tree.specs.proof_nodes.Known.{Table}
-use Rattle.proof_tree.specs.proof_setting.Setting.{setting_of}
-use Rattle.proof_tree.specs.AnswerViews.{gap_of}
-use Rattle.proof_tree.specs.Views.{rank_of}
+use Rattle.cert_types.specs.declared.gap.Gap as code
+use Rattle.cert_types.specs.cert_rules.Composed.{time_of}
+use Rattle.cert_types.specs.cert_rules.GapChecks.{GapHolds}
+use Rattle.cert_types.specs.cert_rules.Gaps.{Gap}
+use Rattle.cert_types.specs.cert_rules.Known.{Table}
+use Rattle.cert_types.specs.cert_program.Setting.{setting_of}
+use Rattle.cert_types.specs.AnswerViews.{gap_of}
+use Rattle.cert_types.specs.Views.{rank_of}
 use Rattle.rank_search.specs.declared.answer.RankAnswer.{RankAnswer}
 use Rattle.rank_search.specs.rule_questions.ProgramQuestions.{forms_at}
-use Rattle.bound_rounds.specs.Answers.{Lacks, TellsRanking}
+use Rattle.bound_fixpoint.specs.Answers.{Lacks, TellsRanking}
 use Rattle.outcome.specs.Reports.{NoFunction, TimeTripped, TimeLarge}
-use Rattle.bound_rounds.specs.Searches.{OfTime}
-use Rattle.bound_book.specs.ByKey.{bounds_in}
+use Rattle.bound_fixpoint.specs.Searches.{OfTime}
+use Rattle.size_bounds.specs.Tables.{bounds_in}
 use Rattle.time_bounds.specs.ProgramRules.{ranking_of}
 use Rattle.time_bounds.specs.Questions.{HasShape, program_in}
-use Rattle.time_bounds.proofs.AnswerLaws.{large_told, told_time, missing_unfit, gap_holds, untimed_none}
+use Rattle.time_bounds.proofs.AnswerLaws.{large-sound, time-sound, missing_unfit, gap_holds, untimed_none}
 use Rattle.time_bounds.proofs.RuleNumbers.{rule_within}
 use Rattle.time_bounds.proofs.TablesOver.{table_over}
 use Rattle.time_bounds.proofs.NamedGaps.{gap_last}
@@ -41,10 +41,10 @@ returns-in-Large-clause-said c =
     let large = subst (λ (x : Table). answer_of c.in_ok-nodes-in-Ranked.field-0 ≡ rewritten_within (time_of p node x.time x.size))
     (table_over c.args.table.now) c.in_ok-nodes-in-Ranked.ensures in (
       untimed_none b c.args.rule c.requires.untimed,
-      told_time p b c.args.cx.now.pivots c.args.cx.now.empties.items c.args.rule c.args.asked (Lacks (OfTime (TimeLarge c.in-Large.nodes)))
+      time-sound p b c.args.cx.now.pivots c.args.cx.now.empties.items c.args.rule c.args.asked (Lacks (OfTime (TimeLarge c.in-Large.nodes)))
           c.requires.ready.empties m.asked m.answered
           (subst (λ (a : RankAnswer). TellsRanking (setting_of p) b (ranking_of a) (Lacks (OfTime (TimeLarge c.in-Large.nodes)))) (sym c.in-Ranked.is)
-          (large_told p b node c.in-Large.nodes (sym (ap answer_of c.in-Large.is) ∙ large))),
+          (large-sound p b node c.in-Large.nodes (sym (ap answer_of c.in-Large.is) ∙ large))),
     )
 
 pub returns-in-NoRank-clause-grown : goal.returns-in-NoRank-clause-grown
@@ -59,7 +59,7 @@ returns-in-NoRank-clause-said c =
     let last = gap_last c.args.gaps.now.items c.push.new.self.items c.in-NoRank.gap c.len.result c.in_ok-push-in-NoRank.ensures.items
     (omega (arith, c.len.ensures, c.push.new.self.ok.0)) in (
       untimed_none b c.args.rule c.requires.untimed,
-      told_time p b c.args.cx.now.pivots c.args.cx.now.empties.items c.args.rule c.args.asked (Lacks (OfTime (NoFunction n))) c.requires.ready.empties
+      time-sound p b c.args.cx.now.pivots c.args.cx.now.empties.items c.args.rule c.args.asked (Lacks (OfTime (NoFunction n))) c.requires.ready.empties
           m.asked m.answered
           (subst (λ (a : RankAnswer). TellsRanking (setting_of p) b (ranking_of a) (Lacks (OfTime (NoFunction n)))) (sym c.in-NoRank.is)
           (ap (λ (g : Gap). Lacks (OfTime (NoFunction g))) last)),
@@ -82,9 +82,9 @@ returns-clause-said c =
     let b = bounds_in c.args.table.now in
     let m = c.requires.missing in (
       untimed_none b c.args.rule c.requires.untimed,
-      told_time p b c.args.cx.now.pivots c.args.cx.now.empties.items c.args.rule c.args.asked (Lacks (OfTime (TimeTripped c.in-Tripped.trip)))
+      time-sound p b c.args.cx.now.pivots c.args.cx.now.empties.items c.args.rule c.args.asked (Lacks (OfTime (TimeTripped c.in-OutOfLimits.limit_hit)))
           c.requires.ready.empties m.asked m.answered
-          (subst (λ (a : RankAnswer). TellsRanking (setting_of p) b (ranking_of a) (Lacks (OfTime (TimeTripped c.in-Tripped.trip)))) (sym c.in-Tripped.is) refl),
+          (subst (λ (a : RankAnswer). TellsRanking (setting_of p) b (ranking_of a) (Lacks (OfTime (TimeTripped c.in-OutOfLimits.limit_hit)))) (sym c.in-OutOfLimits.is) refl),
     )
 
 pub unreachable-requires : goal.unreachable-requires

@@ -1,13 +1,13 @@
 use Rattle.std.proofs.Common.{List, ◌++◌, map, refl, sym, ◌∙◌, ap, subst, append_assoc}
 use Rattle.std.proofs.lemmas.List.{length-map}
 use Rattle.its_model.specs.Views.{rule_of}
-use Rattle.proof_tree.specs.proof_setting.Setting.{setting_of}
-use Rattle.bound_rounds.specs.Answers.{SizesOf}
-use Rattle.bound_rounds.specs.Finds as plain
-use Rattle.bound_rounds.specs.Rounds.{TriesAll, InTurn}
-use Rattle.bound_book.specs.Views.{finds_of}
-use Rattle.time_bounds.specs.declared.sizing.Attempt.{Attempt}
-use Rattle.time_bounds.specs.Candidates.{spots_in}
+use Rattle.cert_types.specs.cert_program.Setting.{setting_of}
+use Rattle.bound_fixpoint.specs.Answers.{SizesOf}
+use Rattle.bound_fixpoint.specs.Derivations as plain
+use Rattle.bound_fixpoint.specs.Rounds.{TriesAll, InTurn}
+use Rattle.bound_derivations.specs.Views.{derivations_of}
+use Rattle.time_bounds.specs.declared.sizing.ComponentAttempt.{ComponentAttempt}
+use Rattle.time_bounds.specs.Candidates.{result_variables_in}
 use Rattle.time_bounds.specs.ProgramSearches.{searches_of_program}
 use Rattle.time_bounds.specs.Questions.{program_in}
 use Rattle.time_bounds.specs.RoundsMade.{known_with}
@@ -27,21 +27,21 @@ pub try_components-requires-clause-before : goal.try_components-requires-clause-
 try_components-requires-clause-before c =
     let cx = c.args.cx.now in
     let p = program_in cx in
-    let old = c.args.book.now.finds.items in
-    let mid = c.times_of_round.new.book.finds.items in
+    let old = c.args.derived.now.derivations.items in
+    let mid = c.times_of_round.new.derived.derivations.items in
     let times = c.in_ok-asked.ensures.times in
     let kept = c.requires.kept in (
       kept.first,
-      subst (λ (xs : List Attempt). WereAttempts p cx.pivots kept.first (known_with cx mid) c.args.candidates.now xs) (sym c.deref.ensures.value)
+      subst (λ (xs : List ComponentAttempt). WereAttempts p cx.pivots kept.first (known_with cx mid) c.args.candidates.now xs) (sym c.deref.ensures.value)
           (were-wider p cx.pivots kept.first (known_with cx old) kept.first (known_with cx mid) c.args.candidates.now c.args.kept.attempts.items
-          (grown-itself kept.first) (grown-by p (finds_of old) times.times (finds_of mid) times.grown) kept.attempts),
+          (grown-itself kept.first) (grown-by p (derivations_of old) times.times (derivations_of mid) times.grown) kept.attempts),
     )
 
 pub try_components-requires-clause-made : goal.try_components-requires-clause-made
 try_components-requires-clause-made c =
     let times = c.in_ok-asked.ensures.times in
     record {
-      earlier = finds_of c.args.book.now.finds.items;
+      earlier = derivations_of c.args.derived.now.derivations.items;
       made = c.requires.made;
       times = times.times;
       timed = times.timed;
@@ -53,30 +53,30 @@ returns-clause-round c =
     let cx = c.args.cx.now in
     let p = program_in cx in
     let cs = c.args.candidates.now in
-    let old = c.args.book.now.finds.items in
-    let mid = c.times_of_round.new.book.finds.items in
-    let new = c.try_components.new.book.finds.items in
+    let old = c.args.derived.now.derivations.items in
+    let mid = c.times_of_round.new.derived.derivations.items in
+    let new = c.try_components.new.derived.derivations.items in
     let times = c.in_ok-asked.ensures.times in
     let sizes = c.in_ok-attempts.ensures.sizes in
-    let by_times = grown-by p (finds_of old) times.times (finds_of mid) times.grown in
-    let by_sizes = grown-by p (finds_of mid) sizes.sizes (finds_of new) sizes.grown in
+    let by_times = grown-by p (derivations_of old) times.times (derivations_of mid) times.grown in
+    let by_sizes = grown-by p (derivations_of mid) sizes.sizes (derivations_of new) sizes.grown in
     record {
       more = times.times ++ sizes.sizes;
       round = record {
         times = times.times;
         timed = times.timed;
-        components = map spots_in cs;
+        components = map result_variables_in cs;
         are_components = are_components p cx.pivots cs c.requires.candidates;
         live = live_components p cx.pivots cs c.requires.candidates;
         sizes = sizes.sizes;
         sized =
-            subst (λ (fs : List plain.Find). TriesAll (searches_of_program p cx.pivots) (setting_of p) InTurn fs
-            (map SizesOf (map spots_in cs)) sizes.sizes) times.grown sizes.sized;
+            subst (λ (fs : List plain.Derivation). TriesAll (searches_of_program p cx.pivots) (setting_of p) InTurn fs
+            (map SizesOf (map result_variables_in cs)) sizes.sizes) times.grown sizes.sized;
         all = refl;
       };
       grown =
           sizes.grown
-          ∙ (ap (λ (fs : List plain.Find). fs ++ sizes.sizes) times.grown ∙ append_assoc (finds_of old) times.times sizes.sizes);
+          ∙ (ap (λ (fs : List plain.Derivation). fs ++ sizes.sizes) times.grown ∙ append_assoc (derivations_of old) times.times sizes.sizes);
       one_each = times.one_each;
       asked = asked_still p (known_with cx old) (known_with cx mid) (known_with cx new) by_sizes cx.pivots cx.empties.items 1
           c.in_ok-asked.asked.items times.asked_are;

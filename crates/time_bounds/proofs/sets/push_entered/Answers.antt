@@ -1,7 +1,7 @@
 use Rattle.std.proofs.Common.{◌≡◌, ℕ, List, ◌++◌, sym, ap, ◌∙◌, subst, arith}
 use Rattle.std.specs.Prelude.{OnOk}
 use Rattle.its_model.specs.Views.{program_of}
-use Rattle.proof_tree.specs.proof_nodes.Gaps.{SymbolPlace}
+use Rattle.cert_types.specs.cert_rules.Gaps.{SymbolPlace}
 use Rattle.rank_search.specs.rule_questions.ProgramQuestions.{places_of}
 use Rattle.size_bounds.specs.Tables.{table_of}
 use Rattle.time_bounds.specs.Shutting.{into, shut_at, shut_by}

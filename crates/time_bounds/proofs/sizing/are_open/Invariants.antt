@@ -1,8 +1,8 @@
 use Rattle.std.proofs.Common.{◌≡◌, false, map, take}
-use Rattle.proof_tree.specs.Views.{spot_of}
-use Rattle.bound_rounds.specs.Answers.{are_open}
-use Rattle.bound_book.specs.ByKey.{bounds_in}
+use Rattle.cert_types.specs.Views.{result_variable_of}
+use Rattle.bound_fixpoint.specs.Answers.{are_open}
+use Rattle.size_bounds.specs.Tables.{bounds_in}
 use Rattle.time_bounds.proofs.sizing.are_open.Given as goal
 
-abbrev pub invariant-loop-spot : goal.invariant-loop-spot
-invariant-loop-spot l = are_open (bounds_in l.table) (map spot_of (take l.spot-index l.spots)) ≡ false
+abbrev pub invariant-loop-result_variable : goal.invariant-loop-result_variable
+invariant-loop-result_variable l = are_open (bounds_in l.table) (map result_variable_of (take l.result_variable-index l.result_variables)) ≡ false

@@ -2,8 +2,8 @@ use Rattle.std.proofs.Common.{◌≡◌, ℕ, ◌+◌, List, [], ◌∷◌, leng
 use Rattle.std.proofs.lemmas.List.{length-append}
 use Rattle.std.proofs.lemmas.Iterator.Adapters.{YieldsList-from_vec}
 use Rattle.std.proofs.lemmas.Iterator.Consumers.{YieldsList-turn}
-use Rattle.bound_book.specs.ByKey.{bounds_in}
-use Rattle.time_bounds.specs.declared.tried_rules.Tried.{Tried}
+use Rattle.size_bounds.specs.Tables.{bounds_in}
+use Rattle.time_bounds.specs.declared.tried_rules.RuleAttempt.{RuleAttempt}
 use Rattle.time_bounds.specs.Questions.{program_in}
 use Rattle.time_bounds.specs.TriedRules.{AreTried, IsTried}
 use Rattle.time_bounds.proofs.AnsweredQuestions.{kept_read}
@@ -14,9 +14,9 @@ pub loop-asked-init : goal.loop-asked-init
 loop-asked-init c =
     let none = c.new-tries.ensures.items in
     record {
-      one_each = ap (λ (xs : List Tried). length xs) none;
+      one_each = ap (λ (xs : List RuleAttempt). length xs) none;
       tried =
-          subst (λ (xs : List Tried). AreTried (program_in c.args.cx.now) (bounds_in c.args.table.now) c.args.cx.now.pivots
+          subst (λ (xs : List RuleAttempt). AreTried (program_in c.args.cx.now) (bounds_in c.args.table.now) c.args.cx.now.pivots
           c.args.cx.now.empties.items 1 xs) (sym none) tt;
       parts = c.in_ok-parts.ensures;
     }
@@ -46,13 +46,13 @@ loop-asked-preserved c =
       one_each =
           omega (
             arith,
-            ap (λ (xs : List Tried). length xs) pushed,
+            ap (λ (xs : List RuleAttempt). length xs) pushed,
             length-append c.loop-asked.tries.items (c.in_ok-try_rule.field-0 ∷ []),
             length-append c.loop-asked.yielded (c.in-Some.asked ∷ []),
             c.loop-asked.invariant.one_each,
           );
       tried =
-          subst (λ (xs : List Tried). AreTried p b c.args.cx.now.pivots c.args.cx.now.empties.items 1 xs) (sym pushed)
+          subst (λ (xs : List RuleAttempt). AreTried p b c.args.cx.now.pivots c.args.cx.now.empties.items 1 xs) (sym pushed)
           (each_pushed (IsTried p b c.args.cx.now.pivots c.args.cx.now.empties.items) 1 c.loop-asked.tries.items c.in_ok-try_rule.field-0
           c.loop-asked.invariant.tried tried);
     }

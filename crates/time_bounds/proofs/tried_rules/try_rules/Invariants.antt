@@ -1,5 +1,5 @@
 use Rattle.std.proofs.Common.{◌≡◌, length}
-use Rattle.bound_book.specs.ByKey.{bounds_in}
+use Rattle.size_bounds.specs.Tables.{bounds_in}
 use Rattle.time_bounds.specs.Parts.{AreParts}
 use Rattle.time_bounds.specs.Questions.{program_in}
 use Rattle.time_bounds.specs.TriedRules.{AreTried}

@@ -6,14 +6,14 @@ use Rattle.expr_reader.proofs.guard.GuardReader.take.Goals as goal
 
 pub returns-then-reads_truth : goal.returns-then-reads_truth
 returns-then-reads_truth c =
-    takes_truth _ _ _ _ _ _ (sym c.reads_truth.ensures ∙ c.if-reads_truth.true) refl c.in_ok-take_truth.ensures.place c.in_ok-take_truth.ensures.atoms c.in_ok-take_truth.ensures.expression
+    takes_truth _ _ _ _ _ _ (sym c.reads_truth.ensures ∙ c.if-reads_truth.true) refl c.in_ok-take_truth.ensures.state c.in_ok-take_truth.ensures.atoms c.in_ok-take_truth.ensures.expression
 
 pub returns-then-has_read : goal.returns-then-has_read
 returns-then-has_read c = takes_joint _ _ _ _ _ _ _ (sym c.has_read.ensures ∙ c.if-has_read.true) refl c.take_joint.ensures.joins c.take_joint.ensures.taken c.take_joint.ensures.kept
 
 pub returns-then-goes_on_with : goal.returns-then-goes_on_with
 returns-then-goes_on_with c =
-    takes_more _ _ _ _ _ _ (sym c.reads_truth.ensures ∙ c.if-reads_truth.false) c.in_ok-take_more.ensures.leads c.in_ok-take_more.ensures.place c.in_ok-take_more.ensures.atoms c.in_ok-take_more.ensures.related
+    takes_more _ _ _ _ _ _ (sym c.reads_truth.ensures ∙ c.if-reads_truth.false) c.in_ok-take_more.ensures.leads c.in_ok-take_more.ensures.state c.in_ok-take_more.ensures.atoms c.in_ok-take_more.ensures.related
     (sym c.has_read.ensures ∙ c.if-has_read.false) (sym c.goes_on_with.ensures ∙ c.if-goes_on_with.true)
 
 pub returns-in_ok-taken-in-Some : goal.returns-in_ok-taken-in-Some

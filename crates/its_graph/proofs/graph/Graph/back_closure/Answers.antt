@@ -26,7 +26,7 @@ grouped-requires c =
     subst (λ (xs : List Pair). All (λ (e : Pair). e.0 < n) xs) (sym links)
     (All-weaker (λ (e : Pair). (e.0 < n) × (e.1 < n)) (λ (e : Pair). e.0 < n) (λ e h. h.0) (map swap kept) (swap-within n kept (kept-within n c.args.untimed.now 1 g.links.items c.requires.graph.1.links_within)))
 
--- so are the values of the table
+-- the same for the values of the table
 pub flooded-requires-clause-edges_within : goal.flooded-requires-clause-edges_within
 flooded-requires-clause-edges_within c =
     let g = c.args.self.now in
@@ -48,10 +48,10 @@ pub returns-clause-members : goal.returns-clause-members
 returns-clause-members c =
     IfOk-weaker c.members.result (λ (found : Vec ℕ Global). found.items ≡ members_from c.args.untimed.now c.deref-6.result.now c.args.rule 1 c.deref-5.result.now)
     (λ (found : Vec ℕ Global). (p : Program) → IsGraphOf c.args.self.now p → (e : ℕ) → Contains found.items e ↔ IsInSet p (flagged c.args.untimed.now) c.args.rule e)
-    (λ found is p h e. subst (λ (xs : List ℕ). Contains xs e ↔ IsInSet p (flagged c.args.untimed.now) c.args.rule e) (sym is) (told p h e)) c.members.ensures
+    (λ found is p h e. subst (λ (xs : List ℕ). Contains xs e ↔ IsInSet p (flagged c.args.untimed.now) c.args.rule e) (sym is) (decided p h e)) c.members.ensures
   where
-    told : (p : Program) → IsGraphOf c.args.self.now p → (e : ℕ) → Contains (members_from c.args.untimed.now c.deref-6.result.now c.args.rule 1 c.deref-5.result.now) e ↔ IsInSet p (flagged c.args.untimed.now) c.args.rule e
-    told p h e =
+    decided : (p : Program) → IsGraphOf c.args.self.now p → (e : ℕ) → Contains (members_from c.args.untimed.now c.deref-6.result.now c.args.rule 1 c.deref-5.result.now) e ↔ IsInSet p (flagged c.args.untimed.now) c.args.rule e
+    decided p h e =
         let g = c.args.self.now in
         let untimed = c.args.untimed.now in
         let seen = c.deref-6.result.now in

@@ -29,7 +29,7 @@ grouped-requires c =
     subst (λ (xs : List Pair). All (λ (e : Pair). e.0 < n) xs) (sym links)
     (All-weaker (λ (e : Pair). (e.0 < n) × (e.1 < n)) (λ (e : Pair). e.0 < n) (λ e h. h.0) (kept_links c.deref-2.result.now 1 g.links.items) (kept-within n c.deref-2.result.now 1 g.links.items c.requires.1.links_within))
 
--- so are the values of the table
+-- the same for the values of the table
 pub flooded-requires-clause-edges_within : goal.flooded-requires-clause-edges_within
 flooded-requires-clause-edges_within c =
     let g = c.args.self.now in
@@ -45,7 +45,7 @@ pub returns-clause-reached : goal.returns-clause-reached
 returns-clause-reached c =
     IfOk-weaker c.flooded.result (λ (seen : Vec Bool Global). (b : ℕ) → (get_or seen.items b false ≡ true) ↔ Path (Joins c.deref-4.result.now) c.args.self.now.start b)
     (λ (seen : Vec Bool Global). (p : Program) → IsGraphOf c.args.self.now p → (b : ℕ) → (get_or seen.items b false ≡ true) ↔ IsReached p (none_of c.args.cut.now) b)
-    (λ seen told p h b. both-ways (told b) (reach p h b)) c.flooded.ensures.reached
+    (λ seen decided p h b. both-ways (decided b) (reach p h b)) c.flooded.ensures.reached
   where
     reach : (p : Program) → IsGraphOf c.args.self.now p → (b : ℕ) → Path (Joins c.deref-4.result.now) c.args.self.now.start b ↔ IsReached p (none_of c.args.cut.now) b
     reach p h b =

@@ -1,5 +1,5 @@
 use Rattle.std.proofs.Common.{sym, ◌∙◌}
-use Rattle.its_reader.specs.declared.place.RightPlace.TheVariants as places
+use Rattle.its_reader.specs.declared.parser_state.TargetState.TheVariants as places
 use Rattle.its_reader.proofs.RightLaws.{com_leads}
 use Rattle.its_reader.proofs.RightPromises.{always_right, arrowed_promise}
 use Rattle.its_reader.proofs.draft.Draft.behind_arrow.Goals as goal

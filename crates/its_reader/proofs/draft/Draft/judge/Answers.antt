@@ -4,5 +4,5 @@ use Rattle.its_reader.proofs.JudgeLaws.{judges}
 use Rattle.its_reader.proofs.draft.Draft.judge.Goals as goal
 
 pub returns : goal.returns
-returns c = judges c.args.stand.place c.in_ok-settled.settled.place c.args.stand.last c.args.ahead.at (maybe_fault c.args.stand.best) _ _ c.args.self.now _ _ _ (maybe_kind c.in_ok-settled.settled.refusal)
-    c.in_ok-settled.ensures c.first_with-ended.ensures c.noted-best.ensures
+returns c = judges c.args.stand.state c.in_ok-part_ended.part_ended.state c.args.stand.last c.args.lookahead.at (maybe_fault c.args.stand.best) _ _ c.args.self.now _ _ _ (maybe_kind c.in_ok-part_ended.part_ended.refusal)
+    c.in_ok-part_ended.ensures c.first_with-ended.ensures c.first_fault_ahead-best.ensures

@@ -16,9 +16,9 @@ loop-number-preserved c =
     let b = c.loop-number.self in
     let w = c.loop-number.invariant in
     let n = c.loop-number.number in
-    let writes = line-at a.parameters b.parameters a.columns b.columns c.args.unknowns n c.args.rows.now c.args.goals.now c.args.fixed.now b.sheet c.put_line.new.sheet
+    let writes = line-at a.parameters b.parameters a.columns b.columns c.args.unknowns n c.args.rows.now c.args.goals.now c.args.fixed.now b.writer c.put_line.new.writer
     w.parameters w.columns c.in_ok-put_line.ensures in
-    written-more a b _ c.put_line.new.sheet (group_of a.parameters c.args.unknowns c.args.rows.now c.args.goals.now c.args.fixed.now) n _ w writes c.next_row.ensures refl refl
+    written-more a b _ c.put_line.new.writer (group_of a.parameters c.args.unknowns c.args.rows.now c.args.goals.now c.args.fixed.now) n _ w writes c.next_row.ensures refl refl
     c.in_ok-push.ensures.items (to_z-of_z w128 c.less.result (record { sfits = c.less.type_inv }) ∙ c.less.ensures)
 
 pub returns : goal.returns

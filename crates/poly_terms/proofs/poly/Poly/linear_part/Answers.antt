@@ -9,7 +9,7 @@ use Rattle.poly_terms.proofs.RowLaws.{linear_form-value}
 use Rattle.poly_terms.proofs.PositionLaws.{at-monomial}
 use Rattle.poly_terms.proofs.poly.Poly.linear_part.Goals as goal
 
--- the monomial that stands at the position
+-- the monomial at the position
 here : (ms ns : List Monomial) (i : ℕ) (m : Monomial) → ns ≡ ms → i < length ns → m ≡ get_or ns i m → get_or (monomials_of ms) i (monomial_of m) ≡ monomial_of m
 here ms ns i m e l f =
     at-monomial ms i m (monomial_of m) (subst (λ (ks : List Monomial). i < length ks) e l) (subst (λ (ks : List Monomial). m ≡ get_or ks i m) e f)

@@ -1,23 +1,15 @@
-use Rattle.std.proofs.Common.{refl, ap, ◌∙◌, ◌++◌, ℤ, List, arith}
+use Rattle.std.proofs.Common.{List, ℤ, subst}
+use Rattle.its_model.specs.model.Runs.{Begins}
+use Rattle.its_model.specs.Views.{program_of, config_of}
 use Rattle.run_replay.proofs.replaying.Standing.new.Goals as goal
 
 pub returns : goal.returns
 returns c = record {
   runs = record {
-    run = record {
-      places = c.requires.start;
-      at = refl;
-      values = c.in_ok-extend_from_slice.ensures.items
-          ∙ (ap (λ (xs : List ℤ). xs ++ c.deref.result.now) c.in_ok-values.ensures.items ∙ c.deref.ensures.value);
-    };
+    run = subst (λ (start : List ℤ). Begins (program_of c.args.p.now) start (config_of c.in_ok-new.field-0.here)) c.deref.ensures.value
+        c.in_ok-new.ensures.begins;
     fit = tt;
   };
-  tally = c.in_ok-new.ensures c.args.run.now.start.items;
-  room = omega (
-    arith,
-    c.most_places-places.ensures,
-    c.in_ok-values.ensures.capacity,
-    c.in_ok-extend_from_slice.ensures.capacity,
-  );
-  next_room = omega (arith, c.most_places-places.ensures, c.in_ok-with_capacity.ensures.capacity);
+  walks = c.in_ok-new.ensures.walks;
+  tally = c.in_ok-new-2.ensures c.args.run.now.start.items;
 }

@@ -25,7 +25,9 @@ pub returns : goal.returns
 returns c = λ start.
     let p = program_of c.args.p.now in
     let long = length-map c.args.p.now.rules.items rule_of in
-    start_tally p start c.len-2.result c.loop-rule.rule-index c.in_ok-counts.counts.items _
+    start_tally p start c.len-2.result c.len-3.result c.loop-rule.rule-index c.in_ok-counts.counts.items
+    c.in_ok-costs.costs.items _
     (omega (arith, long, c.len-2.ensures, c.args.p.now.rules.ok.0)) c.in_ok-counts.ensures
+    (omega (arith, long, c.len-3.ensures, c.args.p.now.rules.ok.0)) c.in_ok-costs.ensures
     (omega (arith, long, c.loop-rule.auto.rule-index-end, c.loop-rule-test.false, ap length c.deref-rule-items.ensures.value))
     c.loop-rule.invariant

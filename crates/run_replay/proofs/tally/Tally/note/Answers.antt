@@ -2,6 +2,7 @@ use Rattle.std.proofs.Common.{◌≡◌, ◌∙◌, ◌+◌, ◌-◌, ◌<◌, �
 use Rattle.std.proofs.Common.{arith, Vec}
 use Rattle.std.specs.declared.alloc.Global.{Global}
 use Rattle.std.proofs.lemmas.List.{get_or-map, get_or_read, map-set}
+use Rattle.bound_expr.specs.Capped.{capped}
 use Rattle.run_replay.proofs.tally.Tally.note.Goals as goal
 
 -- the numbers of the row that is read
@@ -26,7 +27,9 @@ returns c =
     let counted = get_or_read t.counts.items k c.index_mut.result.now (omega (arith, c.requires.rule, c.requires.counted))
     c.index_mut.ensures.value 0 in
     let row = row_read t.greatest.items k c.index_mut-2.result.now (omega (arith, c.requires.rule, c.requires.sized))
-    c.index_mut-2.ensures.value in record {
+    c.index_mut-2.ensures.value in
+    let spent = get_or_read t.costs.items k c.index.result.now (omega (arith, c.requires.rule, c.requires.charged))
+    c.index.ensures 0 in record {
       steps = refl;
       counts = ap (λ (n : ℕ). set t.counts.items k (n + 1)) counted;
       row = c.raise.new.row.items;
@@ -34,4 +37,7 @@ returns c =
       places = c.raise.ensures.length ∙ (ap length row ∙ c.requires.places);
       raised = λ j h. c.raise.ensures.each j h
           ∙ ap (λ (xs : List ℕ). max (get_or xs j 0) (nat_abs (get_or c.args.values.now j (pos 0)))) row;
+      costs = ap (λ (n : ℕ). set t.costs.items k n)
+          (c.capped_add.ensures ∙ ap (λ (n : ℕ). capped (n + c.args.cost)) spent);
+      spent = c.capped_add-self.ensures;
     }

@@ -6,7 +6,7 @@ use Rattle.simplex_core.specs.Tableau.{Tableau, unknowns}
 use Rattle.simplex_core.specs.Search.{some}
 use Rattle.simplex_core.proofs.column_table.ColumnTable.has_artificial.Given as goal
 
--- no artificial unknown before this row is over 0
+-- no artificial unknown before this row is above 0
 abbrev pub invariant-loop-row : goal.invariant-loop-row
 invariant-loop-row l = (p : LinearProgram) (t : Tableau) → ShowsColumns p l.self t
     → some l.row (λ i. nat_le p.columns (t.basis i) && int_lt (pos 0) (t.entry i (unknowns p))) ≡ false

@@ -3,7 +3,7 @@ use Rattle.std.specs.Int.{w128}
 use Rattle.std.specs.Prelude.{List, pos}
 use Rattle.std.proofs.lemmas.Int.{ints}
 use Rattle.frac128.specs.declared.frac.Frac.{Frac}
-use Rattle.merges.specs.Listing.{IsAt, LiesAt}
+use Rattle.sparse_merge.specs.Listing.{IsAt, LiesAt}
 use Rattle.sparse_rows.specs.Rows.{column_of, IsRow, IsPut}
 use Rattle.sparse_rows.proofs.Puts.{zero-absent, put-row, put-is, put-zero}
 use Rattle.sparse_rows.proofs.row.SparseRow.put.Goals as goal

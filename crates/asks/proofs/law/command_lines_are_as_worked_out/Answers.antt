@@ -1,6 +1,0 @@
-use Rattle.asks.proofs.WorkedLines.{command_lines}
-use Rattle.asks.proofs.WorkedOthers.{other_words}
-use Rattle.asks.proofs.law.command_lines_are_as_worked_out.Goals as goal
-
-pub returns : goal.returns
-returns c = record { asked = command_lines; nothing = other_words }

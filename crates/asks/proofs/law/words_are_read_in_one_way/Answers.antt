@@ -1,5 +1,0 @@
-use Rattle.asks.proofs.OneWay.{read_in_one_way}
-use Rattle.asks.proofs.law.words_are_read_in_one_way.Goals as goal
-
-pub returns : goal.returns
-returns c = read_in_one_way

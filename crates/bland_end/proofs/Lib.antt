@@ -1,0 +1,16 @@
+-- That no basis comes twice, and how many bases there are.
+pub mod Kernels
+pub mod Directions
+pub mod SameBases
+pub mod Steps
+pub mod Fractions
+pub mod Walks
+pub mod Fickle
+pub mod Sequences
+pub mod Ranks
+pub mod Counts
+pub mod Binomials
+pub mod Budgets
+pub mod WorkedBases
+-- the lemmas of the crates below, which callers name through this one
+pub use Rattle.simplex_core.proofs as simplex_core

@@ -1,0 +1,33 @@
+-- That Bland's rule ends: no basis comes twice, so there are fewer pivots than bases.
+use Rattle.std.specs.Prelude.{◌≡◌, ℕ, ◌<◌, ◌≤◌, ◌*ℤ◌, Some, Err}
+use Rattle.linear_forms.specs.LinearProgram.{LinearProgram}
+use Rattle.simplex_core.specs.declared.problem.SolveError.TheVariants.{Budget}
+use Rattle.simplex_core.specs.Tableau.{Tableau, unknowns, cost_row}
+use Rattle.simplex_core.specs.Bland.{tableau_at}
+use Rattle.simplex_core.specs.Outcome.{IsAnswer}
+use Rattle.bland_end.specs.Bases.{HaveSameBasis}
+use Rattle.bland_end.specs.Counting.{bases_of}
+
+-- a basis determines its tableau up to the order and the scales of the rows: two tableaux of the sequence with the same
+-- basis have the same fractions in the rows that are solved for the same unknown, right sides too, and in the cost rows
+pub record BasesDecideTableaux : Type 0 where
+  pub rows : (p : LinearProgram) (a b : ℕ) (t u : Tableau) (i k c : ℕ) → tableau_at p a ≡ Some t
+      → tableau_at p b ≡ Some u → HaveSameBasis p t u → i < p.rows → k < p.rows → t.basis i ≡ u.basis k
+      → c ≤ unknowns p
+      → t.entry i c *ℤ u.scale k ≡ u.entry k c *ℤ t.scale i
+  pub costs : (p : LinearProgram) (a b : ℕ) (t u : Tableau) (q c : ℕ) → tableau_at p a ≡ Some t
+      → tableau_at p b ≡ Some u → HaveSameBasis p t u → q < 3 → c < unknowns p
+      → t.entry (cost_row p q) c *ℤ u.scale (cost_row p q) ≡ u.entry (cost_row p q) c *ℤ t.scale (cost_row p q)
+
+-- no two tableaux of the sequence have the same basis
+pub record NoBasisComesTwice : Type 0 where
+  pub each : (p : LinearProgram) (a b : ℕ) (t u : Tableau) → a < b → tableau_at p a ≡ Some t → tableau_at p b ≡ Some u
+      → ¬ HaveSameBasis p t u
+
+-- there is a tableau after fewer pivots than there are bases alone
+pub record PivotsAreFew : Type 0 where
+  pub each : (p : LinearProgram) (k : ℕ) (t : Tableau) → tableau_at p k ≡ Some t → k < bases_of p
+
+-- where as many pivots are allowed as there are bases, no answer is that they don't suffice
+pub record BasesSuffice : Type 0 where
+  pub each : (p : LinearProgram) (allowed k : ℕ) → bases_of p ≤ allowed → ¬ IsAnswer p allowed (Err (Budget k))

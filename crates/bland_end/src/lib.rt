@@ -1,0 +1,15 @@
+//! Bland's rule ends: no two tableaux of the sequence have the same basis, so there are fewer pivots than bases, and
+//! the sequence can be followed to its end without a limit of pivots.
+//! Contract to the layer above: `solve_whole` answers the end, and where it doesn't, why.
+#![tactic(auto)]
+
+mod counting;
+mod laws;
+mod whole;
+
+pub use counting::bases;
+pub use laws::{
+    bases_are_worked_out, bases_decide_tableaux, bases_suffice, no_basis_comes_twice,
+    pivots_are_few,
+};
+pub use whole::{WholeError, solve_whole};

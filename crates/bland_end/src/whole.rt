@@ -1,0 +1,52 @@
+//! The sequence of tableaux, followed to its end.
+
+ghost use Rattle.simplex_core.specs.Problem.{program_of, IsProper};
+ghost use Rattle.bland_end.specs.Whole.{IsWholeEnd};
+
+use crate::counting::bases;
+use simplex_core::{Problem, SolveError, Solved, solve};
+use std::alloc::Global;
+use thiserror::Error;
+
+/// Why the end of the sequence of tableaux isn't reached.
+#[derive(Debug, Drop, Error, PartialEq, Eq)]
+pub enum WholeError {
+    /// After this many pivots a number has a numerator or a denominator of 2^31 or more.
+    #[error("a number is out of range after {pivot} pivots")]
+    Range { pivot: u32 },
+    /// The equations of the table would have this many numbers, which is more than the limit.
+    #[error("a table of {entries} numbers is too wide")]
+    Wide { entries: u64 },
+    /// There are at least 2^32 bases.
+    #[error("there are too many bases")]
+    TooMany,
+    /// Memory ran out.
+    #[error("out of memory")]
+    Memory,
+}
+
+/// Condition: that of `solve`.
+///
+/// The end of Bland's sequence of tableaux, as `solve` gives it, without a limit of pivots: no basis comes twice
+/// (`no_basis_comes_twice`), so as many pivots as there are bases suffice (`bases_suffice`).
+///
+/// # Errors
+///
+/// `TooMany` before all else, exactly where `bases` is None. Then `Wide` where the equations of the table would have
+/// more than 40,000,000,000 numbers; `Range` at the first tableau with a number out of range; `Memory` where memory
+/// runs out.
+pub fn solve_whole(alloc: Global, problem: &Problem) -> Result<Solved, WholeError>
+    requires { IsProper problem.now }
+    ensures { IsWholeEnd (program_of problem.now) result }
+{
+    let Some(pivots) = bases(problem) else {
+        return Err(WholeError::TooMany);
+    };
+    match solve(alloc, problem, pivots) {
+        Ok(solved) => Ok(solved),
+        Err(SolveError::Range { pivot }) => Err(WholeError::Range { pivot }),
+        Err(SolveError::Wide { entries }) => Err(WholeError::Wide { entries }),
+        Err(SolveError::Memory) => Err(WholeError::Memory),
+        Err(SolveError::Budget { .. }) => unreachable!(),
+    }
+}

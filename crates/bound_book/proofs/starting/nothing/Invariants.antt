@@ -1,5 +1,0 @@
-use Rattle.std.proofs.Common.{◌≡◌, replicate, None}
-use Rattle.bound_book.proofs.starting.nothing.Given as goal
-
-abbrev pub invariant-loop : goal.invariant-loop
-invariant-loop l = l.sizes.items ≡ replicate l.counter None

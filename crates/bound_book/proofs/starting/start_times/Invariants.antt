@@ -1,5 +1,0 @@
-use Rattle.bound_book.specs.Starting.{AreStartTimes}
-use Rattle.bound_book.proofs.starting.start_times.Given as goal
-
-abbrev pub invariant-loop : goal.invariant-loop
-invariant-loop l = AreStartTimes l.counter l.times.items

@@ -1,5 +1,0 @@
-use Rattle.bound_book.proofs.WorkedValues.{put_by_key}
-use Rattle.bound_book.proofs.worked.values_are_put_by_key.Goals as goal
-
-pub returns : goal.returns
-returns c = put_by_key

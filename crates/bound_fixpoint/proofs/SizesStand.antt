@@ -1,0 +1,150 @@
+-- What a round finds for components is justified after the earlier finds.
+use Rattle.std.proofs.Common.{◌≡◌, inl, inr, ◌≤◌, true, List, [], ◌∷◌, ◌++◌, length, map, None, refl, sym, subst}
+use Rattle.std.proofs.Common.{arith, All}
+use Rattle.std.proofs.lemmas.List.Elements.{All-nil, All-cons, All-append}
+use Rattle.rule_questions.specs.cert_rules.Nodes.{ResultVariable}
+use Rattle.rule_questions.specs.cert_rules.Setting.{Setting}
+use Rattle.bound_fixpoint.specs.Keys.{Bounds, at_key, rule_numbers}
+use Rattle.bound_fixpoint.specs.Derivations.{Node, EmptyBy, UnreachedBy, NeverBy, RankBy, SpreadBy, CycleBy, Derivation, bounds_of}
+use Rattle.bound_fixpoint.specs.Derivations.{keys_of}
+use Rattle.bound_fixpoint.specs.Needs.{needs_of}
+use Rattle.bound_fixpoint.specs.Standing.{composed_bound, Stands, StandAfter, AllStand}
+use Rattle.bound_fixpoint.specs.Searches.{Searches, searches_of, SizeOutcome, SizedBy, Unsized}
+use Rattle.bound_fixpoint.specs.Answers.{SizesOf, are_open, is_open, Answer, Found, Lacks, derivations_by, TellsSizing}
+use Rattle.bound_fixpoint.specs.Answers.{TellsSize}
+use Rattle.bound_fixpoint.specs.Components.{IsOneOf, AreComponentsOf}
+use Rattle.bound_fixpoint.specs.Rounds.{Tries, TriesAll, InTurn, IsRound, IsMade, Begun, Made}
+use Rattle.bound_fixpoint.specs.Right.{AcceptsSizing, AreRight, AreOne}
+use Rattle.bound_fixpoint.specs.Laws.{MadeDerivationsStand}
+use Rattle.bound_fixpoint.proofs.Cases.{false_true}
+use Rattle.bound_fixpoint.proofs.MissingBounds.{all-has_key}
+use Rattle.bound_fixpoint.proofs.FreshDerivations.{FreshAfter, begins_itself, stand_over, stand-append}
+use Rattle.bound_fixpoint.proofs.KnownPremises.{spread_known, cycle_known}
+use Rattle.bound_fixpoint.proofs.FirstDerivationsStand.{first_stand}
+use Rattle.bound_fixpoint.proofs.DerivationsAreOne.{answers_one}
+use Rattle.bound_fixpoint.proofs.TimesStand.{by_answer, round_times_stand}
+use Rattle.bound_fixpoint.proofs.UniformComponents.{IsWhole, open_all, tried_whole, times_whole, uniform_bounds}
+use Rattle.bound_fixpoint.proofs.UniformComponents.{made_whole}
+
+-- the find of an accepted node that gives sizes
+abbrev pub sizing_derivation : Setting → Bounds → List ResultVariable → Node → Derivation
+sizing_derivation s b keys node = record {
+  keys = keys;
+  node = node;
+  premises = needs_of s b node;
+  bound = composed_bound s b node;
+}
+
+-- it is justified
+sizing_stands : (s : Setting) (b : Bounds) (keys : List ResultVariable) (node : Node) → keys ≡ keys_of s.program node
+    → AcceptsSizing s b node → Stands s b (sizing_derivation s b keys node)
+sizing_stands s b keys (EmptyBy t multipliers) same ok = absurd ok
+sizing_stands s b keys (UnreachedBy t) same ok = absurd ok
+sizing_stands s b keys (NeverBy t) same ok = absurd ok
+sizing_stands s b keys (RankBy node) same ok = absurd ok
+sizing_stands s b keys (SpreadBy m) same ok = record {
+  keys = same;
+  accepted = ok.0;
+  premises = refl;
+  known = spread_known b s m ok.0;
+  bound = refl;
+}
+sizing_stands s b keys (CycleBy members) same ok = record {
+  keys = same;
+  accepted = ok.0;
+  premises = refl;
+  known = cycle_known b s members ok.0;
+  bound = refl;
+}
+
+-- where one of some keys is missing, there are some
+open_long : (b : Bounds) (keys : List ResultVariable) → are_open b keys ≡ true → 1 ≤ length keys
+open_long b [] h = absurd (false_true h)
+open_long b (k ∷ keys) h = omega arith
+
+module _ (q : Searches) (s : Setting) (right : AreRight q s) where
+  -- the find of an answer about a component is justified over these bounds
+  size_stands : (b : Bounds) (keys : List ResultVariable) → is_open b (SizesOf keys) ≡ true → (a : Answer)
+      → TellsSize q s b keys a → All (Stands s b) (derivations_by (SizesOf keys) a)
+  size_stands b keys open_now a h = go h.answer h.answered h.tells
+    where
+      go : (x : SizeOutcome) → q.Sizes b keys x → TellsSizing s b x a → All (Stands s b) (derivations_by (SizesOf keys) a)
+      go (SizedBy node) answered tells =
+          let r = right.sizes b keys (SizedBy node) (open_long b keys open_now) answered in
+          subst (λ (y : Answer). All (Stands s b) (derivations_by (SizesOf keys) y)) (sym tells)
+          (All-cons (Stands s b) (sizing_derivation s b keys node) [] (sizing_stands s b keys node r.same r.accepted)
+          (All-nil (Stands s b)))
+      go (Unsized why) answered tells =
+          subst (λ (y : Answer). All (Stands s b) (derivations_by (SizesOf keys) y)) (sym tells) (All-nil (Stands s b))
+
+  module _ (cs : List (List ResultVariable)) (are : AreComponentsOf q s.program cs) where
+    -- all finds have all members of each component, or none
+    abbrev pub AllWhole : List Derivation → Type 0
+    AllWhole fs = (c : List ResultVariable) → IsOneOf cs c → All (IsWhole c) fs
+
+    -- the keys of a component that was open are fresh
+    tried_fresh : (fs : List Derivation) → AllWhole fs → (c : List ResultVariable) → IsOneOf cs c
+        → is_open (bounds_of s.program fs) (SizesOf c) ≡ true → (a : Answer)
+        → FreshAfter s.program fs (derivations_by (SizesOf c) a)
+    tried_fresh fs whole c one open_now (Lacks why) = tt
+    tried_fresh fs whole c one open_now (Found node premises bound) = (
+      all-has_key (λ (k : ResultVariable). at_key (bounds_of s.program fs) k ≡ None) c
+          (open_all (bounds_of s.program fs) c (uniform_bounds q s cs are c one fs (whole c one)) open_now),
+      tt,
+    )
+
+    -- what is found for a component is justified
+    tried_stands : (fs : List Derivation) → AllWhole fs → (c : List ResultVariable) → IsOneOf cs c → (more : List Derivation)
+        → Tries q s fs (SizesOf c) more → StandAfter s fs more
+    tried_stands fs whole c one more tries =
+        by_answer (λ (xs : List Derivation). StandAfter s fs xs) q s fs (SizesOf c) more tries tt answer
+      where
+        answer : is_open (bounds_of s.program fs) (SizesOf c) ≡ true → (a : Answer)
+            → TellsSize q s (bounds_of s.program fs) c a → StandAfter s fs (derivations_by (SizesOf c) a)
+        answer open_now a tells =
+            stand_over s fs fs (derivations_by (SizesOf c) a) (begins_itself fs)
+            (size_stands (bounds_of s.program fs) c open_now a tells) (tried_fresh fs whole c one open_now a)
+
+    -- the same for what is found for some components, one after the other
+    pub sizes_stand : (fs : List Derivation) → AllWhole fs → (ds : List (List ResultVariable))
+        → ((d : List ResultVariable) → IsOneOf ds d → IsOneOf cs d) → (sizes : List Derivation)
+        → TriesAll q s InTurn fs (map SizesOf ds) sizes → StandAfter s fs sizes
+    sizes_stand fs whole [] all sizes none =
+        subst (λ (xs : List Derivation). StandAfter s fs xs) (sym none) tt
+    sizes_stand fs whole (d ∷ ds) all sizes (first, tries, (rest, e, later)) =
+        subst (λ (xs : List Derivation). StandAfter s fs xs) (sym e)
+        (stand-append s fs first rest (tried_stands fs whole d (all d (inl refl)) first tries)
+        (sizes_stand (fs ++ first) more_whole ds (λ x k. all x (inr k)) rest later))
+      where
+        more_whole : AllWhole (fs ++ first)
+        more_whole c one =
+            All-append (IsWhole c) fs first (whole c one)
+            (tried_whole q s cs are c one fs d (all d (inl refl)) first tries)
+
+module _ (q : Searches) (s : Setting) (right : AreRight q s) (one : AreOne q) where
+  -- what a round finds is justified after the earlier finds
+  round_stands : (fs : List Derivation) → IsMade q s fs → (more : List Derivation) → IsRound q s fs more → StandAfter s fs more
+  round_stands fs made more n =
+      subst (λ (xs : List Derivation). StandAfter s fs xs) (sym n.all)
+      (stand-append s fs n.times n.sizes (round_times_stand q s right fs n.times n.timed)
+      (sizes_stand q s right n.components n.live (fs ++ n.times) whole n.components (λ d k. k) n.sizes n.sized))
+    where
+      whole : (c : List ResultVariable) → IsOneOf n.components c → All (IsWhole c) (fs ++ n.times)
+      whole c is =
+          All-append (IsWhole c) fs n.times
+          (made_whole q s n.components n.live (λ ds h. one.components ds n.components h n.are_components) fs made c is)
+          (times_whole q s n.components n.live c is fs (rule_numbers s.program) n.times n.timed)
+
+  -- so all that rounds find is justified
+  made_stand : (fs : List Derivation) → IsMade q s fs → StandAfter s [] fs
+  made_stand fs (Begun h) = first_stand q s fs h right
+  made_stand fs (Made {fs = old} {more = more} m n) =
+      stand-append s [] old more (made_stand old m) (round_stands old m more n)
+
+  -- of searches whose answers are right, and one to each question
+  pub all_stand : (fs : List Derivation) → IsMade q s fs → AllStand s fs
+  all_stand fs made = record { each = made_stand fs made }
+
+-- what rounds find is justified, where the answers of the searches are right
+pub derivations_stand : MadeDerivationsStand
+derivations_stand = record { each = λ a s right fs made. all_stand (searches_of a) s right (answers_one a) fs made }

@@ -1,0 +1,152 @@
+-- Justified finds of the program with a rule that is never reached, and others that aren't.
+use Rattle.std.proofs.Common.{◌≡◌, ℕ, zero, suc, Bool, List, [], ◌∷◌, Some}
+use Rattle.std.proofs.Common.{None, refl, sym, ◌∙◌, ap, subst, arith}
+use Rattle.std.proofs.lemmas.List.Elements.{All-nil, All-cons, All-head}
+use Rattle.rule_questions.specs.model.Programs.{Rule, rule_at}
+use Rattle.rule_questions.specs.model.Terms.{Variable}
+use Rattle.rule_questions.specs.model.Bounds.{Constant}
+use Rattle.rule_questions.specs.model.Paths.{Here, Onward, HasEdge, HasPath}
+use Rattle.rule_questions.proofs.model.Cases.{none_some}
+use Rattle.rule_questions.specs.cert_rules.Nodes.{ResultVariable}
+use Rattle.rule_questions.specs.cert_rules.Known.{IsKnown}
+use Rattle.rule_questions.specs.cert_rules.Setting.{Setting}
+use Rattle.rule_questions.specs.cert_rules.AcceptsPlain.{IsRule, IsUnreached}
+use Rattle.rule_questions.specs.cert_rules.WorkedSettings.{apart, enter, rule_over}
+use Rattle.bound_fixpoint.specs.Keys.{Bounds, key, time_key, at_key}
+use Rattle.bound_fixpoint.specs.Derivations.{Derivation, bounds_of}
+use Rattle.bound_fixpoint.specs.Standing.{is_left, Stands, IsBeginning, AllStand}
+use Rattle.bound_fixpoint.specs.Beginning.{unreached_derivation, never_derivation}
+
+pub rule_1 : IsRule apart.program 1
+rule_1 = record { rule = enter; numbered = refl }
+
+pub rule_2 : IsRule apart.program 2
+rule_2 = record { rule = rule_over 2 2 0 (Variable 0) []; numbered = refl }
+
+-- rules 1 and 2 are all there are
+pub no_rule_0 : IsRule apart.program 0 → ⊥
+no_rule_0 h = none h.rule h.numbered
+  where
+    none : (r : Rule) → None ≡ Some r → ⊥
+    none r e = cc
+
+pub no_rule_3 : (t : ℕ) → IsRule apart.program (suc (suc (suc t))) → ⊥
+no_rule_3 t h = none h.rule h.numbered
+  where
+    none : (r : Rule) → None ≡ Some r → ⊥
+    none r e = cc
+
+-- an edge to m comes from m
+edge_to_m : (f : ℕ → Bool) (a b : ℕ) → HasEdge apart.program f a b → b ≡ 2 → a ≡ 2
+edge_to_m f a b h e = go h.number h.rule h.numbered h.source h.target
+  where
+    go : (t : ℕ) (r : Rule) → rule_at apart.program t ≡ Some r → r.source ≡ a → r.target ≡ b → a ≡ 2
+    go zero r n s t = absurd (none n)
+      where
+        none : None ≡ Some r → ⊥
+        none x = cc
+    go (suc zero) r n s t =
+        let same : enter ≡ r = cc in
+        let target : ◌≡◌ {A = ℕ} 1 b = ap (λ (x : Rule). x.target) same ∙ t in
+        absurd (omega (arith, target, e))
+    go (suc (suc zero)) r n s t = let source : ◌≡◌ {A = ℕ} 2 a = cc in sym source
+    go (suc (suc (suc k))) r n s t = absurd (none n)
+      where
+        none : None ≡ Some r → ⊥
+        none x = cc
+
+-- so a path to m begins there
+path_to_m : (f : ℕ → Bool) (a b : ℕ) → HasPath apart.program f a b → b ≡ 2 → a ≡ 2
+path_to_m f a b (Here same) e = same ∙ e
+path_to_m f a b (Onward {b = x} r edge) e = path_to_m f a x r (edge_to_m f x b edge e)
+
+-- rule 2 is unreached, whichever rules are allowed, and rule 1 isn't
+pub no_way : (f : ℕ → Bool) → IsUnreached apart.program f 2
+no_way f r numbered way =
+    let source : ◌≡◌ {A = ℕ} 2 r.source = cc in
+    let begins : ◌≡◌ {A = ℕ} 0 2 = path_to_m f 0 r.source way (sym source) in
+    omega (arith, begins)
+
+pub reached : (f : ℕ → Bool) → IsUnreached apart.program f 1 → ⊥
+reached f out = out enter refl (Here refl)
+
+abbrev known_with : List Derivation → Bounds
+known_with fs = bounds_of apart.program fs
+
+abbrev pub IsKnownIn : Bounds → ResultVariable → Type 0
+IsKnownIn bs k = IsKnown (at_key bs k)
+
+abbrev pub IsNew : Bounds → ResultVariable → Type 0
+IsNew bs k = at_key bs k ≡ None
+
+abbrev IsTime : ResultVariable → Type 0
+IsTime k = k.place ≡ 0
+
+abbrev IsZeroTime : Bounds → ResultVariable → Type 0
+IsZeroTime bs k = bs k.rule 0 ≡ Some (Constant 0)
+
+time_stands : Stands apart (known_with []) (unreached_derivation [] 2)
+time_stands = record {
+  keys = refl;
+  accepted = (
+    record { times = All-nil IsTime; zero = All-nil (IsZeroTime (known_with [])) },
+    record { shape = rule_2; reached = no_way (is_left []) },
+  );
+  premises = tt;
+  known = All-nil (IsKnownIn (known_with []));
+  bound = refl;
+}
+
+size_stands : Stands apart (known_with (unreached_derivation [] 2 ∷ [])) (never_derivation apart.program 2)
+size_stands = record {
+  keys = refl;
+  accepted = record { rule = rule_2; zero = refl };
+  premises = refl;
+  known = All-cons (IsKnownIn (known_with (unreached_derivation [] 2 ∷ []))) (time_key 2) [] (Constant 0, refl)
+      (All-nil (IsKnownIn (known_with (unreached_derivation [] 2 ∷ []))));
+  bound = refl;
+}
+
+pub stands : AllStand apart (unreached_derivation [] 2 ∷ never_derivation apart.program 2 ∷ [])
+stands = record {
+  each = (
+    record {
+      before = [];
+      begins = record { between = []; same = refl };
+      stands = time_stands;
+      fresh = All-cons (IsNew (known_with [])) (time_key 2) [] refl (All-nil (IsNew (known_with [])));
+    },
+    (
+      record {
+        before = unreached_derivation [] 2 ∷ [];
+        begins = record { between = []; same = refl };
+        stands = size_stands;
+        fresh = All-cons (IsNew (known_with (unreached_derivation [] 2 ∷ []))) (key 2 1) [] refl
+            (All-nil (IsNew (known_with (unreached_derivation [] 2 ∷ []))));
+      },
+      tt,
+    ),
+  );
+}
+
+-- what begins nothing is nothing
+begins_nothing : (fs : List Derivation) → IsBeginning fs [] → fs ≡ []
+begins_nothing [] h = refl
+begins_nothing (f ∷ fs) h = absurd (some h.same)
+  where
+    some : {x : Derivation} {xs : List Derivation} → x ∷ xs ≡ [] → ⊥
+    some e = cc
+
+-- the first find is justified over no bounds
+pub first_over : (s : Setting) (f : Derivation) (fs : List Derivation) → AllStand s (f ∷ fs) → Stands s (bounds_of s.program []) f
+first_over s f fs h =
+    subst (λ (before : List Derivation). Stands s (bounds_of s.program before) f)
+    (begins_nothing h.each.0.before h.each.0.begins) h.each.0.stands
+
+pub not_without_time : AllStand apart (never_derivation apart.program 2 ∷ []) → ⊥
+not_without_time h = none_some (Constant 0) (first_over apart (never_derivation apart.program 2) [] h).accepted.zero
+
+pub not_resting_on_others : AllStand apart (unreached_derivation (time_key 1 ∷ []) 2 ∷ []) → ⊥
+not_resting_on_others h =
+    none_some (Constant 0) (All-head (IsZeroTime (known_with [])) (time_key 1) []
+    (first_over apart (unreached_derivation (time_key 1 ∷ []) 2) [] h).accepted.0.zero)

@@ -1,0 +1,5 @@
+use Rattle.bound_fixpoint.proofs.StandingLaws.{are_numbered}
+use Rattle.bound_fixpoint.proofs.derivations_are_numbered.Goals as goal
+
+pub returns : goal.returns
+returns c = are_numbered

@@ -1,0 +1,90 @@
+-- The targets of queries in a round, and the results of the searches: a find, or the reason why there is none.
+use Rattle.std.specs.Prelude.{◌≡◌, ℕ, ◌||◌, Bool, false, List, [], ◌∷◌}
+use Rattle.rule_questions.specs.model.Bounds.{Bound}
+use Rattle.rule_questions.specs.cert_rules.Nodes.{ResultVariable}
+use Rattle.rule_questions.specs.cert_rules.Setting.{Setting}
+use Rattle.rule_questions.specs.cert_rules.Limits.{IsSmallComposed}
+use Rattle.rule_questions.specs.cert_rules.Checks.{large_nodes}
+use Rattle.rule_questions.specs.cert_rules.AcceptsRank.{rank_time}
+use Rattle.rule_questions.specs.cert_rules.Gaps.{SymbolPlace}
+use Rattle.bound_fixpoint.specs.Keys.{Bounds, time_key, at_key, lacks, over}
+use Rattle.bound_fixpoint.specs.Derivations.{Node, RankBy, Derivation}
+use Rattle.bound_fixpoint.specs.Needs.{needs_of}
+use Rattle.bound_fixpoint.specs.Standing.{composed_bound}
+use Rattle.bound_fixpoint.specs.Sets.{IsSetOfRule, AreShutOf}
+use Rattle.bound_fixpoint.specs.Searches.{Searches, Ranking, Ranked, Unranked, RankTripped, SizeOutcome, SizedBy, Unsized}
+use Rattle.bound_fixpoint.specs.Searches.{NoBound, OfTime, OfSize}
+use Rattle.outcome.specs.Reports.{NoFunction, TimeTripped, TimeLarge}
+
+-- the target of a query: the time of a rule, or one size for all these places
+pub data Target : Type 0 where
+  TimeOf : ℕ → Target
+  SizesOf : List ResultVariable → Target
+
+-- the keys that get the bound
+abbrev pub keys_asked : Target → List ResultVariable
+keys_asked (TimeOf t) = time_key t ∷ []
+keys_asked (SizesOf keys) = keys
+
+-- whether some of these keys has no bound
+abbrev pub are_open : Bounds → List ResultVariable → Bool
+are_open b [] = false
+are_open b (k ∷ keys) = lacks (at_key b k) || are_open b keys
+
+-- whether a bound of the target is missing
+abbrev pub is_open : Bounds → Target → Bool
+is_open b g = are_open b (keys_asked g)
+
+-- a node with what it needs, and the bound that it composes; or why there is none
+pub data Answer : Type 0 where
+  Found : Node → List ResultVariable → Bound → Answer
+  Lacks : NoBound → Answer
+
+-- the finds of an answer
+abbrev pub derivations_by : Target → Answer → List Derivation
+derivations_by g (Found node premises bound) = record { keys = keys_asked g; node = node; premises = premises; bound = bound } ∷ []
+derivations_by g (Lacks why) = []
+
+-- what a node makes over bounds, where it composes this bound: the bound rewritten, where it is small; else there is
+-- none, as the large bound has this many nodes
+abbrev pub Composes : Setting → Bounds → Node → Bound → Answer → Type 0
+Composes s b node whole (Found n premises bound) = IsSmallComposed s.rewrite whole × (n ≡ node)
+    × (premises ≡ needs_of s b node) × (bound ≡ s.rewrite whole)
+Composes s b node whole (Lacks why) = (¬ (IsSmallComposed s.rewrite whole))
+    × (why ≡ OfTime (TimeLarge (large_nodes s.rewrite whole)))
+
+-- the result of an answer to a rank question
+abbrev pub TellsRanking : Setting → Bounds → Ranking → Answer → Type 0
+TellsRanking s b (Ranked node) a = Composes s b (RankBy node) (rank_time s node (over b)) a
+TellsRanking s b (Unranked g) a = a ≡ Lacks (OfTime (NoFunction g))
+TellsRanking s b (RankTripped t) a = a ≡ Lacks (OfTime (TimeTripped t))
+
+-- and that of an answer about a component
+abbrev pub TellsSizing : Setting → Bounds → SizeOutcome → Answer → Type 0
+TellsSizing s b (SizedBy node) a = a ≡ Found node (needs_of s b node) (composed_bound s b node)
+TellsSizing s b (Unsized why) a = a ≡ Lacks (OfSize why)
+
+-- the rank question of rule t over bounds, and its answer
+pub record AnsweredQuestion (q : Searches) (s : Setting) (b : Bounds) (t : ℕ) : Type 0 where
+  pub set : List ℕ
+  pub shut : List SymbolPlace
+  pub answer : Ranking
+  pub is_set : IsSetOfRule s.program b t set
+  pub are_shut : AreShutOf s.program b set shut
+  pub answered : q.Ranks set t shut answer
+
+-- rule t was queried over bounds, and this is the result on its time
+pub record TellsTime (q : Searches) (s : Setting) (b : Bounds) (t : ℕ) (a : Answer) : Type 0 where
+  pub asked : AnsweredQuestion q s b t
+  pub tells : TellsRanking s b asked.answer a
+
+-- places were queried over bounds, and this is the result on their size
+pub record TellsSize (q : Searches) (s : Setting) (b : Bounds) (keys : List ResultVariable) (a : Answer) : Type 0 where
+  pub answer : SizeOutcome
+  pub answered : q.Sizes b keys answer
+  pub tells : TellsSizing s b answer a
+
+-- the result of the searches on a target, over bounds
+abbrev pub Tells : Searches → Setting → Bounds → Target → Answer → Type 0
+Tells q s b (TimeOf t) a = TellsTime q s b t a
+Tells q s b (SizesOf keys) a = TellsSize q s b keys a

@@ -1,0 +1,35 @@
+-- Facts that state bounds: those of a table alone, and when lists of them state what is known.
+use Rattle.std.specs.Prelude.{◌≡◌, ◌⊎◌, ℕ, List, [], ◌∷◌, Some}
+use Rattle.std.specs.List.{All, Contains}
+use Rattle.rule_questions.specs.model.Bounds.{Bound}
+use Rattle.rule_questions.specs.model.Facts.{Fact, Time, Size, Cost}
+use Rattle.rule_questions.specs.cert_rules.Setting.{Setting}
+use Rattle.rule_questions.specs.cert_rules.AcceptsPlain.{IsRule, start_facts}
+use Rattle.rule_questions.specs.cert_rules.Acceptance.{facts_of_lemma}
+use Rattle.bound_fixpoint.specs.Keys.{Bounds, place_fact, size_by}
+
+-- the fact is that of a known bound, of a time or of a size
+abbrev pub IsFactOf : Bounds → Fact → Type 0
+IsFactOf b (Time t c) = b t 0 ≡ Some c
+IsFactOf b (Size t i c) = size_by b t i ≡ Some c
+IsFactOf b (Cost t c) = ⊥
+
+-- all these facts are
+abbrev pub AreFactsOf : Bounds → List Fact → Type 0
+AreFactsOf b facts = All (IsFactOf b) facts
+
+-- by these numbers a bound is stated: it is one of the virtual entry, whose number is 0, or one of the lemma with its
+-- number
+abbrev pub IsStatedBy : Setting → List (List Fact) → (ℕ → ℕ → ℕ) → ℕ → ℕ → Bound → Type 0
+IsStatedBy s past number t i c = ((number t i ≡ 0) × Contains (start_facts s.program) (place_fact t i c))
+    ⊎ Contains (facts_of_lemma past (number t i)) (place_fact t i c)
+
+-- lemmas and the virtual entry state bounds that are known, and by these numbers all of some, which are the same; and
+-- the lemma of a rule's time states nothing else
+pub record SayBounds (s : Setting) (past : List (List Fact)) (number : ℕ → ℕ → ℕ) (b all : Bounds) : Type 0 where
+  pub keeps : (t i : ℕ) (c : Bound) → b t i ≡ Some c → all t i ≡ Some c
+  pub are : All (AreFactsOf all) past
+  pub start : AreFactsOf all (start_facts s.program)
+  pub stated : (t i : ℕ) (c : Bound) → b t i ≡ Some c → IsStatedBy s past number t i c
+  pub alone : (t : ℕ) (c : Bound) → IsRule s.program t → b t 0 ≡ Some c
+      → facts_of_lemma past (number t 0) ≡ Time t c ∷ []

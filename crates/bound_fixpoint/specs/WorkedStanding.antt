@@ -1,0 +1,37 @@
+-- Worked values of when finds are justified, for the program that counts down: k(A) -> l(A), and l(A) -> l(A - 1) where
+-- A >= 1.
+use Rattle.std.specs.Prelude.{List, [], ◌∷◌}
+use Rattle.rule_questions.specs.model.Bounds.{Bound, Constant}
+use Rattle.rule_questions.specs.cert_rules.Nodes.{ResultVariable, RankNode}
+use Rattle.rule_questions.specs.cert_rules.WorkedSettings.{counting, apart}
+use Rattle.rule_questions.specs.cert_rules.Worked.{once_node, once_time, alone_node}
+use Rattle.bound_fixpoint.specs.Keys.{key, time_key}
+use Rattle.bound_fixpoint.specs.Derivations.{RankBy, Derivation}
+use Rattle.bound_fixpoint.specs.Standing.{AllStand}
+use Rattle.bound_fixpoint.specs.Beginning.{unreached_derivation, never_derivation}
+use Rattle.bound_fixpoint.specs.WorkedDerivations.{once_derivation, entered_derivation, looped_derivation, alone_derivation, alone_time}
+
+-- a find by a ranking function, with these keys, needs and bound
+abbrev pub ranked_derivation : List ResultVariable → RankNode → List ResultVariable → Bound → Derivation
+ranked_derivation keys node premises bound = record { keys = keys; node = RankBy node; premises = premises; bound = bound }
+
+-- each of the four finds has premises among those before it. A find isn't justified before its premises, nor twice, nor
+-- with another bound than the composed one, with its premises in another order, with one of them twice, without one, or
+-- for another key. In the program with an unreached rule, its time is justified, and then the size after it, which
+-- isn't without the time; and with another rule's time, which isn't 0, among its premises, the rule isn't unreached
+pub record StandingIsWorkedOut : Type 0 where
+  pub none : AllStand counting []
+  pub four : AllStand counting (once_derivation ∷ entered_derivation ∷ alone_derivation ∷ looped_derivation ∷ [])
+  pub not_before : ¬ (AllStand counting (once_derivation ∷ alone_derivation ∷ entered_derivation ∷ []))
+  pub not_loop_before : ¬ (AllStand counting (looped_derivation ∷ entered_derivation ∷ []))
+  pub not_twice : ¬ (AllStand counting (once_derivation ∷ once_derivation ∷ []))
+  pub not_bound : ¬ (AllStand counting (ranked_derivation (time_key 1 ∷ []) once_node (time_key 0 ∷ []) (Constant 1) ∷ []))
+  pub not_turned : ¬ (AllStand counting (once_derivation ∷ entered_derivation
+      ∷ ranked_derivation (time_key 2 ∷ []) alone_node (key 1 1 ∷ time_key 1 ∷ []) alone_time ∷ []))
+  pub not_needed_twice : ¬ (AllStand counting (ranked_derivation (time_key 1 ∷ []) once_node
+      (time_key 0 ∷ time_key 0 ∷ []) once_time ∷ []))
+  pub not_without_need : ¬ (AllStand counting (ranked_derivation (time_key 1 ∷ []) once_node [] once_time ∷ []))
+  pub not_other_key : ¬ (AllStand counting (ranked_derivation (time_key 2 ∷ []) once_node (time_key 0 ∷ []) once_time ∷ []))
+  pub unreached : AllStand apart (unreached_derivation [] 2 ∷ never_derivation apart.program 2 ∷ [])
+  pub not_without_time : ¬ (AllStand apart (never_derivation apart.program 2 ∷ []))
+  pub not_resting_on_others : ¬ (AllStand apart (unreached_derivation (time_key 1 ∷ []) 2 ∷ []))

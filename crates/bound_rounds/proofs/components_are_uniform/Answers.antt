@@ -1,5 +1,0 @@
-use Rattle.bound_rounds.proofs.UniformComponents.{uniform_components}
-use Rattle.bound_rounds.proofs.components_are_uniform.Goals as goal
-
-pub returns : goal.returns
-returns c = uniform_components

@@ -1,0 +1,7 @@
+use Rattle.its_model.specs.Views.{program_of}
+use Rattle.cert_context.proofs.WrittenCosts.{AreCostsSoFar}
+use Rattle.cert_context.proofs.costs.all_costs.Given as goal
+
+-- the rules so far
+abbrev pub invariant-loop-i : goal.invariant-loop-i
+invariant-loop-i l = AreCostsSoFar (program_of l.p) l.i l.costs.items

@@ -1,0 +1,50 @@
+//! Looks up known facts, by key.
+
+ghost use Rattle.std.specs.Prelude.{◌≡◌, Some};
+ghost use Rattle.cert_context.specs.Lookups.{HasSizes, HasTimes, bound_at as bound_at_position, facts_at};
+ghost use Rattle.cert_types.specs.Lookups.{optional_bound};
+ghost use Rattle.cert_types.specs.cert_rules.Known.{table_of};
+
+use crate::stating::bound_at;
+use bound_expr::Bound;
+use cert_types::{Fact, Known};
+use std::collections::BTreeMap;
+
+/// The facts of a node's premises, in order: for each rule the position of its first time, and for each place after a
+/// rule that of its first size.
+#[derive(Drop)]
+pub struct Lookup<'a> {
+    pub facts: Vec<&'a Fact>,
+    pub times: BTreeMap<u32, usize>,
+    pub sizes: BTreeMap<(u32, u32), usize>,
+    ghost times_told: { HasTimes (facts_at facts.items) times },
+    ghost sizes_told: { HasSizes (facts_at facts.items) sizes },
+}
+
+impl<'a> Known for Lookup<'a> {
+    ghost table = { λ l. table_of (facts_at l.facts.items) };
+
+    fn time(&self, rule: u32) -> Option<&Bound> {
+        match self.times.get(&rule) {
+            Some(position) => bound_from(&self.facts, *position),
+            None => None,
+        }
+    }
+
+    fn size(&self, rule: u32, place: u32) -> Option<&Bound> {
+        match self.sizes.get(&(rule, place)) {
+            Some(position) => bound_from(&self.facts, *position),
+            None => None,
+        }
+    }
+}
+
+// The bound of the fact at a position, where there is one.
+fn bound_from<'a>(facts: &[&'a Fact], position: usize) -> Option<&'a Bound>
+    ensures { optional_bound result ≡ bound_at_position (facts_at facts.now) (Some position) }
+{
+    match facts.get(position) {
+        Some(fact) => Some(bound_at(*fact)),
+        None => None,
+    }
+}

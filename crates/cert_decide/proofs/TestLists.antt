@@ -1,0 +1,55 @@
+-- Tests that decide checks, one by one, give the first reason.
+use Rattle.std.proofs.Common.{◌≡◌, inl, inr, Bool, true, false, cond, List, [], ◌∷◌, Some, None, refl, sym, ap, ◌∙◌}
+use Rattle.std.specs.Bool.{Decides}
+use Rattle.cert_program.proofs.model.Membership.{no_is_not_yes}
+use Rattle.cert_program.specs.cert_rules.Reasons.{Reason, Check, for_each, IsFirstAmong}
+use Rattle.cert_decide.specs.Tests.{Test, first_failing}
+
+-- each test decides its check, and has its reason
+abbrev pub AllDecide : List Check → List Test → Type 0
+AllDecide [] [] = Unit {0}
+AllDecide [] (t ∷ ts) = ⊥
+AllDecide (c ∷ cs) [] = ⊥
+AllDecide (c ∷ cs) (t ∷ ts) = (c.reason ≡ t.reason) × (Decides t.passes c.holds × AllDecide cs ts)
+
+-- a reason that the tests give is the first among the checks
+pub first-sound : (cs : List Check) (ts : List Test) → AllDecide cs ts → (r : Reason) → first_failing ts ≡ Some r
+    → IsFirstAmong cs r
+first-sound [] [] h r e = none_some e
+  where
+    none_some : None ≡ Some r → ⊥
+    none_some k = cc
+first-sound [] (t ∷ ts) h r e = absurd h
+first-sound (c ∷ cs) [] h r e = absurd h
+first-sound (c ∷ cs) (t ∷ ts) h r e = go t.passes refl (first-sound cs ts h.1.1 r) e
+  where
+    go : (v : Bool) → t.passes ≡ v → (first_failing ts ≡ Some r → IsFirstAmong cs r)
+        → cond v (first_failing ts) (Some t.reason) ≡ Some r → IsFirstAmong (c ∷ cs) r
+    go true p later k = inr (h.1.0.0 p, later k)
+    go false p later k = inl ((λ x. no_is_not_yes t.passes p (h.1.0.1 x)), h.0 ∙ same k)
+      where
+        same : Some t.reason ≡ Some r → t.reason ≡ r
+        same l = cc
+
+-- the first reason among the checks is the one that the tests give
+pub first-complete : (cs : List Check) (ts : List Test) → AllDecide cs ts → (r : Reason) → IsFirstAmong cs r
+    → first_failing ts ≡ Some r
+first-complete [] [] h r k = absurd k
+first-complete [] (t ∷ ts) h r k = absurd h
+first-complete (c ∷ cs) [] h r k = absurd h
+first-complete (c ∷ cs) (t ∷ ts) h r k = go t.passes refl (first-complete cs ts h.1.1 r) k
+  where
+    go : (v : Bool) → t.passes ≡ v → (IsFirstAmong cs r → first_failing ts ≡ Some r) → IsFirstAmong (c ∷ cs) r
+        → cond v (first_failing ts) (Some t.reason) ≡ Some r
+    go true p later (inl l) = absurd (l.0 (h.1.0.0 p))
+    go true p later (inr l) = later l.1
+    go false p later (inl l) = ap Some (sym h.0 ∙ l.1)
+    go false p later (inr l) = absurd (no_is_not_yes t.passes p (h.1.0.1 l.0))
+
+-- a test for each element decides a check for each element
+module _ {X : Type 0} (f : X → Check) (g : X → Test) (cs : List Check) (ts : List Test) where
+  -- tests for each element, with the reasons of its checks, decide them, before further ones that decide
+  pub each-decides : ((x : X) → (f x).reason ≡ (g x).reason) → ((x : X) → Decides (g x).passes (f x).holds)
+      → AllDecide cs ts → (xs : List X) → AllDecide (for_each f xs cs) (for_each g xs ts)
+  each-decides same decides rest [] = rest
+  each-decides same decides rest (x ∷ xs) = (same x, (decides x, each-decides same decides rest xs))

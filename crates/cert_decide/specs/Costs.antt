@@ -1,0 +1,50 @@
+-- Tests of nodes on costs.
+use Rattle.std.specs.Prelude.{ℕ, ◌&&◌, Bool, true, false, List, [], ◌∷◌, Option, Some, None, is_some}
+use Rattle.cert_program.specs.model.Programs.{Program, Rule, rule_at}
+use Rattle.cert_program.specs.model.Paths.{pre}
+use Rattle.cert_program.specs.linear_forms.Certificates.{minus_one}
+use Rattle.cert_program.specs.cert_rules.Nodes.{CostBy, EmptyCost, NeverCost, SideBoundCost, CostNode}
+use Rattle.cert_program.specs.cert_rules.Known.{known, is_zero_bound, Table}
+use Rattle.cert_program.specs.cert_rules.Setting.{Setting, costs_of}
+use Rattle.cert_program.specs.cert_rules.AcceptsSizes.{Up, left_of}
+use Rattle.cert_program.specs.cert_rules.AcceptsCosts.{cost_result_variable, side_bound_cost}
+use Rattle.cert_program.specs.cert_rules.Reasons.{Shape, NotEmpty, NotZero, SideBoundUp, for_each}
+use Rattle.cert_program.specs.cert_rules.Checks.{needed_at_cost}
+use Rattle.cert_decide.specs.Tests.{Test, test}
+use Rattle.cert_decide.specs.Numbers.{are_multipliers, implies}
+use Rattle.cert_decide.specs.Ranking.{test_time, test_size, test_small}
+use Rattle.cert_decide.specs.Sizes.{has_side_bound_shape, accepts_side_bound}
+
+-- there is a rule, and a cost is written at it
+abbrev pub is_costly : Option Rule → Bool
+is_costly None = false
+is_costly (Some r) = is_some r.cost
+
+-- a cost is written at the rule with this number
+abbrev pub has_cost : Program → ℕ → Bool
+has_cost p t = is_costly (rule_at p t)
+
+-- there is a multiplier for each cost row, or the numbers of an arm over them are right
+abbrev pub has_cost_numbers : Setting → ℕ → CostBy → Bool
+has_cost_numbers s t (EmptyCost multipliers) = are_multipliers (costs_of s) t multipliers
+has_cost_numbers s t NeverCost = true
+has_cost_numbers s t (SideBoundCost side_bound) = has_side_bound_shape (costs_of s) t (left_of s.program t) side_bound
+
+-- that the cost rows add up to -1; that the rule has a time, and that it is 0; or the arm, the time of the rule, a size
+-- for each place that the arm reads after what can come before, and that the composed bound is small
+abbrev pub cost_tests_by : Setting → Table → ℕ → CostBy → List Test
+cost_tests_by s table t (EmptyCost multipliers) =
+    test NotEmpty (implies (s.cost_rows t) multipliers minus_one) ∷ []
+cost_tests_by s table t NeverCost =
+    test_time table t ∷ test NotZero (is_zero_bound (known (table.time t))) ∷ []
+cost_tests_by s table t (SideBoundCost side_bound) =
+    test (SideBoundUp t 0) (accepts_side_bound (costs_of s) (cost_result_variable t) Up side_bound) ∷
+    test_time table t ∷
+    for_each (test_size table) (needed_at_cost s t side_bound (pre s.program t))
+    (test_small s (side_bound_cost s table t side_bound) ∷ [])
+
+-- the shape, and then how the cost is shown
+abbrev pub cost_tests : Setting → Table → CostNode → List Test
+cost_tests s table node =
+    test Shape (has_cost s.program node.rule && has_cost_numbers s node.rule node.by) ∷
+    cost_tests_by s table node.rule node.by

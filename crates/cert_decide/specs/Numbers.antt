@@ -1,0 +1,45 @@
+-- Tests of numbers: whether they are within their limits, whether they ascend, and whether multipliers show that a form
+-- follows from rows.
+use Rattle.std.specs.Prelude.{ℕ, ◌==◌, ◌&&◌, max, nat_lt, nat_le, int_le, Bool, true, List, [], ◌∷◌, length, nat_abs}
+use Rattle.std.specs.List.{list_all, range_with_len}
+use Rattle.std.specs.Ordering.{int_eq}
+use Rattle.cert_program.specs.linear_forms.Forms.{Form, at}
+use Rattle.cert_program.specs.linear_forms.Certificates.{combined_coef, combined_constant}
+use Rattle.cert_program.specs.linear_forms.Limits.{certificate_limit}
+use Rattle.cert_program.specs.cert_rules.Setting.{Setting}
+
+-- a number is at most 2^56
+abbrev pub is_in_limit : ℕ → Bool
+is_in_limit n = nat_le n certificate_limit
+
+-- each of these is within the limit
+abbrev pub are_in_limit : List ℕ → Bool
+are_in_limit ns = list_all is_in_limit ns
+
+-- and each number of a form, in absolute value
+abbrev pub is_form_in_limit : Form → Bool
+is_form_in_limit f = list_all (λ c. is_in_limit (nat_abs c)) f.coefs && is_in_limit (nat_abs f.constant)
+
+-- there is a multiplier for each row of a rule, within the limit
+abbrev pub are_multipliers : Setting → ℕ → List ℕ → Bool
+are_multipliers s t multipliers = (length multipliers == length (s.rows t)) && are_in_limit multipliers
+
+-- each number is less than the next
+abbrev pub is_ascending : List ℕ → Bool
+is_ascending [] = true
+is_ascending (x ∷ []) = true
+is_ascending (x ∷ y ∷ rest) = nat_lt x y && is_ascending (y ∷ rest)
+
+-- the most coefficients that one of these forms has
+abbrev pub longest : List Form → ℕ
+longest [] = 0
+longest (f ∷ fs) = max (length f.coefs) (longest fs)
+
+-- the multipliers show that the goal is at least 0 where the rows are: one for each row, the same coefficient of every
+-- unknown that the goal or a row has, and a constant that isn't above the goal's
+abbrev pub implies : List Form → List ℕ → Form → Bool
+implies rows multipliers goal =
+    (length multipliers == length rows)
+    && list_all (λ u. int_eq (at goal.coefs u) (combined_coef multipliers rows u))
+    (range_with_len 0 (longest (goal ∷ rows)))
+    && int_le (combined_constant multipliers rows) goal.constant

@@ -1,0 +1,17 @@
+-- Tests that are made one after the other, and the reason of the first that fails.
+use Rattle.std.specs.Prelude.{Bool, cond, List, [], ◌∷◌, Option, Some, None}
+use Rattle.cert_program.specs.cert_rules.Reasons.{Reason}
+
+-- a test, and the reason where it fails
+pub record Test : Type 0 where
+  pub reason : Reason
+  pub passes : Bool
+
+-- the test with this answer
+abbrev pub test : Reason → Bool → Test
+test reason passes = record { reason = reason; passes = passes }
+
+-- the reason of the first test that fails, where one does
+abbrev pub first_failing : List Test → Option Reason
+first_failing [] = None
+first_failing (t ∷ ts) = cond t.passes (first_failing ts) (Some t.reason)

@@ -1,0 +1,130 @@
+-- Where the first part is that is too deep, and that it comes no later as more is read.
+use Rattle.std.proofs.Common.{◌≡◌, ℕ, zero, suc, ◌<◌, ◌≤◌, Bool, true, false, cond, nat_lt, List, [], ◌∷◌, length}
+use Rattle.std.proofs.Common.{Option, Some, None, refl, ap, subst, ◌∙◌, arith, length-append}
+use Rattle.std.specs.Prelude.{◌||◌, slice_get}
+use Rattle.bound_text.specs.Pieces.{Piece}
+use Rattle.bound_text.specs.Kinds as kinds
+use Rattle.bound_text.specs.Fronts.{Front}
+use Rattle.bound_text.specs.Inside.{Marks, deep_among, front_marks}
+use Rattle.bound_text.specs.Carrying.{limited_step}
+use Rattle.text_grammar.specs.text_core.Tokens.{Token}
+use Rattle.cert_lexer.specs.declared.outline.Lead.{Lead}
+use Rattle.cert_lexer.specs.Bounds.{bound_levels}
+use Rattle.cert_lexer.specs.Levels.{has_deep, is_deep, raised, raised_from, shallow, raises, mark_of}
+use Rattle.cert_lexer.specs.Outlines.{frames_of, innermost_of, innermost_frame, lead}
+use Rattle.cert_lexer.specs.Following.{IsStanding, begun_in, Follows, FollowsWhere}
+use Rattle.cert_lexer.proofs.LeadLaws.{outlines_lead}
+use Rattle.cert_lexer.proofs.ShallowLaws.{shallow_deep, has_both, from_shallow, from_has, or_true}
+
+-- with none too deep none is refused
+pub none_found : (ms : Marks) (ts : List (Token Piece)) → has_deep ms ≡ false → deep_among bound_levels ms ts ≡ []
+none_found [] ts e = refl
+none_found (m ∷ ms) [] e = refl
+none_found (None ∷ ms) (t ∷ ts) e = none_found ms ts e
+none_found (Some level ∷ ms) (t ∷ ts) e = go (nat_lt bound_levels level) e (λ k. none_found ms ts k)
+  where
+    go : (v : Bool) → v || has_deep ms ≡ false → (has_deep ms ≡ false → deep_among bound_levels ms ts ≡ [])
+        → cond v (record { kind = kinds.TooDeep; at = t.at } ∷ []) (deep_among bound_levels ms ts) ≡ []
+    go true e ih = cc
+    go false e ih = ih e
+
+-- else the first one is, where the marks before it end
+pub one_found : (ms : Marks) (ts : List (Token Piece)) (t : Token Piece) → has_deep ms ≡ true
+    → slice_get ts (length (shallow ms)) ≡ Some t → deep_among bound_levels ms ts ≡ record { kind = kinds.TooDeep; at = t.at } ∷ []
+one_found [] ts t e k = cc
+one_found (m ∷ ms) [] t e k = cc
+one_found (None ∷ ms) (u ∷ ts) t e k = one_found ms ts t e k
+one_found (Some level ∷ ms) (u ∷ ts) t e k = go (nat_lt bound_levels level) e k (λ h l. one_found ms ts t h l)
+  where
+    go : (v : Bool) → v || has_deep ms ≡ true → slice_get (u ∷ ts) (length (cond v [] (Some level ∷ shallow ms))) ≡ Some t
+        → (has_deep ms ≡ true → slice_get ts (length (shallow ms)) ≡ Some t → deep_among bound_levels ms ts ≡ record { kind = kinds.TooDeep; at = t.at } ∷ [])
+        → cond v (record { kind = kinds.TooDeep; at = u.at } ∷ []) (deep_among bound_levels ms ts) ≡ record { kind = kinds.TooDeep; at = t.at } ∷ []
+    go true e k ih =
+        let same : u ≡ t = cc in
+        ap (λ (x : Token Piece). record { kind = kinds.TooDeep; at = x.at } ∷ []) same
+    go false e k ih = ih e k
+
+-- as many marks as there are, at most, are before it, and fewer where there is one
+pub shallow_within : (ms : Marks) → length (shallow ms) ≤ length ms
+shallow_within [] = omega arith
+shallow_within (m ∷ ms) = go (is_deep m) (shallow_within ms)
+  where
+    go : (v : Bool) → length (shallow ms) ≤ length ms → length (cond v [] (m ∷ shallow ms)) ≤ suc (length ms)
+    go true h = omega arith
+    go false h = omega (arith, h)
+
+pub deep_within : (ms : Marks) → has_deep ms ≡ true → length (shallow ms) < length ms
+deep_within [] e = cc
+deep_within (m ∷ ms) e = go (is_deep m) e (λ k. deep_within ms k)
+  where
+    go : (v : Bool) → v || has_deep ms ≡ true → (has_deep ms ≡ true → length (shallow ms) < length ms)
+        → length (cond v [] (m ∷ shallow ms)) < suc (length ms)
+    go true e ih = omega arith
+    go false e ih = let h = ih e in omega (arith, h)
+
+-- raised marks are as many
+raised_length : (ms : Marks) → length (raised ms) ≡ length ms
+raised_length [] = refl
+raised_length (m ∷ ms) = ap suc (raised_length ms)
+
+from_length : (n : ℕ) (ms : Marks) → length (raised_from n ms) ≡ length ms
+from_length zero ms = raised_length ms
+from_length (suc n) [] = refl
+from_length (suc n) (m ∷ ms) = ap suc (from_length n ms)
+
+-- raised or not
+pub either_length : (v : Bool) (n : ℕ) (ms : Marks) → length (cond v (raised_from n ms) ms) ≡ length ms
+either_length true n ms = from_length n ms
+either_length false n ms = refl
+
+-- what is too deep stays so, and the first such part comes no later
+either_deep : (v : Bool) (n : ℕ) (ms : Marks) → has_deep ms ≡ true → has_deep (cond v (raised_from n ms) ms) ≡ true
+either_deep true n ms e = from_has n ms ∙ ap (λ (w : Bool). has_deep (raised_from n (shallow ms)) || w) e ∙ or_true (has_deep (raised_from n (shallow ms)))
+either_deep false n ms e = e
+
+either_shallow : (v : Bool) (n : ℕ) (ms : Marks) → length (shallow (cond v (raised_from n ms) ms)) ≤ length (shallow ms)
+either_shallow true n ms =
+    let e = ap length (from_shallow n ms) in
+    let w = shallow_within (raised_from n (shallow ms)) in
+    omega (arith, e, w, from_length n (shallow ms))
+either_shallow false n ms = omega arith
+
+-- where a piece leads on, outline and levels follow
+leads_on : (f g : Front) (piece : Piece) (reached : Option Front) (l : Option Lead) → reached ≡ Some g → FollowsWhere f piece reached l
+    → (k : Lead) × (l ≡ Some k) × Follows f piece g k
+leads_on f g piece None l e h = cc
+leads_on f g piece (Some x) None e h = absurd h
+leads_on f g piece (Some x) (Some k) e h = let same : x ≡ g = cc in (k, refl, subst (λ (y : Front). Follows f piece y k) same h)
+
+pub led_on : (f g : Front) (piece : Piece) → IsStanding f → limited_step f piece ≡ Some g
+    → (k : Lead) × (lead (innermost_frame (frames_of f.outer)) (innermost_of f) piece ≡ Some k) × Follows f piece g k
+led_on f g piece s e = leads_on f g piece (limited_step f piece) (lead (innermost_frame (frames_of f.outer)) (innermost_of f) piece) e (outlines_lead.each f piece s)
+
+-- so a piece adds a mark
+pub one_more : (f g : Front) (piece : Piece) → IsStanding f → limited_step f piece ≡ Some g
+    → length (front_marks g) ≡ suc (length (front_marks f))
+one_more f g piece s e =
+    let t = led_on f g piece s e in
+    let i = innermost_of f in
+    let round = innermost_frame (frames_of f.outer) in
+    let marks = cond (raises round i piece) (raised_from (begun_in f).start (front_marks f)) (front_marks f) in
+    let m = ap length t.2.marks in
+    let a = length-append marks (mark_of (begun_in f).above round i piece ∷ []) in
+    let b = either_length (raises round i piece) (begun_in f).start (front_marks f) in
+    omega (arith, m, a, b)
+
+-- and what is too deep stays so, no later
+pub stays_deep : (f g : Front) (piece : Piece) → IsStanding f → limited_step f piece ≡ Some g → has_deep (front_marks f) ≡ true
+    → (has_deep (front_marks g) ≡ true) × (length (shallow (front_marks g)) ≤ length (shallow (front_marks f)))
+stays_deep f g piece s e deep =
+    let t = led_on f g piece s e in
+    let i = innermost_of f in
+    let round = innermost_frame (frames_of f.outer) in
+    let marks = cond (raises round i piece) (raised_from (begun_in f).start (front_marks f)) (front_marks f) in
+    let mark = mark_of (begun_in f).above round i piece ∷ [] in
+    let d = either_deep (raises round i piece) (begun_in f).start (front_marks f) deep in
+    let k = ap (λ (ms : Marks). length (shallow ms)) t.2.marks ∙ ap length (shallow_deep marks mark d) in
+    let w = either_shallow (raises round i piece) (begun_in f).start (front_marks f) in (
+      ap has_deep t.2.marks ∙ has_both marks mark ∙ ap (λ (v : Bool). v || has_deep mark) d,
+      omega (arith, k, w),
+    )

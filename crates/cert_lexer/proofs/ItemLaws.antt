@@ -1,0 +1,367 @@
+-- Outlines and levels follow what is carried behind an item.
+use Rattle.std.proofs.Common.{◌≡◌, ℕ, suc, ◌^◌, ◌-◌, Bool, true, false, cond, not, nat_lt, nat_le, [], ◌∷◌}
+use Rattle.std.proofs.Common.{◌++◌, length, Option, Some, None, refl, ap, sym, subst, ◌∙◌, arith}
+use Rattle.std.specs.Prelude.{◌&&◌, is_some}
+use Rattle.std.specs.Option.{option_map}
+use Rattle.std.proofs.lemmas.Bool.{and_parts, not-true}
+use Rattle.std.proofs.lemmas.Bool.Decides.{nat_tests}
+use Rattle.its_model.specs.model.Bounds.{Bound, Constant, Input, SumOf, ProductOf, MaximumOf, PowerOf, Parts, NoParts}
+use Rattle.its_model.specs.model.Bounds.{Part}
+use Rattle.bound_text.specs.Shapes.{is_empty, is_sum, is_maximum, with_part}
+use Rattle.bound_text.specs.Pieces.{Piece, Close, Times, Caret, Blank, Comma}
+use Rattle.bound_text.specs.Writing.{Nothing, plus_between}
+use Rattle.bound_text.specs.Fronts.{Bracket, Arguments, Exponent, Factor, Outer, Whole, Inside, Begins}
+use Rattle.bound_text.specs.Fronts.{PowerCaret, ItemRead, BlankRead, last, init, is_input}
+use Rattle.bound_text.specs.Fronts.{can_end, bound_of_parts, can_be_argument, in_factor, in_arguments, levels_above}
+use Rattle.bound_text.specs.Fronts.{sum_node, sum_at, product_node, product_node_round, node_of_any}
+use Rattle.bound_text.specs.Steps.{when, step_at, front_at, behind_factor, item_of, can_close, caret_behind}
+use Rattle.bound_text.specs.Checks.{has_large_base_at, is_large_number}
+use Rattle.bound_text.specs.Inside.{Marks, factors_marks, star_marks, each_marks, outer_marks, bracket_marks}
+use Rattle.bound_text.specs.Inside.{level_behind, front_marks}
+use Rattle.bound_text.proofs.PartLaws.{last-with_part, init-with_part, product_node-with_part, is_empty-with_part}
+use Rattle.bound_text.proofs.MarkLaws.{constant_behind, input_behind, ends_nothing}
+use Rattle.bound_text.proofs.SoundnessLaws.{unsnoc}
+use Rattle.cert_lexer.specs.declared.outline.Shape.{Shape}
+use Rattle.cert_lexer.specs.declared.outline.Shape.TheVariants as shape
+use Rattle.cert_lexer.specs.declared.outline.Stage.TheVariants as stage
+use Rattle.cert_lexer.specs.declared.outline.Change.TheVariants as change
+use Rattle.cert_lexer.specs.Outlines.{shape_of, last_of, is_last_input, any_factor, before_last, innermost_of, with_item}
+use Rattle.cert_lexer.specs.Outlines.{opening_of, frames_of, innermost_frame, lead_at, takes_back, ends_term}
+use Rattle.cert_lexer.specs.Outlines.{bound_shape, closes_behind, item_shape, behind_bracket, is_maximum_shape, in_maximum}
+use Rattle.cert_lexer.specs.Levels.{raised_from, raised, before_term, node_if}
+use Rattle.cert_lexer.specs.Levels.{is_factor_frame, is_product}
+use Rattle.cert_lexer.specs.Following.{Follows, FollowsWhere}
+use Rattle.cert_lexer.proofs.MarkMoves.{factors_behind, each_behind, term_raised, moved_factors}
+use Rattle.cert_lexer.proofs.MarkMoves.{deeper, bracket_behind}
+use Rattle.cert_lexer.proofs.OutlineLaws.{item_outlined, input_shown, end_shown, product_shown, bound_shown}
+use Rattle.cert_lexer.proofs.OutlineLaws.{maximum_shown, close_shown, arguments_shown, factor_shown}
+use Rattle.cert_lexer.proofs.BracketMarks.{other_behind, level_more, inside_marks}
+use Rattle.cert_lexer.proofs.BracketMarks.{sum_in, item_marks, item_other, item_node}
+use Rattle.cert_lexer.specs.Levels.{begun_round}
+use Rattle.cert_lexer.proofs.FollowLaws.{when_follows, factors_add, star_add}
+
+-- a factor is a level deeper behind its first `*`
+times_marks : (o : Outer) (ts fs : Parts) → is_empty fs ≡ false
+    → front_marks (front_at o ts fs Begins)
+    ≡ cond (not (is_product (before_last (last_of fs) (last_of (init fs))) (last_of fs)))
+    (raised_from (length (before_term o (sum_node o ts) ts)) (front_marks (front_at o ts fs ItemRead)))
+    (front_marks (front_at o ts fs ItemRead)) ++ None ∷ []
+times_marks o ts fs some =
+    starred fs some ∙ go (is_product (before_last (last_of fs) (last_of (init fs))) (last_of fs)) (product_shown fs)
+  where
+    high : ℕ
+    high = level_behind (levels_above o) (sum_node o ts) 0
+
+    low : ℕ
+    low = level_behind (levels_above o) (sum_node o ts) 1
+
+    starred : (fs : Parts) → is_empty fs ≡ false → front_marks (front_at o ts fs Begins)
+        ≡ outer_marks o (each_marks plus_between high ts (factors_marks low Nothing fs [])) ++ None ∷ []
+    starred NoParts e = cc
+    starred (Part b bs) e = factors_add o high low ts (Part b bs) [] (None ∷ [])
+
+    go : (v : Bool) → product_node fs ≡ node_if v
+        → outer_marks o (each_marks plus_between high ts (factors_marks low Nothing fs [])) ++ None ∷ []
+        ≡ cond (not v)
+        (raised_from (length (before_term o (sum_node o ts) ts)) (front_marks (front_at o ts fs ItemRead)))
+        (front_marks (front_at o ts fs ItemRead)) ++ None ∷ []
+    go true e =
+        ap (λ (p : ℕ). outer_marks o (each_marks plus_between high ts
+        (factors_marks (level_behind (levels_above o) (sum_node o ts) p) Nothing fs [])) ++ None ∷ []) (sym e)
+    go false e =
+        ap (λ (k : ℕ). outer_marks o (each_marks plus_between high ts (factors_marks k Nothing fs [])) ++ None ∷ [])
+        (level_more (levels_above o) (sum_node o ts))
+        ∙ ap (λ (ms : Marks). outer_marks o (each_marks plus_between high ts ms) ++ None ∷ [])
+        (moved_factors suc raised deeper high Nothing fs [])
+        ∙ ap (λ (ms : Marks). ms ++ None ∷ []) (sym (term_raised o high ts (factors_marks high Nothing fs [])))
+        ∙ ap (λ (p : ℕ). raised_from (length (before_term o (sum_node o ts) ts)) (outer_marks o (each_marks plus_between high ts
+        (factors_marks (level_behind (levels_above o) (sum_node o ts) p) Nothing fs []))) ++ None ∷ []) (sym e)
+
+-- a term is a level deeper behind the first ` + `
+blank_marks : (o : Outer) (ts fs : Parts)
+    → front_marks (front_at o ts fs BlankRead)
+    ≡ cond (not (is_factor_frame (innermost_frame (frames_of o))) && not (not (is_empty ts)))
+    (raised_from (length (before_term o (sum_node o ts) ts)) (front_marks (front_at o ts fs ItemRead)))
+    (front_marks (front_at o ts fs ItemRead)) ++ None ∷ []
+blank_marks o ts fs = go (in_factor o) (is_factor_frame (innermost_frame (frames_of o))) ts (factor_shown o)
+  where
+    -- terms and factors, where so many nodes of a sum count
+    whole : ℕ → Parts → Marks → Marks
+    whole sum ts rest =
+        outer_marks o (each_marks plus_between (level_behind (levels_above o) sum 0) ts
+        (factors_marks (level_behind (levels_above o) sum (product_node fs)) Nothing fs rest))
+
+    go : (v w : Bool) (ts : Parts) → v ≡ w
+        → whole (cond v 0 1) ts (None ∷ [])
+        ≡ cond (not w && not (not (is_empty ts)))
+        (raised_from (length (before_term o (cond v 0 (node_of_any ts)) ts)) (whole (cond v 0 (node_of_any ts)) ts []))
+        (whole (cond v 0 (node_of_any ts)) ts []) ++ None ∷ []
+    go true true ts e =
+        factors_add o (level_behind (levels_above o) 0 0) (level_behind (levels_above o) 0 (product_node fs)) ts fs []
+        (None ∷ [])
+    go true false ts e = cc
+    go false true ts e = cc
+    go false false (Part b bs) e =
+        factors_add o (level_behind (levels_above o) 1 0) (level_behind (levels_above o) 1 (product_node fs)) (Part b bs)
+        fs [] (None ∷ [])
+    go false false NoParts e =
+        let level = level_behind (levels_above o) 0 (product_node fs) in
+        let more : level_behind (levels_above o) 1 (product_node fs) ≡ suc level = omega arith in
+        factors_add o (level_behind (levels_above o) 1 0) (level_behind (levels_above o) 1 (product_node fs)) NoParts fs
+        [] (None ∷ [])
+        ∙ ap (λ (k : ℕ). outer_marks o (factors_marks k Nothing fs []) ++ None ∷ []) more
+        ∙ ap (λ (ms : Marks). outer_marks o ms ++ None ∷ []) (moved_factors suc raised deeper level Nothing fs [])
+        ∙ ap (λ (ms : Marks). ms ++ None ∷ [])
+        (sym (term_raised o (level_behind (levels_above o) 0 0) NoParts (factors_marks level Nothing fs [])))
+
+-- where a term begins doesn't depend on whether a sum's node counts
+same_start : (o : Outer) (ts : Parts) → length (before_term o (sum_at BlankRead o ts) ts) ≡ length (before_term o (sum_node o ts) ts)
+same_start o NoParts = refl
+same_start o (Part b bs) = refl
+
+-- what an item that was taken back was
+caret_follows : (o : Outer) (ts gs : Parts) (b : Bound)
+    → FollowsWhere (front_at o ts (with_part gs b) ItemRead) Caret
+    (cond (is_large_number (Some b)) (Some (front_at o ts gs (PowerCaret (2 ^ 64 - 1)))) (caret_behind o ts gs (Some b)))
+    (takes_back (Some (shape_of b)) (innermost_of (front_at o ts (with_part gs b) ItemRead)))
+caret_follows o ts gs (Constant c) = go (nat_le (2 ^ 64) c) refl (nat_lt 1 c) refl
+  where
+    fs : Parts
+    fs = with_part gs (Constant c)
+
+    high : ℕ
+    high = level_behind (levels_above o) (sum_node o ts) 0
+
+    low : ℕ
+    low = level_behind (levels_above o) (sum_node o ts) (node_of_any gs)
+
+    base : (d : ℕ) → Follows (front_at o ts fs ItemRead) Caret (front_at o ts gs (PowerCaret d)) (record {
+      innermost = record (innermost_of (front_at o ts fs ItemRead)) {
+        before = None;
+        last = (innermost_of (front_at o ts fs ItemRead)).before;
+        stage = stage.Power;
+      };
+      change = change.Keep;
+    })
+    base d = record {
+      innermost =
+          ap (λ (end : Option Shape). record { terms = not (is_empty ts); before = None; last = end; stage = stage.Power })
+          (sym (ap (λ (x : Option Bound). before_last (option_map shape_of x) (last_of (init fs))) (last-with_part gs (Constant c))
+          ∙ ap last_of (init-with_part gs (Constant c))));
+      frames = refl;
+      marks = star_add o high low ts gs (Some low ∷ []) (None ∷ [])
+          ∙ ap (λ (ms : Marks). ms ++ None ∷ []) (sym (
+          ap (λ (p : ℕ). outer_marks o (each_marks plus_between high ts
+          (factors_marks (level_behind (levels_above o) (sum_node o ts) p) Nothing fs []))) (product_node-with_part gs (Constant c) refl)
+          ∙ ap (λ (ms : Marks). outer_marks o (each_marks plus_between high ts ms)) (constant_behind low c gs [])));
+      begun = refl;
+      standing = tt;
+    }
+
+    go : (v : Bool) → nat_le (2 ^ 64) c ≡ v → (w : Bool) → nat_lt 1 c ≡ w
+        → FollowsWhere (front_at o ts fs ItemRead) Caret
+        (cond v (Some (front_at o ts gs (PowerCaret (2 ^ 64 - 1)))) (when w (front_at o ts gs (PowerCaret c))))
+        (when w (record {
+          innermost = record (innermost_of (front_at o ts fs ItemRead)) {
+            before = None;
+            last = (innermost_of (front_at o ts fs ItemRead)).before;
+            stage = stage.Power;
+          };
+          change = change.Keep;
+        }))
+    go true e true k = base (2 ^ 64 - 1)
+    go true e false k = let many : nat_lt 1 c ≡ true = grind (arith, nat_tests) in cc
+    go false e true k = base c
+    go false e false k = tt
+caret_follows o ts gs (Input v) =
+    when_follows (front_at o ts fs ItemRead) Caret (not (is_input v (last gs)))
+    (not (is_last_input v (innermost_of (front_at o ts fs ItemRead)).before)) _ _
+    (ap not (input_shown v (last gs) ∙ ap (is_last_input v) (sym before)))
+    (λ e. record {
+      innermost =
+          ap (λ (end : Option Shape). record { terms = not (is_empty ts); before = None; last = end; stage = stage.Run v })
+          (sym before);
+      frames = refl;
+      marks = star_add o high low ts gs (Some low ∷ []) (None ∷ [])
+          ∙ ap (λ (ms : Marks). ms ++ None ∷ []) (sym (
+          ap (λ (p : ℕ). outer_marks o (each_marks plus_between high ts
+          (factors_marks (level_behind (levels_above o) (sum_node o ts) p) Nothing fs []))) (product_node-with_part gs (Input v) refl)
+          ∙ ap (λ (ms : Marks). outer_marks o (each_marks plus_between high ts ms))
+          (input_behind low v gs [] (ends_nothing gs v e))));
+      begun = refl;
+      standing = not-true (is_input v (last gs)) e;
+    })
+  where
+    fs : Parts
+    fs = with_part gs (Input v)
+
+    high : ℕ
+    high = level_behind (levels_above o) (sum_node o ts) 0
+
+    low : ℕ
+    low = level_behind (levels_above o) (sum_node o ts) (node_of_any gs)
+
+    before : (innermost_of (front_at o ts fs ItemRead)).before ≡ last_of gs
+    before =
+        ap (λ (x : Option Bound). before_last (option_map shape_of x) (last_of (init fs))) (last-with_part gs (Input v))
+        ∙ ap last_of (init-with_part gs (Input v))
+caret_follows o ts gs (SumOf bs) = tt
+caret_follows o ts gs (ProductOf bs) = tt
+caret_follows o ts gs (MaximumOf bs) = tt
+caret_follows o ts gs (PowerOf c e) = tt
+
+-- a bracket closes
+closed_marks : (bracket : Bracket) (o : Outer) (ts' fs' ts fs : Parts) → can_end fs ≡ true
+    → can_close bracket (bound_of_parts ts fs) ≡ true
+    → front_marks (behind_factor o ts' fs' (item_of bracket (bound_of_parts ts fs)))
+    ≡ front_marks (front_at (Inside bracket ts' fs' o) ts fs ItemRead) ++ None ∷ []
+closed_marks bracket o ts' fs' ts fs h k =
+    ap (λ (p : ℕ). outer_marks o (each_marks plus_between high ts'
+    (factors_marks (level_behind (levels_above o) (sum_node o ts') p) Nothing (with_part fs' item) []))) (item_node bracket fs' b k)
+    ∙ ap (λ (ms : Marks). outer_marks o (each_marks plus_between high ts' ms))
+    (other_behind low item fs' [] (item_other bracket b k)
+    ∙ ap (λ (ms : Marks). factors_marks low Nothing fs' (star_marks fs' ms))
+    (item_marks low bracket ts fs h k
+    ∙ ap (bracket_marks low bracket)
+    (ap (each_marks plus_between (level_behind low (sum_in bracket ts) 0) ts)
+    (factors_behind (None ∷ []) (level_behind low (sum_in bracket ts) (product_node fs)) fs [])
+    ∙ each_behind (None ∷ []) (level_behind low (sum_in bracket ts) 0) ts
+    (factors_marks (level_behind low (sum_in bracket ts) (product_node fs)) Nothing fs []))
+    ∙ bracket_behind (None ∷ []) low bracket (inside_marks low (sum_in bracket ts) ts fs [])))
+    ∙ star_add o high low ts' fs' (bracket_marks low bracket (inside_marks low (sum_in bracket ts) ts fs [])) (None ∷ [])
+    ∙ ap (λ (k : ℕ). outer_marks o (each_marks plus_between high ts' (factors_marks low Nothing fs' (star_marks fs'
+    (bracket_marks low bracket (inside_marks k (sum_in bracket ts) ts fs []))))) ++ None ∷ [])
+    (let e : low ≡ levels_above (Inside bracket ts' fs' o) = omega arith in e)
+    ∙ ap (λ (s : ℕ). outer_marks o (each_marks plus_between high ts' (factors_marks low Nothing fs' (star_marks fs'
+    (bracket_marks low bracket (inside_marks (levels_above (Inside bracket ts' fs' o)) s ts fs []))))) ++ None ∷ [])
+    (sum_inside bracket)
+  where
+    b : Bound
+    b = bound_of_parts ts fs
+
+    item : Bound
+    item = item_of bracket b
+
+    high : ℕ
+    high = level_behind (levels_above o) (sum_node o ts') 0
+
+    low : ℕ
+    low = level_behind (levels_above o) (sum_node o ts') (product_node_round bracket fs')
+
+    sum_inside : (bracket : Bracket) → sum_in bracket ts ≡ sum_node (Inside bracket ts' fs' o) ts
+    sum_inside (Arguments bs) = refl
+    sum_inside (Exponent c) = refl
+    sum_inside Factor = refl
+
+-- a sum in brackets is a sum
+sum_behind : (b : Bound) → is_sum b ≡ true → shape_of b ≡ shape.Sum
+sum_behind (SumOf bs) e = refl
+sum_behind (Constant c) e = cc
+sum_behind (Input i) e = cc
+sum_behind (ProductOf bs) e = cc
+sum_behind (MaximumOf bs) e = cc
+sum_behind (PowerOf c d) e = cc
+
+-- the item of a bracket that closes, by its shape
+closed_shape : (bracket : Bracket) (b : Bound) → can_close bracket b ≡ true
+    → shape_of (item_of bracket b) ≡ item_shape (opening_of bracket)
+closed_shape (Arguments bs) b e = refl
+closed_shape (Exponent c) b e = refl
+closed_shape Factor b e = sum_behind b e
+
+-- behind it only whether something comes before it is known
+coarse_item : (bracket : Bracket) (before : Option Shape)
+    → before_last (Some (item_shape (opening_of bracket))) before ≡ any_factor (is_some before)
+coarse_item (Arguments bs) before = refl
+coarse_item (Exponent c) before = refl
+coarse_item Factor before = refl
+
+-- the innermost bound behind a bracket that closes
+closed_item : (bracket : Bracket) (o : Outer) (ts fs : Parts) (b : Bound) → can_close bracket b ≡ true
+    → innermost_of (behind_factor o ts fs (item_of bracket b))
+    ≡ behind_bracket (record { opening = opening_of bracket; terms = not (is_empty ts); factors = is_some (last_of fs) })
+closed_item bracket o ts fs b e =
+    item_outlined o ts fs (item_of bracket b) (innermost_of (front_at o ts fs Begins)) refl refl
+    ∙ ap (λ (s : Shape). with_item s (innermost_of (front_at o ts fs Begins))) (closed_shape bracket b e)
+    ∙ ap (λ (before : Option Shape). record {
+      terms = not (is_empty ts);
+      before = before;
+      last = Some (item_shape (opening_of bracket));
+      stage = stage.Item;
+    }) (coarse_item bracket (last_of fs))
+
+close_follows : (o : Outer) (ts fs : Parts)
+    → FollowsWhere (front_at o ts fs ItemRead) Close (step_at ItemRead o ts fs Close)
+    (lead_at stage.Item (innermost_frame (frames_of o)) (innermost_of (front_at o ts fs ItemRead)) Close)
+close_follows Whole ts fs = tt
+close_follows (Inside bracket ts' fs' o) ts fs =
+    let b = bound_of_parts ts fs in
+    let whole = Inside bracket ts' fs' o in
+    let i = innermost_of (front_at whole ts fs ItemRead) in
+    when_follows (front_at whole ts fs ItemRead) Close (can_end fs && can_close bracket b)
+    (ends_term i.before i.last && closes_behind (opening_of bracket) (bound_shape i)) _ _
+    (ap (λ (v : Bool). v && can_close bracket b) (end_shown fs)
+    ∙ ap (λ (v : Bool). ends_term i.before i.last && v)
+    (close_shown bracket b ∙ ap (closes_behind (opening_of bracket)) (bound_shown whole ts fs)))
+    (λ e. let t = and_parts (can_end fs) (can_close bracket b) e in
+    record {
+      innermost = closed_item bracket o ts' fs' b t.1;
+      frames = refl;
+      marks = closed_marks bracket o ts' fs' ts fs t.0 t.1;
+      begun = refl;
+      standing = is_empty-with_part fs' (item_of bracket b);
+    })
+
+-- what follows an item
+pub item_follows : (o : Outer) (ts fs : Parts) (nodes : ℕ) (piece : Piece) → is_empty fs ≡ false
+    → FollowsWhere (front_at o ts fs ItemRead) piece
+    (cond (has_large_base_at ItemRead fs piece) (Some (front_at o ts (init fs) (PowerCaret (2 ^ 64 - 1)))) (step_at ItemRead o ts fs piece))
+    (lead_at stage.Item (innermost_frame (frames_of o)) (innermost_of (front_at o ts fs ItemRead)) piece)
+item_follows o ts fs nodes Times h = record {
+  innermost = refl;
+  frames = refl;
+  marks = times_marks o ts fs h;
+  begun = refl;
+  standing = tt;
+}
+item_follows o ts fs nodes Caret h =
+    let t = unsnoc fs h in
+    subst (λ (ps : Parts). FollowsWhere (front_at o ts ps ItemRead) Caret
+    (cond (is_large_number (last ps)) (Some (front_at o ts (init ps) (PowerCaret (2 ^ 64 - 1)))) (caret_behind o ts (init ps) (last ps)))
+    (takes_back (last_of ps) (innermost_of (front_at o ts ps ItemRead)))) (sym t.2)
+    (subst (λ (x : Option Bound). FollowsWhere (front_at o ts (with_part t.0 t.1) ItemRead) Caret
+    (cond (is_large_number x) (Some (front_at o ts (init (with_part t.0 t.1)) (PowerCaret (2 ^ 64 - 1)))) (caret_behind o ts (init (with_part t.0 t.1)) x))
+    (takes_back (option_map shape_of x) (innermost_of (front_at o ts (with_part t.0 t.1) ItemRead)))) (sym (last-with_part t.0 t.1))
+    (subst (λ (gs : Parts). FollowsWhere (front_at o ts (with_part t.0 t.1) ItemRead) Caret
+    (cond (is_large_number (Some t.1)) (Some (front_at o ts gs (PowerCaret (2 ^ 64 - 1)))) (caret_behind o ts gs (Some t.1)))
+    (takes_back (Some (shape_of t.1)) (innermost_of (front_at o ts (with_part t.0 t.1) ItemRead)))) (sym (init-with_part t.0 t.1))
+    (caret_follows o ts t.0 t.1)))
+item_follows o ts fs nodes Blank h =
+    when_follows (front_at o ts fs ItemRead) Blank (can_end fs) _ _ _ (end_shown fs)
+    (λ e. record {
+      innermost = refl;
+      frames = refl;
+      marks = blank_marks o ts fs;
+      begun = ap (λ (k : ℕ). record { above = levels_above o; start = k } ∷ begun_round o) (same_start o ts);
+      standing = e;
+    })
+item_follows o ts fs nodes Comma h =
+    let i = innermost_of (front_at o ts fs ItemRead) in
+    let in_one = in_maximum (innermost_frame (frames_of o)) in
+    when_follows (front_at o ts fs ItemRead) Comma (can_be_argument o ts fs)
+    (in_one && (ends_term i.before i.last && not (is_maximum_shape (bound_shape i)))) _ _
+    (ap (λ (v : Bool). v && (can_end fs && not (is_maximum (bound_of_parts ts fs)))) (arguments_shown o)
+    ∙ ap (λ (v : Bool). in_one && (v && not (is_maximum (bound_of_parts ts fs)))) (end_shown fs)
+    ∙ ap (λ (v : Bool). in_one && (ends_term i.before i.last && not v))
+    (maximum_shown (bound_of_parts ts fs) ∙ ap is_maximum_shape (bound_shown o ts fs)))
+    (λ e. record {
+      innermost = refl;
+      frames = refl;
+      marks = factors_add o (level_behind (levels_above o) (sum_node o ts) 0)
+          (level_behind (levels_above o) (sum_node o ts) (product_node fs)) ts fs [] (None ∷ []);
+      begun = refl;
+      standing = (and_parts (can_end fs) (not (is_maximum (bound_of_parts ts fs)))
+          (and_parts (in_arguments o) (can_end fs && not (is_maximum (bound_of_parts ts fs))) e).1).0;
+    })
+item_follows o ts fs nodes Close h = close_follows o ts fs
+item_follows o ts fs nodes piece h = tt

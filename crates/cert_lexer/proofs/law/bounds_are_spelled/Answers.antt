@@ -1,0 +1,5 @@
+use Rattle.cert_lexer.proofs.SpelledBounds.{answered_spelled}
+use Rattle.cert_lexer.proofs.law.bounds_are_spelled.Goals as goal
+
+pub returns : goal.returns
+returns c = record { each = answered_spelled }

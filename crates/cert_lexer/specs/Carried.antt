@@ -1,0 +1,72 @@
+-- The state that the code carries of a bound while its pieces are read, and the effect of a piece.
+use Rattle.std.specs.Prelude.{◌≡◌, ℕ, ◌<◌, Bool, true, false, List, Option, Some, None, IsTrue, IfSome, ◌⊎◌, ⊤}
+use Rattle.std.specs.Prelude.{is_some, length}
+use Rattle.std.specs.Option.{option_map}
+use Rattle.bound_text.specs.Pieces.{Piece}
+use Rattle.bound_text.specs.Fronts.{Front}
+use Rattle.bound_text.specs.Reading.{stands}
+use Rattle.bound_text.specs.Inside.{front_marks, other_kinds}
+use Rattle.bound_text.specs.Carrying.{limited_step, first_of}
+use Rattle.bound_text.specs.Views.{front_of, is_settled}
+use Rattle.bound_text.specs.declared.state.Reader.{Reader}
+use Rattle.text_grammar.specs.declared.token.Fault as code_fault
+use Rattle.text_grammar.specs.text_core.Readers.{Fault}
+use Rattle.text_grammar.specs.Marks.{fault_of}
+use Rattle.cert_lexer.specs.declared.reading.Reading.{Reading}
+use Rattle.cert_lexer.specs.declared.bound_reading.StepResult.{StepResult}
+use Rattle.cert_lexer.specs.declared.bound_reading.StepResult.TheVariants.{Led, Off}
+use Rattle.cert_lexer.specs.declared.kind.ProofKind.{ProofKind}
+use Rattle.cert_lexer.specs.Bounds.{kind_of}
+use Rattle.cert_lexer.specs.BoundSteps.{TellsDeep}
+use Rattle.cert_lexer.specs.Levels.{has_deep, shallow}
+use Rattle.cert_lexer.specs.Shadows.{Shadows}
+
+-- whether there is a tree
+abbrev pub has_reader : Option Reader → Bool
+has_reader None = false
+has_reader (Some r) = true
+
+-- the tree, where there is one, is what has been read
+abbrev pub IsTree : Front → Option Reader → Type 0
+IsTree f None = ⊤
+IsTree f (Some r) = (front_of r ≡ f) × IsTrue (is_settled r)
+
+-- it is settled
+abbrev pub IsSettledTree : Option Reader → Type 0
+IsSettledTree None = ⊤
+IsSettledTree (Some r) = IsTrue (is_settled r)
+
+-- what has been read is carried
+pub record Carries (f : Front) (s : Reading) : Type 0 where
+  pub shadows : Shadows f s.follower
+  pub tree : IsTree f s.reader
+
+-- the first fault of a piece is reported where there was a tree
+abbrev pub refusal_with : Bool → Option ProofKind → Option ProofKind
+refusal_with false first_refusal = None
+refusal_with true first_refusal = first_refusal
+
+-- what a piece leads to, and its fault, where this was the tree
+abbrev pub StepsOn : ℕ → Front → Piece → List Piece → Option Reader → Reading → StepResult → Type 0
+StepsOn n f piece behind before s (Led first_refusal) =
+    (g : Front) × (limited_step f piece ≡ Some g) × Carries g s × (has_reader s.reader ≡ has_reader before)
+    × (first_refusal ≡ refusal_with (has_reader before) (option_map kind_of (first_of (stands n f piece behind) other_kinds)))
+StepsOn n f piece behind before s Off = (limited_step f piece ≡ None) × Shadows f s.follower
+
+-- where there is no tree any more, something is refused behind this many pieces
+abbrev pub IsToldWithout : Front → Option (code_fault.Fault ProofKind) → ℕ → Reading → Type 0
+IsToldWithout f best count s =
+    has_reader s.reader ≡ false → (first_refusal : Option (code_fault.Fault ProofKind)) → TellsDeep f best count first_refusal
+    → is_some first_refusal ≡ true
+
+-- behind a part that is too deep every other refusal is behind it
+pub record IsBehindDeep (f : Front) (first_refusal : Option (Fault ProofKind)) : Type 0 where
+  pub deep : has_deep (front_marks f) ≡ true
+  pub behind : IfSome first_refusal (λ x. length (shallow (front_marks f)) < x.at)
+
+-- the first refusal so far as the code has it, by whether there is a tree: none, that of the definition, or none behind
+-- a part that is too deep
+abbrev pub Agrees : Front → Option (Fault ProofKind) → Option (code_fault.Fault ProofKind) → Bool → Type 0
+Agrees f first_refusal best true = (first_refusal ≡ None) × (best ≡ None)
+Agrees f first_refusal best false =
+    ((is_some best ≡ true) × (first_refusal ≡ fault_of best)) ⊎ ((best ≡ None) × IsBehindDeep f first_refusal)

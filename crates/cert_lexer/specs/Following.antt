@@ -1,0 +1,57 @@
+-- How outlines and levels follow the pieces that have been read.
+use Rattle.std.specs.Prelude.{◌≡◌, true, false, length, Option, Some, None, ⊤}
+use Rattle.its_model.specs.model.Bounds.{Parts}
+use Rattle.bound_text.specs.Shapes.{is_empty}
+use Rattle.bound_text.specs.Pieces.{Piece}
+use Rattle.bound_text.specs.Fronts.{Front, Position, RunCaret, ItemRead, BlankRead, PlusRead, CommaRead, is_input, last}
+use Rattle.bound_text.specs.Fronts.{can_end, levels_above}
+use Rattle.bound_text.specs.Inside.{front_marks}
+use Rattle.bound_text.specs.Carrying.{limited_step}
+use Rattle.cert_lexer.specs.declared.levels.OpenPart.{OpenPart}
+use Rattle.cert_lexer.specs.declared.outline.Lead.{Lead}
+use Rattle.cert_lexer.specs.Outlines.{frames_of, innermost_of, innermost_frame, frames_behind, lead}
+use Rattle.cert_lexer.specs.Levels.{begun_of, before_term, marks_behind, begun_behind}
+use Rattle.bound_text.specs.Fronts.{sum_at}
+
+-- the position can be behind these factors
+abbrev pub Stands : Position → Parts → Type 0
+Stands (RunCaret i) fs = is_input i (last fs) ≡ false
+Stands ItemRead fs = is_empty fs ≡ false
+Stands BlankRead fs = can_end fs ≡ true
+Stands PlusRead fs = can_end fs ≡ true
+Stands CommaRead fs = can_end fs ≡ true
+Stands position fs = ⊤
+
+abbrev pub IsStanding : Front → Type 0
+IsStanding f = Stands f.position f.factors
+
+-- the innermost bound that isn't done
+abbrev pub begun_in : Front → OpenPart
+begun_in f = record {
+  above = levels_above f.outer;
+  start = length (before_term f.outer (sum_at f.position f.outer f.terms) f.terms);
+}
+
+-- with a piece a front becomes another, and its outline, its marks and its begun bounds what a lead says
+pub record Follows (f : Front) (piece : Piece) (g : Front) (l : Lead) : Type 0 where
+  pub innermost : innermost_of g ≡ l.innermost
+  pub frames : frames_of g.outer ≡ frames_behind l.change (frames_of f.outer)
+  pub marks : front_marks g
+      ≡ marks_behind (begun_in f) (innermost_frame (frames_of f.outer)) (innermost_of f) piece (front_marks f)
+  pub begun : begun_of g
+      ≡ begun_behind l.change (length (front_marks g)) (innermost_frame (frames_of f.outer)) (innermost_of f)
+      (begun_of f)
+  pub standing : IsStanding g
+
+-- a front and an outline are led on together, or both aren't
+abbrev pub FollowsWhere : Front → Piece → Option Front → Option Lead → Type 0
+FollowsWhere f piece None None = ⊤
+FollowsWhere f piece (Some g) (Some l) = Follows f piece g l
+FollowsWhere f piece None (Some l) = ⊥
+FollowsWhere f piece (Some g) None = ⊥
+
+-- what is carried is led on where its outline is, and outline, marks and begun bounds follow it
+pub record OutlinesLead : Type 0 where
+  pub each : (f : Front) (piece : Piece) → IsStanding f
+      → FollowsWhere f piece (limited_step f piece)
+      (lead (innermost_frame (frames_of f.outer)) (innermost_of f) piece)

@@ -1,0 +1,91 @@
+-- Worked values of bounds inside proof files at the limit of levels, and of the order of refusals.
+use Rattle.std.specs.Prelude.{◌≡◌, ℕ, zero, suc, true, false, List, [], ◌∷◌, ◌++◌}
+use Rattle.its_model.specs.model.Bounds.{Bound, Input, PowerOf, NoParts, Part}
+use Rattle.bound_text.specs.Fronts.{Front, Whole, ItemRead}
+use Rattle.bound_text.specs.Steps.{front_at}
+use Rattle.bound_text.specs.Pieces.{Piece as Plain, Blank as PlainBlank}
+use Rattle.bound_text.specs.Kinds as kinds
+use Rattle.bound_text.specs.declared.piece.Piece.{Piece}
+use Rattle.bound_text.specs.declared.piece.Piece.TheVariants.{Variable, Number, Maximum, Open, Close, Times, Caret}
+use Rattle.bound_text.specs.declared.piece.Piece.TheVariants.{Blank, Comma}
+use Rattle.text_grammar.specs.text_core.Tokens.{Token}
+use Rattle.text_grammar.specs.text_core.Readers.{Fault}
+use Rattle.text_grammar.specs.text_core.Reading.{Refused, is_before}
+use Rattle.cert_lexer.specs.declared.inner.Inner.{Inner}
+use Rattle.cert_lexer.specs.declared.kind.ProofKind.{ProofKind}
+use Rattle.cert_lexer.specs.declared.kind.ProofKind.TheVariants.{Syntax, NumberTooLarge, TooDeep, BadReference, Limit}
+use Rattle.cert_lexer.specs.Bounds.{bound_answer, bounds_in, kind_of, too_deep}
+
+-- `2^(2^( .. 2^A))`, with this many powers
+abbrev pub tower : ℕ → Bound
+tower zero = Input 0
+tower (suc n) = PowerOf 2 (tower n)
+
+-- a bound that was read, with nothing around it
+abbrev pub alone : Bound → Front
+alone b = front_at Whole NoParts (Part b NoParts) ItemRead
+
+-- this many pieces as tokens whose positions are their numbers
+abbrev pub counted : ℕ → ℕ → List (Token Plain)
+counted at zero = []
+counted at (suc n) = record { piece = PlainBlank; at = at; upto = suc at } ∷ counted (suc at) n
+
+-- each piece with one byte
+abbrev pub each_alone : List Piece → List Inner
+each_alone [] = []
+each_alone (x ∷ xs) = record { piece = x; len = 1 } ∷ each_alone xs
+
+-- these pieces this many times, and then the rest
+abbrev pub times_then : ℕ → List Piece → List Piece → List Piece
+times_then zero xs rest = rest
+times_then (suc n) xs rest = xs ++ times_then n xs rest
+
+-- a bound over `A` and `B` in this many brackets of exponents
+abbrev pub in_exponents : ℕ → List Piece → List Inner
+in_exponents n xs = each_alone (times_then n (Number 2 ∷ Caret ∷ Open ∷ []) (xs ++ times_then n (Close ∷ []) []))
+
+-- `max(A, i*j)*B`, of variables with these numbers
+abbrev pub pushed : ℕ → ℕ → List Piece
+pushed i j =
+    Maximum ∷ Variable 0 ∷ Comma ∷ Blank ∷ Variable i ∷ Times ∷ Variable j ∷ Close ∷ Times ∷ Variable 1 ∷ []
+
+-- a refusal at a position
+abbrev pub refusal : ProofKind → ℕ → Fault ProofKind
+refusal kind at = record { kind = kind; at = at }
+
+-- 200 levels, and one more
+pub record LevelsAreWorkedOut : Type 0 where
+  pub deepest : too_deep (alone (tower 199)) (counted 0 1000) ≡ []
+  pub one_deeper : too_deep (alone (tower 200)) (counted 0 1000) ≡ refusal TooDeep 599 ∷ []
+  -- a part is refused where it begins, as the pieces behind it show
+  pub pushed_down : bound_answer 2 (in_exponents 198 (pushed 0 1)) ≡ Refused (refusal TooDeep 595)
+  -- two names that aren't listed are two variables
+  pub unlisted : bound_answer 2 (in_exponents 198 (pushed 600 602)) ≡ Refused (refusal TooDeep 595)
+  -- and behind a variable it can't follow itself, so that nothing is seen behind it
+  pub twice : bound_answer 2 (in_exponents 198 (pushed 1 1)) ≡ Refused (refusal TooDeep 598)
+
+-- of two refusals, the one at the lesser position comes first, and of two at one position the one that is listed first
+-- here
+pub record OrderIsWorkedOut : Type 0 where
+  pub position : is_before (bounds_in 1) (refusal Limit 4) (refusal Syntax 5) ≡ true
+  pub behind : is_before (bounds_in 1) (refusal Syntax 5) (refusal Limit 4) ≡ false
+  pub syntax : is_before (bounds_in 1) (refusal Syntax 5) (refusal NumberTooLarge 5) ≡ true
+  pub too_large : is_before (bounds_in 1) (refusal NumberTooLarge 5) (refusal TooDeep 5) ≡ true
+  pub too_deep : is_before (bounds_in 1) (refusal TooDeep 5) (refusal BadReference 5) ≡ true
+  pub reference : is_before (bounds_in 1) (refusal BadReference 5) (refusal Limit 5) ≡ true
+  pub limit : is_before (bounds_in 1) (refusal Limit 5) (refusal BadReference 5) ≡ false
+  pub same : is_before (bounds_in 1) (refusal Limit 5) (refusal Limit 5) ≡ false
+
+-- what the refusals of a bound are called in a proof file
+pub record KindsAreWorkedOut : Type 0 where
+  pub name : kind_of kinds.UnknownName ≡ BadReference
+  pub size : kind_of kinds.TooLarge ≡ Limit
+  pub levels : kind_of kinds.TooDeep ≡ TooDeep
+  pub number : kind_of kinds.NumberTooLarge ≡ NumberTooLarge
+  pub syntax : kind_of kinds.Syntax ≡ Syntax
+
+-- all of it
+pub record BoundsAreWorkedOut : Type 0 where
+  pub levels : LevelsAreWorkedOut
+  pub order : OrderIsWorkedOut
+  pub kinds : KindsAreWorkedOut

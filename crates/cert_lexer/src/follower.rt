@@ -1,0 +1,68 @@
+//! Keeps the outline and the levels of the part of a bound that has been read.
+
+ghost use Rattle.std.specs.Prelude.{IfOk};
+ghost use Rattle.bound_text.specs.Depths.{FindsDeep};
+ghost use Rattle.bound_text.specs.Fronts.{Front};
+ghost use Rattle.bound_text.specs.Steps.{beginning};
+ghost use Rattle.bound_text.specs.Printing.{piece_of};
+ghost use Rattle.cert_lexer.specs.Bounds.{bound_levels};
+ghost use Rattle.cert_lexer.specs.Shadows.{Shadows, Led};
+
+use crate::levels::Levels;
+use crate::outline::Outline;
+use bound_text::Piece as BoundPiece;
+use std::alloc::{AllocError, Global};
+
+/// The state that is kept without the tree: whether a piece can follow, and where the first part is that is too deep.
+#[derive(Drop)]
+pub(crate) struct Follower {
+    pub outline: Outline,
+    pub levels: Levels,
+}
+
+impl Follower {
+    /// Nothing has been read.
+    ///
+    /// # Errors
+    ///
+    /// `AllocError` where an allocation fails.
+    pub(crate) fn new(alloc: Global) -> Result<Follower, AllocError>
+        ensures { IfOk result (Shadows beginning) }
+    {
+        Ok(Follower {
+            outline: Outline::new(alloc),
+            levels: Levels::new(alloc)?,
+        })
+    }
+
+    /// Takes a piece if it can follow, and returns whether it can; if not, nothing changes.
+    ///
+    /// # Errors
+    ///
+    /// `AllocError` where an allocation fails; the follower is then unusable.
+    pub(crate) fn take(&mut self, piece: BoundPiece) -> Result<bool, AllocError>
+        ensures { (f : Front) → Shadows f self.old → IfOk result (Led f (piece_of piece) self.new) }
+    {
+        let round = self.outline.round();
+        let innermost = self.outline.innermost;
+        match innermost.lead(round, piece) {
+            Some(lead) => {
+                self.levels.take(&self.outline, piece, lead.change)?;
+                self.outline.follow(lead)?;
+                Ok(true)
+            }
+            None => Ok(false),
+        }
+    }
+
+    /// With which piece the first part begins that is too deep, where there is one.
+    pub(crate) fn deep_part(&self) -> Option<usize>
+        ensures { (f : Front) → Shadows f self.now → FindsDeep bound_levels f result }
+    {
+        if self.levels.marked.deep {
+            Some(self.levels.marked.levels.len())
+        } else {
+            None
+        }
+    }
+}

@@ -1,0 +1,107 @@
+-- Lists of checks: what passes, the first that fails, and what a check for each element of a list says.
+use Rattle.std.proofs.Common.{◌≡◌, ◌⊎◌, inl, inr, ℕ, ◌<◌, ◌==◌, Bool, true, false, List, [], ◌∷◌, ◌++◌, map, filter}
+use Rattle.std.proofs.Common.{refl, sym, ◌∙◌, subst}
+use Rattle.std.specs.List.{AllByRecursion, range_with_len}
+use Rattle.run_counting.specs.model.Entries.{is_in}
+use Rattle.cert_rules.specs.Reasons.{CheckOf, for_each, AllPass, IsFirstAmong}
+use Rattle.cert_rules.proofs.Stable.{IsStable}
+use Rattle.run_counting.proofs.model.Membership.{same_number, no_is_not_yes, is_in-cases, is_in-filter, filter-in}
+use Rattle.run_counting.proofs.model.Membership.{is_in-numbers}
+use Rattle.std.proofs.lemmas.Bool.{or_left, or_right}
+
+-- where all pass no reason is the first
+pub passed_has_none : {R : Type 0} (cs : List (CheckOf R)) → AllPass cs → (r : R) → ¬ (IsFirstAmong cs r)
+passed_has_none [] h r k = k
+passed_has_none (c ∷ cs) h r (inl k) = k.0 h.0
+passed_has_none (c ∷ cs) h r (inr k) = passed_has_none cs h.1 r k.1
+
+-- there is at most one first reason
+pub first_is_one : {R : Type 0} (cs : List (CheckOf R)) (q r : R) → IsFirstAmong cs q → IsFirstAmong cs r → q ≡ r
+first_is_one [] q r h k = absurd h
+first_is_one (c ∷ cs) q r (inl h) (inl k) = sym h.1 ∙ k.1
+first_is_one (c ∷ cs) q r (inl h) (inr k) = absurd (h.0 k.0)
+first_is_one (c ∷ cs) q r (inr h) (inl k) = absurd (k.0 h.0)
+first_is_one (c ∷ cs) q r (inr h) (inr k) = first_is_one cs q r h.1 k.1
+
+-- no check can fail without being false
+abbrev pub AreStable : {R : Type 0} → List (CheckOf R) → Type 0
+AreStable [] = Unit {0}
+AreStable (c ∷ cs) = IsStable c.holds × AreStable cs
+
+-- where no reason is the first all pass
+pub none_passes : {R : Type 0} (cs : List (CheckOf R)) → AreStable cs → ((r : R) → ¬ (IsFirstAmong cs r)) → AllPass cs
+none_passes [] h k = tt
+none_passes (c ∷ cs) h k =
+    let p : c.holds = h.0 (λ n. k c.reason (inl (n, refl))) in
+    (p, none_passes cs h.1 (λ r l. k r (inr (p, l))))
+
+module _ {R A : Type 0} (f : A → CheckOf R) (rest : List (CheckOf R)) where
+  -- a check for each element, and then the others
+  pub each_passes : (xs : List A) → AllPass (for_each f xs rest) → AllByRecursion (λ x. (f x).holds) xs × AllPass rest
+  each_passes [] h = (tt, h)
+  each_passes (x ∷ xs) h = let k = each_passes xs h.1 in ((h.0, k.0), k.1)
+
+  -- where the check holds for each element and the rest pass, all pass
+  pub passes_each : (xs : List A) → AllByRecursion (λ x. (f x).holds) xs → AllPass rest → AllPass (for_each f xs rest)
+  passes_each [] h k = k
+  passes_each (x ∷ xs) h k = (h.0, passes_each xs h.1 k)
+
+  -- where the checks of all elements and the rest can't fail without being false, no check can
+  pub each_stable : (xs : List A) → ((x : A) → IsStable (f x).holds) → AreStable rest → AreStable (for_each f xs rest)
+  each_stable [] h k = k
+  each_stable (x ∷ xs) h k = (h x, each_stable xs h k)
+
+-- what holds of each number of a list, and of each number that is in it
+module _ (P : ℕ → Type 0) where
+  -- what holds of all numbers of a list holds of each number that the test finds in it
+  pub each-in : (xs : List ℕ) → AllByRecursion P xs → (x : ℕ) → is_in x xs ≡ true → P x
+  each-in [] h x k = absurd (no_is_not_yes false refl k)
+  each-in (y ∷ ys) h x k = go (is_in-cases x y ys k) (λ m. each-in ys h.1 x m)
+    where
+      go : (x ≡ y) ⊎ (is_in x ys ≡ true) → (is_in x ys ≡ true → P x) → P x
+      go (inl e) later = subst P (sym e) h.0
+      go (inr m) later = later m
+
+  -- what holds of each number that the test finds in a list holds of all of them
+  pub in-each : (xs : List ℕ) → ((x : ℕ) → is_in x xs ≡ true → P x) → AllByRecursion P xs
+  in-each [] h = tt
+  in-each (y ∷ ys) h = (
+    h y (or_left (y == y) (is_in y ys) (same_number y)),
+    in-each ys (λ x k. h x (or_right (x == y) (is_in x ys) k)),
+  )
+
+-- what holds of each of two lists, and of their join
+pub each-append : {A : Type 0} (P : A → Type 0) (xs ys : List A) → AllByRecursion P xs → AllByRecursion P ys
+    → AllByRecursion P (xs ++ ys)
+each-append P [] ys h k = k
+each-append P (x ∷ xs) ys h k = (h.0, each-append P xs ys h.1 k)
+
+-- what holds of a joined list holds of each of the two
+pub append-each : {A : Type 0} (P : A → Type 0) (xs ys : List A) → AllByRecursion P (xs ++ ys)
+    → AllByRecursion P xs × AllByRecursion P ys
+append-each P [] ys h = (tt, h)
+append-each P (x ∷ xs) ys h = let k = append-each P xs ys h.1 in ((h.0, k.0), k.1)
+
+-- what holds of the images of a list
+pub map-each : {A B : Type 0} (P : B → Type 0) (f : A → B) (xs : List A) → AllByRecursion P (map f xs)
+    → AllByRecursion (λ x. P (f x)) xs
+map-each P f [] h = tt
+map-each P f (x ∷ xs) h = (h.0, map-each P f xs h.1)
+
+-- where it holds of the image of each element, it holds of all images
+pub each-map : {A B : Type 0} (P : B → Type 0) (f : A → B) (xs : List A) → AllByRecursion (λ x. P (f x)) xs
+    → AllByRecursion P (map f xs)
+each-map P f [] h = tt
+each-map P f (x ∷ xs) h = (h.0, each-map P f xs h.1)
+
+-- a number among the first n that passes a test has what each that passes has
+module _ (P : ℕ → Type 0) (test : ℕ → Bool) (n : ℕ) where
+  -- what holds of all numbers below a count that pass a test holds of each such number
+  pub below-each : AllByRecursion P (filter test (range_with_len 0 n)) → (j : ℕ) → j < n → test j ≡ true → P j
+  below-each h j l k = each-in P (filter test (range_with_len 0 n)) h j
+      (is_in-filter test (range_with_len 0 n) j (is_in-numbers n j l) k)
+
+  -- what holds of each number that passes a test holds of all those below a count
+  pub each-below : ((j : ℕ) → test j ≡ true → P j) → AllByRecursion P (filter test (range_with_len 0 n))
+  each-below h = in-each P (filter test (range_with_len 0 n))
+      (λ j k. let m = filter-in test (range_with_len 0 n) j k in h j m.1)

@@ -1,0 +1,136 @@
+-- The checks of a node on a cost pass exactly where it is accepted, and none can fail without being false.
+use Rattle.std.proofs.Common.{◌≡◌, ℕ, suc, List, [], ◌∷◌, Option, Some, None, refl, sym, ap, ◌∙◌}
+use Rattle.std.specs.List.{AllByRecursion}
+use Rattle.run_counting.specs.model.Terms.{Term}
+use Rattle.run_counting.specs.model.Programs.{Program, Rule, rule_at}
+use Rattle.run_counting.specs.model.Paths.{pre}
+use Rattle.run_counting.specs.model.Costs.{HasCost}
+use Rattle.cert_rules.specs.Nodes.{SideBound, CostBy, EmptyCost, NeverCost, SideBoundCost, CostNode}
+use Rattle.cert_rules.specs.Known.{IsKnown, Table}
+use Rattle.cert_rules.specs.Setting.{Setting, costs_of}
+use Rattle.cert_rules.specs.ComposedSizes.{reads}
+use Rattle.cert_rules.specs.AcceptsSizes.{Up, HasSideBoundShape, left_of}
+use Rattle.cert_rules.specs.AcceptsCosts.{HasCostNumbers, HasCostShape, cost_result_variable, AcceptsCostSideBound}
+use Rattle.cert_rules.specs.AcceptsCosts.{CostSideBoundHasSizes, side_bound_cost, AcceptsCostBy, AcceptsCost}
+use Rattle.cert_rules.specs.Reasons.{AllPass}
+use Rattle.cert_rules.specs.Checks.{needed_at_cost, cost_checks_by, cost_checks}
+use Rattle.cert_rules.proofs.Stable.{IsStable, stable-bool, stable-implies, stable-known}
+use Rattle.cert_rules.proofs.StableShapes.{stable-multipliers, stable-side_bound_shape, stable-side_bound, stable-small}
+use Rattle.cert_rules.proofs.CheckLists.{AreStable, each_passes, passes_each, each_stable, each-in, in-each}
+use Rattle.cert_rules.proofs.CheckLists.{each-append, append-each, map-each, each-map, below-each, each-below}
+use Rattle.cert_rules.proofs.FirstReasons.{HasSize}
+use Rattle.cert_rules.proofs.SizeReasons.{reads-left}
+
+-- that a cost is written at a rule can't fail without being false
+stable-has_cost : (p : Program) (t : ℕ) → IsStable (HasCost p t)
+stable-has_cost p t h = go (rule_at p t) refl
+  where
+    go : (o : Option Rule) → rule_at p t ≡ o → HasCost p t
+    go None e = absurd (h (λ k. no k.rule (sym e ∙ k.numbered)))
+      where
+        no : (r : Rule) → None ≡ Some r → ⊥
+        no r f = cc
+    go (Some r) e = by r.cost refl
+      where
+        same : (q : Rule) → Some r ≡ Some q → r ≡ q
+        same q f = cc
+
+        no : (c : Term) → None ≡ Some c → ⊥
+        no c f = cc
+
+        by : (o : Option Term) → r.cost ≡ o → HasCost p t
+        by (Some c) f = record { rule = r; numbered = e; cost = c; written = f }
+        by None f = absurd (h (λ k. no k.cost
+            (sym f ∙ ap (λ (q : Rule). q.cost) (same k.rule (sym e ∙ k.numbered)) ∙ k.written)))
+
+-- that the numbers by which a cost is shown are right can't fail without being false
+stable-cost_numbers : (s : Setting) (t : ℕ) (by : CostBy) → IsStable (HasCostNumbers s t by)
+stable-cost_numbers s t (EmptyCost ms) h = stable-multipliers (costs_of s) t ms h
+stable-cost_numbers s t NeverCost h = tt
+stable-cost_numbers s t (SideBoundCost side_bound) h = stable-side_bound_shape (costs_of s) t (left_of s.program t) side_bound h
+
+-- nor can the shape of a node on a cost
+stable-cost_shape : (s : Setting) (node : CostNode) → IsStable (HasCostShape s node)
+stable-cost_shape s node h = record {
+  cost = stable-has_cost s.program node.rule (λ n. h (λ k. n k.cost));
+  numbers = stable-cost_numbers s node.rule node.by (λ n. h (λ k. n k.numbers));
+}
+
+module _ (s : Setting) (table : Table) where
+  -- the arm of a cost has its sizes after these rules exactly where those that it needs are known
+  side_bound-known : (t : ℕ) (side_bound : SideBound) → HasSideBoundShape (costs_of s) t (left_of s.program t) side_bound → AcceptsCostSideBound s t side_bound
+      → (es : List ℕ) → AllByRecursion (HasSize table) (needed_at_cost s t side_bound es)
+      → AllByRecursion (CostSideBoundHasSizes s table t side_bound) es
+  side_bound-known t side_bound shape ok [] h = tt
+  side_bound-known t side_bound shape ok (e ∷ es) h =
+      let k = append-each (HasSize table) _ (needed_at_cost s t side_bound es) h in (
+        (λ j r.
+            below-each (λ i. IsKnown (table.size e (suc i))) (reads (s.cost_poly t) side_bound) (left_of s.program t)
+            (map-each (HasSize table) (λ i. record { rule = e; place = suc i }) _ k.0)
+            j (reads-left (costs_of s) (cost_result_variable t) Up side_bound shape ok j r) r),
+        side_bound-known t side_bound shape ok es k.1,
+      )
+
+  known-side_bound : (t : ℕ) (side_bound : SideBound) (es : List ℕ) → AllByRecursion (CostSideBoundHasSizes s table t side_bound) es
+      → AllByRecursion (HasSize table) (needed_at_cost s t side_bound es)
+  known-side_bound t side_bound [] h = tt
+  known-side_bound t side_bound (e ∷ es) h =
+      each-append (HasSize table) _ (needed_at_cost s t side_bound es)
+      (each-map (HasSize table) (λ i. record { rule = e; place = suc i }) _
+      (each-below (λ i. IsKnown (table.size e (suc i))) (reads (s.cost_poly t) side_bound) (left_of s.program t)
+      (λ j r. h.0 j r)))
+      (known-side_bound t side_bound es h.1)
+
+  -- where a cost is shown its checks pass
+  by-passes : (t : ℕ) (by : CostBy) → AcceptsCostBy s table t by → AllPass (cost_checks_by s table t by)
+  by-passes t (EmptyCost ms) h = (h, tt)
+  by-passes t NeverCost h = (h.time, (h.zero, tt))
+  by-passes t (SideBoundCost side_bound) h = (
+    h.up,
+    (
+      h.time,
+      passes_each _ _ (needed_at_cost s t side_bound (pre s.program t))
+          (known-side_bound t side_bound (pre s.program t) (in-each (CostSideBoundHasSizes s table t side_bound) (pre s.program t) h.sizes))
+          (h.small, tt),
+    ),
+  )
+
+  -- where its checks pass a cost is shown
+  passes-by : (t : ℕ) (by : CostBy) → HasCostNumbers s t by → AllPass (cost_checks_by s table t by)
+      → AcceptsCostBy s table t by
+  passes-by t (EmptyCost ms) shape h = h.0
+  passes-by t NeverCost shape h = record { time = h.0; zero = h.1.0 }
+  passes-by t (SideBoundCost side_bound) shape h =
+      let sizes = each_passes _ _ (needed_at_cost s t side_bound (pre s.program t)) h.1.1 in record {
+        up = h.0;
+        time = h.1.0;
+        sizes = each-in (CostSideBoundHasSizes s table t side_bound) (pre s.program t)
+            (side_bound-known t side_bound shape h.0 (pre s.program t) sizes.0);
+        small = sizes.1.0;
+      }
+
+  -- all checks of an accepted node on a cost pass
+  pub cost-passes : (node : CostNode) → AcceptsCost s table node → AllPass (cost_checks s table node)
+  cost-passes node h = (h.shape, by-passes node.rule node.by h.by)
+
+  -- a node on a cost whose checks all pass is accepted
+  pub passes-cost : (node : CostNode) → AllPass (cost_checks s table node) → AcceptsCost s table node
+  passes-cost node h = record { shape = h.0; by = passes-by node.rule node.by h.0.numbers h.1 }
+
+  -- no check of how a cost is shown can fail without being false
+  by-stable : (t : ℕ) (by : CostBy) → AreStable (cost_checks_by s table t by)
+  by-stable t (EmptyCost ms) = (stable-implies _ _ _, tt)
+  by-stable t NeverCost = (stable-known (table.time t), (stable-bool _ _, tt))
+  by-stable t (SideBoundCost side_bound) = (
+    stable-side_bound (costs_of s) (cost_result_variable t) Up side_bound,
+    (
+      stable-known (table.time t),
+      each_stable _ _ (needed_at_cost s t side_bound (pre s.program t))
+          (λ result_variable. stable-known (table.size result_variable.rule result_variable.place))
+          (stable-small s.rewrite (side_bound_cost s table t side_bound), tt),
+    ),
+  )
+
+  -- nor can any check of a node on a cost
+  pub cost-stable : (node : CostNode) → AreStable (cost_checks s table node)
+  cost-stable node = (stable-cost_shape s node, by-stable node.rule node.by)

@@ -1,0 +1,5 @@
+use Rattle.cert_rules.proofs.ReasonsInLine as lemmas
+use Rattle.cert_rules.proofs.first_reasons_are_in_line.Goals as goal
+
+pub returns : goal.returns
+returns c = lemmas.first-reasons-in-line

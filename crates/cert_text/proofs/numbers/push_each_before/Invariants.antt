@@ -1,0 +1,9 @@
+use Rattle.std.proofs.Common.{◌≡◌, ◌++◌, drop}
+use Rattle.cert_text.specs.Lists.{each_before}
+use Rattle.cert_text.proofs.numbers.push_each_before.Given as goal
+
+-- what is written and what is left make the whole
+abbrev pub invariant-loop-number : goal.invariant-loop-number
+invariant-loop-number l =
+    l.text.items ++ each_before (drop l.number-index l.numbers)
+    ≡ l.initial.text.items ++ each_before l.numbers

@@ -1,0 +1,11 @@
+use Rattle.std.proofs.Common.{◌≡◌, ◌++◌, map, drop}
+use Rattle.its_model.specs.Views.{program_of}
+use Rattle.cert_types.specs.Views.{proof_of}
+use Rattle.cert_text.specs.Texts.{lemma_lines}
+use Rattle.cert_text.proofs.printing.push_lemmas.Given as goal
+
+-- what is written and what is left make the whole
+abbrev pub invariant-loop-lemma : goal.invariant-loop-lemma
+invariant-loop-lemma l =
+    l.text.items ++ lemma_lines (program_of l.p) (map proof_of (drop l.lemma-index l.lemmas))
+    ≡ l.initial.text.items ++ lemma_lines (program_of l.p) (map proof_of l.lemmas)

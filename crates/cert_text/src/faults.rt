@@ -1,0 +1,193 @@
+//! What stands against numbers, names and places of a proof file.
+
+ghost use Rattle.std.specs.Prelude.{◌≡◌, ◌≤◌, ◌^◌, is_some};
+ghost use Rattle.its_model.specs.Views.{program_of};
+ghost use Rattle.its_model.specs.model.Programs.{arity_of, rule_at};
+ghost use Rattle.text_grammar.specs.text_core.Choices.{when as when_at};
+ghost use Rattle.cert_text.specs.Against as against;
+ghost use Rattle.cert_text.specs.ParsedSoFar.{own_of};
+
+use crate::parsed_so_far::ParsedSoFar;
+use crate::phase::Next;
+use cert_lexer::{Behind, ProofKind, Word};
+use its_model::Program;
+use linear_forms::{CERTIFICATE_LIMIT, POINT_LIMIT};
+
+/// At most so many levels of nodes, so many lemmas and so many gaps are read.
+pub const LEVEL_LIMIT: u64 = 64;
+/// See `LEVEL_LIMIT`.
+pub const LEMMA_LIMIT: usize = 100_000;
+/// See `LEVEL_LIMIT`.
+pub const GAP_LIMIT: usize = 1_000;
+
+// A kind, where a test passes.
+fn when(test: bool, kind: ProofKind) -> Option<ProofKind>
+    ensures { result ≡ when_at test kind }
+{
+    if test { Some(kind) } else { None }
+}
+
+// The first of two kinds, where they come in this order.
+fn or_else(first: Option<ProofKind>, other: Option<ProofKind>) -> Option<ProofKind>
+    ensures { result ≡ against.or_else first other }
+{
+    match first {
+        Some(kind) => Some(kind),
+        None => other,
+    }
+}
+
+// What stands against a number that is over the limit.
+fn too_large(kept: &ParsedSoFar, number: u128) -> Option<ProofKind>
+    ensures { result ≡ against.too_large (own_of kept.now) number }
+{
+    let limit = if kept.in_gap {
+        POINT_LIMIT
+    } else {
+        CERTIFICATE_LIMIT
+    };
+    when(u128::from(limit) < number, ProofKind::NumberTooLarge)
+}
+
+// Whether there is an earlier lemma with this number.
+fn has_lemma(kept: &ParsedSoFar, number: u128) -> bool
+    ensures { result ≡ against.has_lemma (own_of kept.now) number }
+{
+    number > 0 && number <= kept.lemmas.len() as u128
+}
+
+// Whether there is a rule with this number.
+fn has_rule(p: &Program, number: u128) -> bool
+    ensures { result ≡ is_some (rule_at (program_of p.now) number) }
+{
+    number > 0 && number <= p.rules.len() as u128
+}
+
+// How many places a symbol has.
+fn arity(p: &Program, symbol: u32) -> u32
+    ensures { result ≡ arity_of (program_of p.now) symbol }
+{
+    let symbol = symbol as usize;
+    if symbol < p.symbols.len() {
+        p.symbols[symbol].arity
+    } else {
+        0
+    }
+}
+
+// Whether a rule has a place of its target with this number.
+fn has_place(p: &Program, rule: u32, number: u128) -> bool
+    ensures { result ≡ against.has_place (program_of p.now) (rule_at (program_of p.now) rule) number }
+{
+    if rule == 0 || p.rules.len() < rule as usize {
+        return false;
+    }
+    let target = p.rules[rule as usize - 1].target;
+    number > 0 && number <= u128::from(arity(p, target))
+}
+
+/// What stands against a number, by what it stands for.
+pub fn against_number(p: &Program, kept: &ParsedSoFar, number: u128) -> Option<ProofKind>
+    ensures { result ≡ against.against_number (program_of p.now) (own_of kept.now) kept.now.coming number }
+{
+    match kept.coming {
+        Next::Nothing | Next::Node | Next::Symbol => None,
+        Next::Lemma => or_else(
+            too_large(kept, number),
+            when(!has_lemma(kept, number), ProofKind::BadReference),
+        ),
+        Next::Rule => or_else(
+            too_large(kept, number),
+            when(!has_rule(p, number), ProofKind::BadReference),
+        ),
+        Next::Place => or_else(
+            too_large(kept, number),
+            when(
+                !has_place(p, kept.draft.rule, number),
+                ProofKind::BadReference,
+            ),
+        ),
+        Next::Number => too_large(kept, number),
+    }
+}
+
+/// What stands against a name, as a symbol or as a word that begins a node or a line.
+pub fn against_name(p: &Program, kept: &ParsedSoFar, word: Word, symbol: u32) -> Option<ProofKind>
+    ensures { result ≡ against.against_name (program_of p.now) (own_of kept.now) kept.now.coming word symbol }
+{
+    match kept.coming {
+        Next::Symbol => when(p.symbols.len() <= symbol as usize, ProofKind::BadReference),
+        Next::Node => against_node(kept, word),
+        _ => against_line(kept, word),
+    }
+}
+
+// What stands against a word that begins a node.
+fn against_node(kept: &ParsedSoFar, word: Word) -> Option<ProofKind>
+    ensures { result ≡ against.against_node (own_of kept.now) word }
+{
+    let cost = matches!(word, Word::Cost);
+    or_else(
+        when(cost && !kept.priced, ProofKind::Syntax),
+        when(LEVEL_LIMIT < kept.levels, ProofKind::TooDeep),
+    )
+}
+
+// The fault of a word that begins a line.
+fn against_line(kept: &ParsedSoFar, word: Word) -> Option<ProofKind>
+    ensures { result ≡ against.against_line (own_of kept.now) word }
+{
+    match word {
+        Word::Lemma => when(LEMMA_LIMIT <= kept.lemmas.len(), ProofKind::Limit),
+        Word::Gap => when(GAP_LIMIT <= kept.gaps.len(), ProofKind::Limit),
+        Word::End => when(kept.priced && !kept.paid, ProofKind::Syntax),
+        _ => None,
+    }
+}
+
+// The fault of what follows the name of an existing symbol, as one of its places.
+fn against_behind(p: &Program, kept: &ParsedSoFar, symbol: u32, behind: Behind) -> Option<ProofKind>
+    ensures { result ≡ against.against_behind (program_of p.now) (own_of kept.now) symbol behind }
+{
+    match behind {
+        Behind::NoNumber | Behind::Nothing | Behind::LeadingZero => Some(ProofKind::Syntax),
+        Behind::Number(number) => {
+            let places = u128::from(arity(p, symbol));
+            or_else(
+                too_large(kept, number),
+                when(number == 0 || places < number, ProofKind::BadReference),
+            )
+        }
+    }
+}
+
+/// The fault of a place in the list of shut ones.
+pub fn against_place(
+    p: &Program,
+    kept: &ParsedSoFar,
+    symbol: u32,
+    behind: Behind,
+) -> Option<ProofKind>
+    ensures { result ≡ against.against_place (program_of p.now) (own_of kept.now) symbol behind }
+{
+    or_else(
+        when(p.symbols.len() <= symbol as usize, ProofKind::BadReference),
+        against_behind(p, kept, symbol, behind),
+    )
+}
+
+/// How many bytes of a place precede its fault.
+pub fn name_bytes(p: &Program, symbol: u32, behind: Behind) -> u128
+    ensures bytes { result ≡ against.name_bytes (program_of p.now) symbol behind }
+    ensures small { result ≤ 2 ^ 64 }
+{
+    let symbol = symbol as usize;
+    if symbol >= p.symbols.len() {
+        return 0;
+    }
+    let name = p.symbols[symbol].name.bytes.len() as u128;
+    match behind {
+        Behind::NoNumber => name,
+        _ => name + 1,
+    }
+}

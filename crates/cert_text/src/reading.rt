@@ -1,0 +1,63 @@
+//! Reads a proof file from its text.
+
+ghost use Rattle.std.specs.Prelude.{◌≡◌, ◌<◌, ◌^◌, length, IfOk, IsTrue};
+ghost use Rattle.its_model.specs.Valid.{IsValid};
+ghost use Rattle.its_model.specs.Views.{program_of};
+ghost use Rattle.cert_types.specs.AnswerViews.{file_of};
+ghost use Rattle.text_grammar.specs.text_core.Names.{AreDistinct};
+ghost use Rattle.text_grammar.specs.text_core.Reading.{answer};
+ghost use Rattle.text_grammar.specs.Results.{Tells};
+ghost use Rattle.text_grammar.specs.Texts.{reader};
+ghost use Rattle.cert_lexer.specs.Lexing.{symbol_names, tokens};
+ghost use Rattle.cert_text.specs.Reading.{proofs_of};
+ghost use Rattle.cert_types.specs.cert_rules.Gaps.{ProofFile as FileOf};
+ghost use Rattle.cert_text.specs.Refused.{Answers, GivesBack};
+ghost use Rattle.cert_text.specs.Spelled.{IsTextWithin};
+ghost use Rattle.cert_text.specs.Told.{refusal_in};
+
+use crate::error::ProofTextError;
+use crate::text::ProofReading;
+use cert_lexer::{CLASSES, Mode, PROOF_GRAMMAR, ProofLexer, ROUNDS};
+use cert_types::ProofFile;
+use its_model::Program;
+use std::alloc::Global;
+use text_grammar::{Tables, TokenStream, read as read_tokens};
+
+/// Reads the proof file that a text stands for, as one of a program, as `docs/proof-format.md` says.
+///
+/// # Errors
+///
+/// The refusal at the least position is the answer, and at one position the one that comes first here. `Syntax` stands
+/// at the first token that can't follow, or at the text's length where it ends too early; at `cost` where the first
+/// line has a 1, and at `end` where it has a 2 and no node is on costs. `NumberTooLarge` stands at a number over 2^56
+/// in absolute value, or over 2^45 in a gap. `TooDeep` stands at a node at level 65, `BadReference` at the number or
+/// the name of what there isn't, a cited lemma that is no earlier one among it, and `Limit` at lemma 100,001 or gap
+/// 1,001. In a bound `Syntax`, `NumberTooLarge` and `Limit` stand as where it is read alone, and a part at level 201 is
+/// `TooDeep` at its first byte. `Memory` comes where memory ran out.
+pub fn read(alloc: Global, p: &Program, bytes: &[u8]) -> Result<ProofFile, ProofTextError>
+    requires { IsValid (program_of p.now) }
+    ensures answer { Answers (program_of p.now) bytes.now result }
+    ensures complete { length (program_of p.now).symbols < 2 ^ 32 → (f : FileOf)
+        → IsTextWithin (program_of p.now) bytes.now f → GivesBack f result }
+    ensures spelled { length (program_of p.now).symbols < 2 ^ 32
+        → IfOk result (λ file. IsTextWithin (program_of p.now) bytes.now (file_of file)) }
+{
+    judge(alloc, p, bytes)
+}
+
+// The answer to a text.
+fn judge(alloc: Global, p: &Program, bytes: &[u8]) -> Result<ProofFile, ProofTextError>
+    requires symbols { AreDistinct (symbol_names (program_of p.now)) }
+    requires arguments { AreDistinct (program_of p.now).start_names }
+    ensures { Tells file_of refusal_in (answer (reader (proofs_of (program_of p.now))) (length bytes.now)
+        (tokens (program_of p.now) bytes.now)) result }
+{
+    let tables = Tables::new(alloc, &PROOF_GRAMMAR, CLASSES, ROUNDS)?;
+    let lexer = ProofLexer::new(alloc, p)?;
+    let cut = TokenStream::new(lexer, Mode::Beginning, bytes);
+    let text = ProofReading::new(alloc, p);
+    match read_tokens(alloc, tables, text, cut, bytes.len() as u64) {
+        Ok(file) => Ok(file),
+        Err(refusal) => Err(ProofTextError::from(refusal)),
+    }
+}

@@ -1,0 +1,64 @@
+-- The nodes of a lemma are those of its children and then itself, and so with its facts.
+use Rattle.std.proofs.Common.{◌≡◌, ◌+◌, List, [], ◌∷◌, ◌++◌, length, map, refl, sym, ap, ◌∙◌}
+use Rattle.std.proofs.lemmas.List.{append-nil, append_assoc, length-append}
+use Rattle.model.specs.Facts.{Fact}
+use Rattle.cert_types.specs.cert_rules.Nodes.{Proof, Cite, Start, Empty, Unreached, Never, Rank, Spread, Cycle, Weaken}
+use Rattle.cert_types.specs.cert_rules.Nodes.{Charge, Proofs, NoProof, AndProof}
+use Rattle.cert_types.specs.cert_rules.Numbering.{nodes_of, nodes_of_all}
+use Rattle.cert_types.specs.cert_rules.Acceptance.{facts_of, joined_facts}
+use Rattle.cert_types.specs.cert_rules.Setting.{Setting}
+use Rattle.cert_types.specs.Views.{uses_of}
+use Rattle.check_file.specs.Children.{list_of, children_of, nodes_in}
+use Rattle.cert_context.specs.Statements.{all_facts}
+
+-- the nodes of uses are those of their list
+uses-nodes : (us : Proofs) → nodes_of_all us ≡ nodes_in (list_of us)
+uses-nodes NoProof = refl
+uses-nodes (AndProof p us) = ap (λ (ns : List Proof). nodes_of p ++ ns) (uses-nodes us)
+
+-- the nodes of one child alone
+one-child : (p : Proof) → nodes_of p ≡ nodes_in (p ∷ [])
+one-child p = sym (append-nil (nodes_of p))
+
+-- nodes, and one behind them
+abbrev behind : Proof → List Proof → List Proof
+behind p ns = ns ++ p ∷ []
+
+-- the nodes of a lemma are those of its children, and then itself
+pub nodes-children : (p : Proof) → nodes_of p ≡ nodes_in (children_of p) ++ p ∷ []
+nodes-children (Cite n) = refl
+nodes-children Start = refl
+nodes-children (Empty t multipliers) = refl
+nodes-children (Unreached t us) = ap (behind (Unreached t us)) (uses-nodes us)
+nodes-children (Never child) = ap (behind (Never child)) (one-child child)
+nodes-children (Rank node us) = ap (behind (Rank node us)) (uses-nodes us)
+nodes-children (Spread m us) = ap (behind (Spread m us)) (uses-nodes us)
+nodes-children (Cycle members us) = ap (behind (Cycle members us)) (uses-nodes us)
+nodes-children (Weaken child b) = ap (behind (Weaken child b)) (one-child child)
+nodes-children (Charge node us) = ap (behind (Charge node us)) (uses-nodes us)
+
+-- so there is one more
+pub count-children : (p : Proof) → length (nodes_of p) ≡ length (nodes_in (children_of p)) + 1
+count-children p = ap length (nodes-children p) ∙ length-append (nodes_in (children_of p)) (p ∷ [])
+
+-- the facts of uses are those of their list, joined
+pub uses-facts : (s : Setting) (past : List (List Fact)) (us : Proofs)
+    → joined_facts s past us ≡ all_facts (map (facts_of s past) (list_of us))
+uses-facts s past NoProof = refl
+uses-facts s past (AndProof p us) = ap (λ (fs : List Fact). facts_of s past p ++ fs) (uses-facts s past us)
+
+-- the nodes of two lists
+pub nodes-append : (ps qs : List Proof) → nodes_in (ps ++ qs) ≡ nodes_in ps ++ nodes_in qs
+nodes-append [] qs = refl
+nodes-append (p ∷ ps) qs =
+    ap (λ (ns : List Proof). nodes_of p ++ ns) (nodes-append ps qs)
+    ∙ sym (append_assoc (nodes_of p) (nodes_in ps) (nodes_in qs))
+
+-- and of one lemma more
+pub nodes-push : (ps : List Proof) (p : Proof) → nodes_in (ps ++ p ∷ []) ≡ nodes_in ps ++ nodes_of p
+nodes-push ps p = nodes-append ps (p ∷ []) ∙ ap (λ (ns : List Proof). nodes_in ps ++ ns) (append-nil (nodes_of p))
+
+-- proofs as uses, and as a list again
+pub list-uses : (ps : List Proof) → list_of (uses_of ps) ≡ ps
+list-uses [] = refl
+list-uses (p ∷ ps) = ap (λ (qs : List Proof). p ∷ qs) (list-uses ps)

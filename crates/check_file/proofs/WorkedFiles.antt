@@ -1,0 +1,172 @@
+-- Small files: which can be numbered, and what is answered to them.
+use Rattle.std.proofs.Common.{◌≡◌, inl, inr, ℕ, ◌≤◌, List, [], ◌∷◌, ◌++◌, length, map, refl, sym, ap, subst, arith}
+use Rattle.std.specs.List.{All, AllByRecursion}
+use Rattle.std.proofs.lemmas.List.Elements.{All-nil, All-cons}
+use Rattle.model.specs.Facts.{Fact}
+use Rattle.cert_types.specs.AnswerViews.{reason_of, fault_of}
+use Rattle.cert_types.specs.Views.{proof_of}
+use Rattle.cert_types.specs.declared.file.ProofFile as code
+use Rattle.cert_types.specs.cert_rules.Acceptance.{AcceptsNode, AcceptsLemmas, facts_of_lemmas}
+use Rattle.cert_types.specs.cert_rules.Checks.{IsFirstReason}
+use Rattle.cert_types.specs.cert_rules.GapChecks.{GapFault, GapHolds, Unbalanced, gap_checks}
+use Rattle.cert_types.specs.cert_rules.Gaps.{Gap}
+use Rattle.cert_types.specs.cert_rules.Nodes.{Proof, Cite, Start}
+use Rattle.cert_types.specs.cert_rules.Numbering.{nodes_of}
+use Rattle.cert_types.specs.cert_rules.Reasons.{Reason, CheckOf, IsFirstAmong, Shape, NotEmpty}
+use Rattle.cert_types.specs.cert_rules.Refusals.{FailsFirst, IsFirstFault, IsRefusedAt, IsRefusedAtGap}
+use Rattle.cert_types.specs.cert_rules.Setting.{Setting}
+use Rattle.cert_types.specs.cert_rules.WorkedGaps.{FailsAlone}
+use Rattle.cert_types.specs.cert_program.Laws.{AcceptsFileFor}
+use Rattle.cert_types.specs.cert_program.RankedSets.{forms_at}
+use Rattle.cert_types.specs.cert_program.Setting.{setting_of}
+use Rattle.cert_types.specs.cert_program.Worked.{three_rules}
+use Rattle.cert_types.proofs.cert_rules.FilesInLine.{file-refusals-in-line}
+use Rattle.cert_types.proofs.cert_rules.FirstFailures.{first-here, first-behind}
+use Rattle.cert_types.proofs.cert_rules.Refusals.{refusals-in-line}
+use Rattle.cert_types.proofs.cert_program.WorkedGaps.{gaps_of_programs}
+use Rattle.check_file.specs.Files.{CanBeNumbered, HasFewNodes, IsAcceptedWith}
+use Rattle.check_file.specs.WorkedFiles.{FilesAreNumbered, FilesAreAnswered, staying, falling, cited, off_lemma, off_gap}
+use Rattle.check_file.specs.WorkedFiles.{entry_facts}
+
+-- the numbers that were worked out
+pub files-numbered : FilesAreNumbered
+files-numbered = record {
+  nothing = λ f a b. record {
+    lemmas = omega (arith, ap length a);
+    gaps = omega (arith, ap length b);
+    nodes = subst (λ ps. AllByRecursion HasFewNodes (map proof_of ps)) (sym a) tt;
+  };
+  many_gaps = λ f a b. record {
+    lemmas = omega (arith, ap length a);
+    gaps = omega (arith, b);
+    nodes = subst (λ ps. AllByRecursion HasFewNodes (map proof_of ps)) (sym a) tt;
+  };
+  too_many_gaps = λ f e h. omega (arith, e, h.gaps);
+  many_lemmas = λ f h a b. record { lemmas = omega (arith, a); gaps = omega (arith, ap length b); nodes = h };
+  too_many_lemmas = λ f e h. omega (arith, e, h.lemmas);
+  many_nodes = λ proof e. omega (arith, e);
+  too_many_nodes = λ proof e h. omega (arith, e, h);
+}
+
+-- the setting of the program
+abbrev setting : Setting
+setting = setting_of three_rules
+
+-- its lemmas
+one_lemma : AcceptsLemmas setting (Start ∷ [])
+unfolding AcceptsLemmas
+one_lemma = (tt, tt)
+
+two_lemmas : AcceptsLemmas setting (Start ∷ Cite 1 ∷ [])
+unfolding AcceptsLemmas
+two_lemmas = (tt, (record { least = omega arith; earlier = omega arith }, tt))
+
+no_lemmas : AcceptsLemmas setting []
+unfolding AcceptsLemmas
+no_lemmas = tt
+
+-- that a gap holds, and its first fault
+abbrev Holds : Gap → Type 0
+Holds g = GapHolds three_rules (forms_at three_rules) g
+
+abbrev Fails : Gap → GapFault → Type 0
+Fails g x = IsFirstFault three_rules (forms_at three_rules) g x
+
+-- the one with which a check fails alone is the first
+alone-first : {R : Type 0} (cs : List (CheckOf R)) (r : R) → FailsAlone cs r → IsFirstAmong cs r
+alone-first [] r h = absurd h
+alone-first (c ∷ cs) r (inl h) = inl (h.0, h.1)
+alone-first (c ∷ cs) r (inr h) = inr (h.0, alone-first cs r h.1)
+
+-- the gap that is off
+falling-off : Fails falling (Unbalanced 0 1)
+falling-off = alone-first (gap_checks three_rules (forms_at three_rules) falling) (Unbalanced 0 1) gaps_of_programs.halving
+
+-- the file that is accepted
+cited-accepted : AcceptsFileFor three_rules cited
+cited-accepted = record {
+  lemmas = two_lemmas;
+  gaps = All-cons Holds staying [] gaps_of_programs.staying (All-nil Holds);
+}
+
+-- with the facts of both lemmas
+cited_has_facts : IsAcceptedWith three_rules cited (entry_facts ++ entry_facts)
+unfolding facts_of_lemmas
+cited_has_facts = record { accepted = cited-accepted; result_is = refl }
+
+-- two facts aren't four
+cited-not-once : ¬ (IsAcceptedWith three_rules cited entry_facts)
+unfolding facts_of_lemmas
+cited-not-once h =
+    let same : entry_facts ≡ entry_facts ++ entry_facts = h.result_is in
+    omega (arith, ap length same)
+
+-- the lemma that cites itself
+self-refused : IsRefusedAt setting (Start ∷ Cite 2 ∷ []) 2 1 Shape
+unfolding AcceptsLemmas facts_of_lemmas
+self-refused = record {
+  before = Start ∷ [];
+  proof = Cite 2;
+  behind = [];
+  whole = refl;
+  number = refl;
+  accepted = (tt, tt);
+  first =
+      first-here (AcceptsNode setting (entry_facts ∷ [])) (IsFirstReason setting (entry_facts ∷ [])) (Cite 2) [] Shape
+      (inl ((λ h. let low : 2 ≤ 1 = h.earlier in omega (arith, low)), refl));
+}
+
+-- it is refused nowhere else
+self-alone : (l i : ℕ) (r : Reason) → IsRefusedAt setting (Start ∷ Cite 2 ∷ []) l i r
+    → (2 ≡ l) × (1 ≡ i) × (Shape ≡ r)
+self-alone l i r h = refusals-in-line.one setting (Start ∷ Cite 2 ∷ []) 2 l 1 i Shape r self-refused h
+
+-- the gap that is off behind one that holds
+second-off : IsRefusedAtGap setting (forms_at three_rules) off_gap 2 (Unbalanced 0 1)
+second-off = record {
+  lemmas = one_lemma;
+  first =
+      first-behind Holds Fails staying (falling ∷ []) 1 (Unbalanced 0 1) gaps_of_programs.staying
+      (first-here Holds Fails falling [] (Unbalanced 0 1) falling-off);
+}
+
+-- no other is
+second-alone : (g : ℕ) (x : GapFault) → IsRefusedAtGap setting (forms_at three_rules) off_gap g x
+    → (2 ≡ g) × (Unbalanced 0 1 ≡ x)
+second-alone g x h =
+    file-refusals-in-line.one setting (forms_at three_rules) off_gap 2 g (Unbalanced 0 1) x second-off h
+
+-- faults and reasons that differ
+other-place : ¬ (Unbalanced 0 1 ≡ Unbalanced 0 0)
+other-place e = let same : ◌≡◌ {A = ℕ} 1 0 = cc in omega (arith, same)
+
+other-reason : ¬ (Shape ≡ NotEmpty)
+other-reason e = cc
+
+-- the answers that were worked out
+pub files-answered : FilesAreAnswered
+unfolding facts_of_lemmas
+files-answered = record {
+  nothing = record { accepted = record { lemmas = no_lemmas; gaps = All-nil Holds }; result_is = refl };
+  cited_accepted = cited_has_facts;
+  cited_once = cited-not-once;
+  cited_not_refused = λ l n r h.
+      ((file-refusals-in-line.none setting (forms_at three_rules) cited).0 cited-accepted).0.none l n (reason_of r) h;
+  cited_not_off = λ g x h.
+      ((file-refusals-in-line.none setting (forms_at three_rules) cited).0 cited-accepted).1.none g (fault_of x) h;
+  lemma_refused = self-refused;
+  other_lemma = λ h. omega (arith, (self-alone 1 1 Shape h).0);
+  other_node = λ h. omega (arith, (self-alone 2 2 Shape h).1);
+  other_reason = λ h. other-reason (self-alone 2 1 NotEmpty h).2;
+  lemma_first = λ g x h.
+      file-refusals-in-line.not_both setting (forms_at three_rules) off_lemma 2 1 g Shape (fault_of x) self-refused h;
+  lemma_not_accepted = λ facts h.
+      ((file-refusals-in-line.none setting (forms_at three_rules) off_lemma).0 h.accepted).0.none 2 1 Shape self-refused;
+  gap_refused = second-off;
+  other_gap = λ h. omega (arith, (second-alone 1 (Unbalanced 0 1) h).0);
+  other_fault = λ h. other-place (second-alone 2 (Unbalanced 0 0) h).1;
+  no_lemma = λ l n r h. ((refusals-in-line.none setting (Start ∷ [])).0 one_lemma).none l n (reason_of r) h;
+  gap_not_accepted = λ facts h.
+      ((file-refusals-in-line.none setting (forms_at three_rules) off_gap).0 h.accepted).1.none 2 (Unbalanced 0 1)
+      second-off;
+}

@@ -1,0 +1,86 @@
+-- What the words behind a command ask for.
+use Rattle.std.proofs.Common.{◌≡◌, ◌≢◌, ℕ, List, [], ◌∷◌, ◌++◌, Option, Some, None, MatchOption, ◌+◌, sym, ◌∙◌, ap}
+use Rattle.std.proofs.Common.{subst, take, drop, length, true, false, refl}
+use Rattle.std.specs.Prelude.{nat_eq}
+use Rattle.std.specs.Cmp.Lexicographic.{pointwise, same_text, other_text}
+use Rattle.std.proofs.lemmas.List.{take-append-drop}
+use Rattle.command_line.specs.declared.request.Request as declared
+use Rattle.command_line.specs.declared.command.Command.{Command}
+use Rattle.command_line.specs.Lines.{Word, Words, Gives}
+use Rattle.command_line.specs.Requests.{Request, word_of, command_of, AsksWith, Asks}
+use Rattle.command_line.specs.Steps.{IsAskedBy, AsksNone}
+use Rattle.command_line.specs.Views.{request_of}
+use Rattle.command_line.proofs.OneWay.{one_line, one_command, request_by, one_by}
+use Rattle.command_line.proofs.Firsts.{gives_along}
+
+-- the rest of a word behind its first bytes
+pub none_behind : (w p : List ℕ) → pointwise nat_eq (take (length p) w) p ≡ false → (rest : List ℕ) → w ≢ p ++ rest
+none_behind w p h rest e = other_text (take (length p) w) p (sym h) (ap (take (length p)) e ∙ take_first p rest)
+  where
+    take_first : (ps rest : List ℕ) → take (length ps) (ps ++ rest) ≡ ps
+    take_first [] rest = refl
+    take_first (p ∷ ps) rest = ap (λ (qs : List ℕ). p ∷ qs) (take_first ps rest)
+
+-- a word that begins with these bytes is these bytes and what is left of it behind them
+pub some_behind : (w p x : List ℕ) → pointwise nat_eq (take (length p) w) p ≡ true → x ≡ drop (length p) w → w ≡ p ++ x
+some_behind w p x h e =
+    let first : take (length p) w ≡ p = same_text (take (length p) w) p (sym h) in
+    let all : take (length p) w ++ drop (length p) w ≡ w = take-append-drop (length p) w in
+    cc
+
+-- of what is left behind the first bytes, where these are a word's
+pub stripped : {X : Type 0} (r : Option X) (f : X → List ℕ) (w p : List ℕ)
+    → MatchOption r (pointwise nat_eq (take (length p) w) p ≡ false)
+    (λ x. (pointwise nat_eq (take (length p) w) p ≡ true) × (f x ≡ drop (length p) w) × (length (f x) + length p ≡ length w))
+    → MatchOption r ((rest : List ℕ) → w ≢ p ++ rest) (λ x. w ≡ p ++ f x)
+stripped None f w p h = none_behind w p h
+stripped (Some x) f w p h = some_behind w p (f x) h.0 h.1
+
+-- no words ask for nothing
+pub none_of_none : (q : Request) → ¬ (Asks [] q)
+none_of_none q h = let e : [] ≡ word_of (command_of q) ∷ h.others = h.command in cc
+
+-- words that begin with no command ask for nothing
+pub none_without_command : (words : Words) (first : Word) (others : Words) → words ≡ first ∷ others
+    → ((c : Command) → first ≢ word_of c) → (q : Request) → ¬ (Asks words q)
+none_without_command words first others e none q h =
+    let same : first ≡ word_of (command_of q) = cc (e, h.command) in
+    none (command_of q) same
+
+-- where the words behind the command give nothing, there is no request
+pub none_given : (words : Words) (first : Word) (others : Words) → words ≡ first ∷ others → ((v p : Words) → ¬ (Gives others v p))
+    → (q : Request) → ¬ (Asks words q)
+none_given words first others e none q h =
+    let same : others ≡ h.others = cc (e, h.command) in
+    none h.values h.positionals (gives_along _ _ _ _ _ _ same refl refl h.gives)
+
+-- what they give is the request
+pub asked_for : (words : Words) (first : Word) (others vs ps : Words) (c : Command) (r : Option declared.Request)
+    → words ≡ first ∷ others → first ≡ word_of c → Gives others vs ps
+    → MatchOption r (AsksNone c vs ps) (λ q. IsAskedBy c vs ps (request_of q))
+    → MatchOption r ((q : Request) → ¬ (Asks words q)) (λ q. Asks words (request_of q))
+asked_for words first others vs ps c None e f g none = go
+  where
+    go : (q : Request) → ¬ (Asks words q)
+    go q h =
+        let same : h.others ≡ others = cc (e, h.command) in
+        let heads : word_of (command_of q) ≡ word_of c = cc (e, f, h.command) in
+        let line = one_line others h.values h.positionals vs ps (gives_along _ _ _ _ _ _ (sym same) refl refl h.gives) g in
+        none q (record {
+          command_is = one_command (command_of q) c heads;
+          parts = subst (λ (ws : Words). AsksWith q ws ps) line.0 (subst (λ (ws : Words). AsksWith q h.values ws) line.1 h.parts);
+        })
+asked_for words first others vs ps c (Some q) e f g a = record {
+  others = others;
+  values = vs;
+  positionals = ps;
+  command = e ∙ ap (λ (w : Word). w ∷ others) (f ∙ ap word_of (sym a.command_is));
+  gives = g;
+  parts = a.parts;
+}
+
+-- a command has no request with these values and positionals where its only possible one isn't a request
+pub none_by : (c : Command) (vs ps : Words) → ¬ (AsksWith (request_by c vs ps) vs ps) → AsksNone c vs ps
+none_by c vs ps none q a =
+    none (subst (λ (r : Request). AsksWith r vs ps)
+    (one_by q vs ps a.parts ∙ ap (λ (d : Command). request_by d vs ps) a.command_is) a.parts)

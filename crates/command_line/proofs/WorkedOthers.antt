@@ -1,0 +1,292 @@
+-- Words that ask for nothing.
+use Rattle.std.proofs.Common.{◌≡◌, ◌≢◌, ℕ, [], ◌∷◌, ◌++◌, refl, sym, ◌∙◌, ap, subst, arith, codes, get_or, true}
+use Rattle.std.proofs.Common.{false, length}
+use Rattle.command_line.specs.declared.command.Command.{Command}
+use Rattle.command_line.specs.declared.command.Command.TheVariants as commands
+use Rattle.command_line.specs.Lines.{Word, Words, is_plain, Gives}
+use Rattle.command_line.specs.Numerals.{IsNumber}
+use Rattle.command_line.specs.Requests.{word_of, command_of, AllowsPivots, AsksWith}
+use Rattle.command_line.specs.Steps.{IsOther}
+use Rattle.command_line.specs.Worked.{OtherWords, AsksNothing}
+use Rattle.command_line.proofs.OneWay.{one_command, request_by}
+use Rattle.command_line.proofs.Commands.{none_of_none, none_without_command, none_by}
+use Rattle.command_line.proofs.Firsts.{apart_first, joined_first, plain_first, other_first, none_first, gives_along}
+
+-- words with a command that asks for nothing with what they give ask for nothing
+nothing : (c : Command) (others : Words)
+    → ((values positionals : Words) → Gives others values positionals → ¬ (AsksWith (request_by c values positionals) values positionals))
+    → AsksNothing (word_of c ∷ others)
+nothing c others none r h =
+    let heads : word_of (command_of r) ≡ word_of c = cc (h.command) in
+    let same : others ≡ h.others = cc (h.command) in
+    none_by c h.values h.positionals (none h.values h.positionals (gives_along _ _ _ _ _ _ same refl refl h.gives)) r
+    (record { command_is = one_command (command_of r) c heads; parts = h.parts })
+
+-- so do those behind `analyse` where there is no file with a number of pivots
+no_analysis : (others : Words) → ((values : Words) (n : ℕ) (file : Word) → Gives others values (file ∷ []) → AllowsPivots values n → ⊥)
+    → AsksNothing (codes "analyse" ∷ others)
+no_analysis others none = nothing commands.Analyse others (λ values positionals g h. none values _ _ (gives_along _ _ _ _ _ _ refl refl (sym h.one) g) h.allowed)
+
+-- the same behind `facts`
+no_facts : (others : Words) → ((values : Words) (n : ℕ) (file : Word) → Gives others values (file ∷ []) → AllowsPivots values n → ⊥)
+    → AsksNothing (codes "facts" ∷ others)
+no_facts others none = nothing commands.Facts others (λ values positionals g h. none values _ _ (gives_along _ _ _ _ _ _ refl refl (sym h.one) g) h.allowed)
+
+-- and those behind another command where there are no two files without the option, or no number without it
+no_check : (others : Words) → ((first second : Word) → Gives others [] (first ∷ second ∷ []) → ⊥) → AsksNothing (codes "check" ∷ others)
+no_check others none = nothing commands.Check others (λ values positionals g h. none _ _ (gives_along _ _ _ _ _ _ refl (sym h.no_option) (sym h.two) g))
+
+no_replay : (others : Words) → ((first second : Word) → Gives others [] (first ∷ second ∷ []) → ⊥) → AsksNothing (codes "replay" ∷ others)
+no_replay others none = nothing commands.Replay others (λ values positionals g h. none _ _ (gives_along _ _ _ _ _ _ refl (sym h.no_option) (sym h.two) g))
+
+no_program : (others : Words) → ((word : Word) (n : ℕ) → Gives others [] (word ∷ []) → IsNumber 100 word n → ⊥)
+    → AsksNothing (codes "generate" ∷ others)
+no_program others none = nothing commands.Generate others (λ values positionals g h. none _ _ (gives_along _ _ _ _ _ _ refl (sym h.no_option) (sym h.one) g) h.number)
+
+no_figures : (others : Words) → ((word : Word) (n : ℕ) → Gives others [] (word ∷ []) → IsNumber 100 word n → ⊥)
+    → AsksNothing (codes "selfrun" ∷ others)
+no_figures others none = nothing commands.Selfrun others (λ values positionals g h. none _ _ (gives_along _ _ _ _ _ _ refl (sym h.no_option) (sym h.one) g) h.number)
+
+no_word : AsksNothing []
+no_word = none_of_none
+
+-- `Analyse` is no command
+other_command : AsksNothing (codes "Analyse" ∷ codes "p" ∷ [])
+other_command = none_without_command _ (codes "Analyse") (codes "p" ∷ []) refl go
+  where
+    go : (c : Command) → codes "Analyse" ≢ word_of c
+    go commands.Analyse e = omega (arith, ap (λ (w : Word). get_or w 0 0) e)
+    go commands.Prove e = omega (arith, ap (λ (w : Word). get_or w 0 0) e)
+    go commands.Check e = omega (arith, ap (λ (w : Word). get_or w 0 0) e)
+    go commands.Replay e = omega (arith, ap (λ (w : Word). get_or w 0 0) e)
+    go commands.Generate e = omega (arith, ap (λ (w : Word). get_or w 0 0) e)
+    go commands.Selfrun e = omega (arith, ap (λ (w : Word). get_or w 0 0) e)
+    go commands.Facts e = omega (arith, ap (λ (w : Word). get_or w 0 0) e)
+
+-- nor are `gen`, `analys` and `fact`, which lack letters, nor an option
+shorter_command : AsksNothing (codes "gen" ∷ codes "1" ∷ [])
+shorter_command = none_without_command _ (codes "gen") (codes "1" ∷ []) refl go
+  where
+    go : (c : Command) → codes "gen" ≢ word_of c
+    go commands.Analyse e = omega (arith, ap length e)
+    go commands.Prove e = omega (arith, ap length e)
+    go commands.Check e = omega (arith, ap length e)
+    go commands.Replay e = omega (arith, ap length e)
+    go commands.Generate e = omega (arith, ap length e)
+    go commands.Selfrun e = omega (arith, ap length e)
+    go commands.Facts e = omega (arith, ap length e)
+
+letter_missing : AsksNothing (codes "analys" ∷ codes "p" ∷ [])
+letter_missing = none_without_command _ (codes "analys") (codes "p" ∷ []) refl go
+  where
+    go : (c : Command) → codes "analys" ≢ word_of c
+    go commands.Analyse e = omega (arith, ap length e)
+    go commands.Prove e = omega (arith, ap length e)
+    go commands.Check e = omega (arith, ap length e)
+    go commands.Replay e = omega (arith, ap (λ (w : Word). get_or w 0 0) e)
+    go commands.Generate e = omega (arith, ap length e)
+    go commands.Selfrun e = omega (arith, ap length e)
+    go commands.Facts e = omega (arith, ap length e)
+
+one_fact : AsksNothing (codes "fact" ∷ codes "p" ∷ [])
+one_fact = none_without_command _ (codes "fact") (codes "p" ∷ []) refl go
+  where
+    go : (c : Command) → codes "fact" ≢ word_of c
+    go commands.Analyse e = omega (arith, ap length e)
+    go commands.Prove e = omega (arith, ap length e)
+    go commands.Check e = omega (arith, ap length e)
+    go commands.Replay e = omega (arith, ap length e)
+    go commands.Generate e = omega (arith, ap length e)
+    go commands.Selfrun e = omega (arith, ap length e)
+    go commands.Facts e = omega (arith, ap length e)
+
+option_alone : AsksNothing (codes "--version" ∷ [])
+option_alone = none_without_command _ (codes "--version") [] refl go
+  where
+    go : (c : Command) → codes "--version" ≢ word_of c
+    go commands.Analyse e = omega (arith, ap length e)
+    go commands.Prove e = omega (arith, ap length e)
+    go commands.Check e = omega (arith, ap length e)
+    go commands.Replay e = omega (arith, ap length e)
+    go commands.Generate e = omega (arith, ap length e)
+    go commands.Selfrun e = omega (arith, ap length e)
+    go commands.Facts e = omega (arith, ap length e)
+
+option_first : AsksNothing (codes "--pivots" ∷ codes "5" ∷ codes "analyse" ∷ codes "p" ∷ [])
+option_first = none_without_command _ (codes "--pivots") (codes "5" ∷ codes "analyse" ∷ codes "p" ∷ []) refl go
+  where
+    go : (c : Command) → codes "--pivots" ≢ word_of c
+    go commands.Analyse e = omega (arith, ap (λ (w : Word). get_or w 0 0) e)
+    go commands.Prove e = omega (arith, ap (λ (w : Word). get_or w 0 0) e)
+    go commands.Check e = omega (arith, ap (λ (w : Word). get_or w 0 0) e)
+    go commands.Replay e = omega (arith, ap (λ (w : Word). get_or w 0 0) e)
+    go commands.Generate e = omega (arith, ap (λ (w : Word). get_or w 0 0) e)
+    go commands.Selfrun e = omega (arith, ap (λ (w : Word). get_or w 0 0) e)
+    go commands.Facts e = omega (arith, ap (λ (w : Word). get_or w 0 0) e)
+
+no_file : (values : Words) (n : ℕ) (file : Word) → Gives [] values (file ∷ []) → AllowsPivots values n → ⊥
+no_file values n file g a = let e = (none_first values (file ∷ []) g).1 in cc
+
+-- the option and then the file
+file_last : (values : Words) (file : Word) → Gives (codes "p" ∷ []) values (file ∷ []) → values ≡ []
+file_last values file g =
+    let one = plain_first (codes "p") [] values (file ∷ []) refl g in
+    (none_first values one.0 one.1).0
+
+two_files : (values : Words) (n : ℕ) (file : Word) → Gives (codes "p" ∷ codes "p" ∷ []) values (file ∷ []) → AllowsPivots values n → ⊥
+two_files values n file g a =
+    let one = plain_first (codes "p") (codes "p" ∷ []) values (file ∷ []) refl g in
+    let two = plain_first (codes "p") [] values one.0 refl one.1 in
+    let e : file ∷ [] ≡ codes "p" ∷ codes "p" ∷ two.0 = one.2 ∙ ap (λ (ws : Words). codes "p" ∷ ws) two.2 in
+    cc
+
+leading_zero : (values : Words) (n : ℕ) (file : Word) → Gives (codes "--pivots" ∷ codes "01" ∷ codes "p" ∷ []) values (file ∷ [])
+    → AllowsPivots values n → ⊥
+leading_zero values n file g a =
+    let one = apart_first (codes "--pivots") (codes "01" ∷ codes "p" ∷ []) values (file ∷ []) refl g in
+    let head : codes "01" ≡ one.value = cc (one.first) in
+    let tail : codes "p" ∷ [] ≡ one.others = cc (one.first) in
+    let none = file_last one.more file (gives_along _ _ _ _ _ _ tail refl refl one.gives) in
+    let all : values ≡ codes "01" ∷ [] = cc (one.has_values, head, none) in
+    let number = subst (λ (vs : Words). AllowsPivots vs n) all a in
+    let e : true ≡ false = number.plain in
+    cc
+
+too_many : (values : Words) (n : ℕ) (file : Word) → Gives ((codes "--pivots=" ++ codes "1000001") ∷ codes "p" ∷ []) values (file ∷ [])
+    → AllowsPivots values n → ⊥
+too_many values n file g a =
+    let one = joined_first (codes "--pivots=" ++ codes "1000001") (codes "1000001") (codes "p" ∷ []) values (file ∷ []) refl g in
+    let none = file_last one.0 file one.2 in
+    let all : values ≡ codes "1000001" ∷ [] = cc (one.3, none) in
+    let number = subst (λ (vs : Words). AllowsPivots vs n) all a in
+    over n number
+  where
+    over : (m : ℕ) → IsNumber 1000000 (codes "1000001") m → ⊥
+    over m h = omega (arith, h.value, h.in_range)
+
+no_number : (values : Words) (n : ℕ) (file : Word) → Gives ((codes "--pivots=" ++ []) ∷ codes "p" ∷ []) values (file ∷ [])
+    → AllowsPivots values n → ⊥
+no_number values n file g a =
+    let one = joined_first (codes "--pivots=" ++ []) [] (codes "p" ∷ []) values (file ∷ []) refl g in
+    let none = file_last one.0 file one.2 in
+    let all : values ≡ [] ∷ [] = cc (one.3, none) in
+    let number = subst (λ (vs : Words). AllowsPivots vs n) all a in
+    number.some refl
+
+twice : (values : Words) (n : ℕ) (file : Word)
+    → Gives ((codes "--pivots=" ++ codes "1") ∷ codes "--pivots" ∷ codes "1" ∷ codes "p" ∷ []) values (file ∷ []) → AllowsPivots values n → ⊥
+twice values n file g a =
+    let one = joined_first (codes "--pivots=" ++ codes "1") (codes "1") (codes "--pivots" ∷ codes "1" ∷ codes "p" ∷ []) values (file ∷ []) refl g in
+    let two = apart_first (codes "--pivots") (codes "1" ∷ codes "p" ∷ []) one.0 (file ∷ []) refl one.2 in
+    let all : values ≡ codes "1" ∷ two.value ∷ two.more = cc (one.3, two.has_values) in
+    subst (λ (vs : Words). AllowsPivots vs n) all a
+
+no_value : (values : Words) (n : ℕ) (file : Word) → Gives (codes "p" ∷ codes "--pivots" ∷ []) values (file ∷ []) → AllowsPivots values n → ⊥
+no_value values n file g a =
+    let one = plain_first (codes "p") (codes "--pivots" ∷ []) values (file ∷ []) refl g in
+    let two = apart_first (codes "--pivots") [] values one.0 refl one.1 in
+    let e : [] ≡ two.value ∷ two.others = two.first in
+    cc
+
+help_is_other : IsOther (codes "--help")
+help_is_other = record {
+  end = λ e. omega (arith, ap (λ (w : Word). get_or w 2 0) e);
+  apart = λ e. omega (arith, ap (λ (w : Word). get_or w 2 0) e);
+  joined = λ v e. omega (arith, ap (λ (w : Word). get_or w 2 0) e);
+  plain = refl;
+}
+
+other_option : (values : Words) (n : ℕ) (file : Word) → Gives (codes "--help" ∷ codes "p" ∷ []) values (file ∷ []) → AllowsPivots values n → ⊥
+other_option values n file g a = other_first (codes "--help") (codes "p" ∷ []) values (file ∷ []) help_is_other g
+
+short_is_other : IsOther (codes "-p")
+short_is_other = record {
+  end = λ e. omega (arith, ap (λ (w : Word). get_or w 1 0) e);
+  apart = λ e. omega (arith, ap (λ (w : Word). get_or w 1 0) e);
+  joined = λ v e. omega (arith, ap (λ (w : Word). get_or w 1 0) e);
+  plain = refl;
+}
+
+short_option : (values : Words) (n : ℕ) (file : Word) → Gives (codes "-p" ∷ []) values (file ∷ []) → AllowsPivots values n → ⊥
+short_option values n file g a = other_first (codes "-p") [] values (file ∷ []) short_is_other g
+
+one_of_two : (first second : Word) → Gives (codes "p" ∷ []) [] (first ∷ second ∷ []) → ⊥
+one_of_two first second g =
+    let one = plain_first (codes "p") [] [] (first ∷ second ∷ []) refl g in
+    let e : first ∷ second ∷ [] ≡ codes "p" ∷ [] = one.2 ∙ ap (λ (ws : Words). codes "p" ∷ ws) (none_first [] one.0 one.1).1 in
+    cc
+
+three_files : (first second : Word) → Gives (codes "p" ∷ codes "q" ∷ codes "r" ∷ []) [] (first ∷ second ∷ []) → ⊥
+three_files first second g =
+    let one = plain_first (codes "p") (codes "q" ∷ codes "r" ∷ []) [] (first ∷ second ∷ []) refl g in
+    let two = plain_first (codes "q") (codes "r" ∷ []) [] one.0 refl one.1 in
+    let three = plain_first (codes "r") [] [] two.0 refl two.1 in
+    let e : first ∷ second ∷ [] ≡ codes "p" ∷ codes "q" ∷ codes "r" ∷ three.0 = one.2
+    ∙ ap (λ (ws : Words). codes "p" ∷ ws) (two.2 ∙ ap (λ (ws : Words). codes "q" ∷ ws) three.2) in
+    cc
+
+option_of_two : (first second : Word) → Gives ((codes "--pivots=" ++ codes "5") ∷ codes "p" ∷ codes "q" ∷ []) [] (first ∷ second ∷ []) → ⊥
+option_of_two first second g =
+    let one = joined_first (codes "--pivots=" ++ codes "5") (codes "5") (codes "p" ∷ codes "q" ∷ []) [] (first ∷ second ∷ []) refl g in
+    let e : [] ≡ codes "5" ∷ one.0 = one.3 in
+    cc
+
+option_of_number : (word : Word) (n : ℕ) → Gives (codes "--pivots" ∷ codes "5" ∷ codes "1" ∷ []) [] (word ∷ []) → IsNumber 100 word n → ⊥
+option_of_number word n g h =
+    let one = apart_first (codes "--pivots") (codes "5" ∷ codes "1" ∷ []) [] (word ∷ []) refl g in
+    let e : [] ≡ one.value ∷ one.more = one.has_values in
+    cc
+
+two_numbers : (word : Word) (n : ℕ) → Gives (codes "1" ∷ codes "2" ∷ []) [] (word ∷ []) → IsNumber 100 word n → ⊥
+two_numbers word n g h =
+    let one = plain_first (codes "1") (codes "2" ∷ []) [] (word ∷ []) refl g in
+    let two = plain_first (codes "2") [] [] one.0 refl one.1 in
+    let e : word ∷ [] ≡ codes "1" ∷ codes "2" ∷ two.0 = one.2 ∙ ap (λ (ws : Words). codes "1" ∷ ws) two.2 in
+    cc
+
+-- the number that is the only word behind a command
+the_number : (w word : Word) (n : ℕ) → is_plain w ≡ true → Gives (w ∷ []) [] (word ∷ []) → IsNumber 100 word n → IsNumber 100 w n
+the_number w word n plain g h =
+    let one = plain_first w [] [] (word ∷ []) plain g in
+    let same : word ≡ w = cc (one.2) in
+    subst (λ (v : Word). IsNumber 100 v n) same h
+
+too_large : (n : ℕ) → IsNumber 100 (codes "101") n → ⊥
+too_large n h = omega (arith, h.value, h.in_range)
+
+zero_first : (n : ℕ) → IsNumber 100 (codes "01") n → ⊥
+zero_first n h = let e : true ≡ false = h.plain in cc
+
+with_sign : (n : ℕ) → IsNumber 100 (codes "+1") n → ⊥
+with_sign n h = let e : false ≡ true = h.digits in cc
+
+pub other_words : OtherWords
+other_words = record {
+  no_word = no_word;
+  other_command = other_command;
+  shorter_command = shorter_command;
+  letter_missing = letter_missing;
+  option_alone = option_alone;
+  option_first = option_first;
+  no_file = no_analysis [] no_file;
+  two_files = no_analysis (codes "p" ∷ codes "p" ∷ []) two_files;
+  leading_zero = no_analysis (codes "--pivots" ∷ codes "01" ∷ codes "p" ∷ []) leading_zero;
+  too_many = no_analysis ((codes "--pivots=" ++ codes "1000001") ∷ codes "p" ∷ []) too_many;
+  no_number = no_analysis ((codes "--pivots=" ++ []) ∷ codes "p" ∷ []) no_number;
+  twice = no_analysis ((codes "--pivots=" ++ codes "1") ∷ codes "--pivots" ∷ codes "1" ∷ codes "p" ∷ []) twice;
+  no_value = no_analysis (codes "p" ∷ codes "--pivots" ∷ []) no_value;
+  other_option = no_analysis (codes "--help" ∷ codes "p" ∷ []) other_option;
+  short_option = no_analysis (codes "-p" ∷ []) short_option;
+  one_of_two = no_check (codes "p" ∷ []) one_of_two;
+  three_files = no_check (codes "p" ∷ codes "q" ∷ codes "r" ∷ []) three_files;
+  option_of_two = no_replay ((codes "--pivots=" ++ codes "5") ∷ codes "p" ∷ codes "q" ∷ []) option_of_two;
+  too_large = no_program (codes "101" ∷ []) (λ word n g h. too_large n (the_number (codes "101") word n refl g h));
+  two_numbers = no_program (codes "1" ∷ codes "2" ∷ []) two_numbers;
+  zero_first = no_figures (codes "01" ∷ []) (λ word n g h. zero_first n (the_number (codes "01") word n refl g h));
+  with_sign = no_figures (codes "+1" ∷ []) (λ word n g h. with_sign n (the_number (codes "+1") word n refl g h));
+  no_digit = no_program ([] ∷ []) (λ word n g h. (the_number [] word n refl g h).some refl);
+  option_of_number = no_figures (codes "--pivots" ∷ codes "5" ∷ codes "1" ∷ []) option_of_number;
+  facts_of_none = no_facts [] no_file;
+  facts_of_two = no_facts (codes "p" ∷ codes "p" ∷ []) two_files;
+  one_fact = one_fact;
+}

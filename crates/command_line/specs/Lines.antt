@@ -1,0 +1,70 @@
+-- The words behind the command as they are written: options, positionals, and the words behind `--`.
+use Rattle.std.specs.Prelude.{◌≡◌, ℕ, Bool, true, not, ◌==◌, List, [], ◌∷◌, ◌++◌, Option, Some, None, IsTrue, ⊤}
+use Rattle.std.specs.Prelude.{codes}
+
+-- a word as its bytes
+abbrev pub Word : Type 0
+Word = List ℕ
+
+abbrev pub Words : Type 0
+Words = List Word
+
+-- whether a word is a positional where options are permitted: it doesn't begin with `-`, or it is `-` alone
+abbrev pub is_plain : Word → Bool
+is_plain [] = true
+is_plain (b ∷ []) = true
+is_plain (b ∷ c ∷ word) = not (b == 45)
+
+-- whether a word can be the value of an option: it doesn't begin with `-`
+abbrev pub is_value : Word → Bool
+is_value [] = true
+is_value (b ∷ word) = not (b == 45)
+
+-- what is written on a command line: `--pivots V`, `--pivots=V`, or a positional
+pub data Item : Type 0 where
+  Apart : Word → Item
+  Joined : Word → Item
+  Positional : Word → Item
+
+-- it is permitted where options are
+abbrev pub IsItem : Item → Type 0
+IsItem (Apart value) = IsTrue (is_value value)
+IsItem (Joined value) = IsTrue (is_value value)
+IsItem (Positional word) = IsTrue (is_plain word)
+
+-- each of them can
+abbrev pub AreItems : List Item → Type 0
+AreItems [] = ⊤
+AreItems (item ∷ items) = IsItem item × AreItems items
+
+-- the words of the items, and then, where there are words behind it, `--` with these words
+abbrev pub words_of_items : List Item → Option Words → Words
+words_of_items [] None = []
+words_of_items [] (Some behind) = codes "--" ∷ behind
+words_of_items (Apart value ∷ items) behind = codes "--pivots" ∷ value ∷ words_of_items items behind
+words_of_items (Joined value ∷ items) behind = (codes "--pivots=" ++ value) ∷ words_of_items items behind
+words_of_items (Positional word ∷ items) behind = word ∷ words_of_items items behind
+
+-- the values of the option, in order
+abbrev pub values_of : List Item → Words
+values_of [] = []
+values_of (Apart value ∷ items) = value ∷ values_of items
+values_of (Joined value ∷ items) = value ∷ values_of items
+values_of (Positional word ∷ items) = values_of items
+
+-- the positionals, in order: those among the items, and all words behind `--`
+abbrev pub positionals_of : List Item → Option Words → Words
+positionals_of [] None = []
+positionals_of [] (Some behind) = behind
+positionals_of (Apart value ∷ items) behind = positionals_of items behind
+positionals_of (Joined value ∷ items) behind = positionals_of items behind
+positionals_of (Positional word ∷ items) behind = word ∷ positionals_of items behind
+
+-- the words are written of items that are permitted there, with these values of the option and these positionals
+pub record Gives (words values positionals : Words) : Type 0 where
+  pub items : List Item
+  pub behind : Option Words
+  pub proper : AreItems items
+  pub spelled : words ≡ words_of_items items behind
+  pub has_values : values ≡ values_of items
+  pub has_positionals : positionals ≡ positionals_of items behind

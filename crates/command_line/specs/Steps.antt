@@ -1,0 +1,102 @@
+-- How the words behind the command are read, one by one.
+use Rattle.std.specs.Prelude.{◌≡◌, ◌≢◌, [], ◌∷◌, ◌++◌, map, string_bytes, IsTrue, IsFalse, codes}
+use Rattle.command_line.specs.Lines.{Word, Words, is_plain, is_value, Gives}
+use Rattle.command_line.specs.Requests.{Request, command_of, AsksWith}
+use Rattle.command_line.specs.declared.command.Command.{Command}
+use Rattle.command_line.specs.declared.kind.Kind.{Kind}
+use Rattle.command_line.specs.declared.kind.Kind.TheVariants as kinds
+use Rattle.command_line.specs.declared.line.Next.{Next}
+use Rattle.command_line.specs.declared.line.Next.TheVariants as nexts
+use Rattle.command_line.specs.declared.line.Line.{Line}
+
+-- no way to write anything begins with this word
+pub record IsOther (word : Word) : Type 0 where
+  pub end : word ≢ codes "--"
+  pub apart : word ≢ codes "--pivots"
+  pub joined : (value : Word) → word ≢ codes "--pivots=" ++ value
+  pub plain : IsFalse (is_plain word)
+
+-- the kind of a word where options are permitted
+abbrev pub IsKind : Kind → Word → Type 0
+IsKind kinds.End word = word ≡ codes "--"
+IsKind kinds.Pivots word = word ≡ codes "--pivots"
+IsKind (kinds.PivotsOf value) word = word ≡ codes "--pivots=" ++ value.now
+IsKind kinds.Plain word = IsTrue (is_plain word)
+IsKind kinds.Other word = IsOther word
+
+-- a word that is the value of the option before it, and what the others give
+pub record GivesValue (words values positionals : Words) : Type 0 where
+  pub value : Word
+  pub others : Words
+  pub more : Words
+  pub first : words ≡ value ∷ others
+  pub proper : IsTrue (is_value value)
+  pub gives : Gives others more positionals
+  pub has_values : values ≡ value ∷ more
+
+-- what the remaining words give, by what may come next
+abbrev pub GivesNext : Next → Words → Words → Words → Type 0
+GivesNext nexts.Word words values positionals = Gives words values positionals
+GivesNext nexts.Value words values positionals = GivesValue words values positionals
+GivesNext nexts.Positional words values positionals = (values ≡ []) × (positionals ≡ words)
+
+-- the state of reading a line: what may come next, the values of the option, and the positionals
+pub record State : Type 0 where
+  pub next : Next
+  pub values : Words
+  pub positionals : Words
+
+-- what the words that are left give, beside what was read
+pub record GivesBeside (read : State) (words values positionals : Words) : Type 0 where
+  pub more_values : Words
+  pub more_positionals : Words
+  pub gives : GivesNext read.next words more_values more_positionals
+  pub has_values : values ≡ read.values ++ more_values
+  pub has_positionals : positionals ≡ read.positionals ++ more_positionals
+
+-- the values and the positionals of a line as plain data
+abbrev pub values_in : Line → Words
+values_in line = map (λ value. value.items) line.values.items
+
+abbrev pub positionals_in : Line → Words
+positionals_in line = map string_bytes line.positionals.items
+
+abbrev pub state_of : Line → State
+state_of line = record { next = line.next; values = values_in line; positionals = positionals_in line }
+
+-- reading all words has the result of reading these after what was read
+pub record Leads (all : Words) (read : State) (left : Words) : Type 0 where
+  pub forth : (values positionals : Words) → GivesBeside read left values positionals → Gives all values positionals
+  pub back : (values positionals : Words) → Gives all values positionals → GivesBeside read left values positionals
+
+-- the word is taken: what the words behind it give is then what they give with it before
+pub record Takes (old : State) (word : Word) (new : State) : Type 0 where
+  pub forth : (left values positionals : Words) → GivesBeside new left values positionals
+      → GivesBeside old (word ∷ left) values positionals
+  pub back : (left values positionals : Words) → GivesBeside old (word ∷ left) values positionals
+      → GivesBeside new left values positionals
+
+-- the word isn't permitted there, whatever follows it
+pub record Refuses (old : State) (word : Word) : Type 0 where
+  pub none : (left values positionals : Words) → ¬ (GivesBeside old (word ∷ left) values positionals)
+
+-- the line has one more positional
+pub record HasOnePositional (old : Line) (word : Word) (new : Line) : Type 0 where
+  pub values : values_in new ≡ values_in old
+  pub positionals : positionals_in new ≡ positionals_in old ++ word ∷ []
+  pub next : new.next ≡ old.next
+
+-- the line has one more value of the option, behind which any word is permitted
+pub record IsValued (old : Line) (value : Word) (new : Line) : Type 0 where
+  pub values : values_in new ≡ values_in old ++ value ∷ []
+  pub positionals : positionals_in new ≡ positionals_in old
+  pub next : new.next ≡ nexts.Word
+
+-- the request is that of the command with these values of the option and these positionals
+pub record IsAskedBy (command : Command) (values positionals : Words) (request : Request) : Type 0 where
+  pub command_is : command_of request ≡ command
+  pub parts : AsksWith request values positionals
+
+-- no request of the command has these values of the option and these positionals
+abbrev pub AsksNone : Command → Words → Words → Type 0
+AsksNone command values positionals = (request : Request) → ¬ (IsAskedBy command values positionals request)

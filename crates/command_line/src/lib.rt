@@ -1,0 +1,17 @@
+//! Parses the command line: what the words after the program's name request.
+//!
+//! Builds on `text_core`. Main guarantee: `command_line` returns the request of the words exactly where they are a command
+//! line, and none exactly where they aren't.
+#![tactic(auto)]
+
+mod command;
+mod kind;
+mod law;
+mod line;
+mod number;
+mod request;
+mod taking;
+
+pub use law::{command_lines_are_as_worked_out, words_are_read_in_one_way};
+pub use request::{Request, asks};
+pub use taking::DEFAULT_PIVOTS;

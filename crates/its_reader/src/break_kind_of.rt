@@ -1,0 +1,45 @@
+//! Why a text breaks off.
+
+ghost use Rattle.std.specs.Prelude.{◌≡◌};
+ghost use Rattle.expr_reader.specs.Views.{piece_of as inner_plain};
+ghost use Rattle.its_text.specs.FrontFaults.{is_no_name as plain_no_name};
+ghost use Rattle.its_reader.specs.Faults.{kind_of};
+ghost use Rattle.its_reader.specs.FaultTests.{break_kind_in, wants_left};
+ghost use Rattle.its_reader.specs.Views.{piece_of as plain_of};
+
+use crate::fault::Kind;
+use crate::parser_state::ParserState;
+use crate::piece::Piece;
+use expr_reader::Piece as Inner;
+
+/// The kind of refusal where the text breaks off at the next piece.
+pub(crate) fn break_kind(state: ParserState, next: Piece<'_>) -> Kind
+    ensures { kind_of result ≡ break_kind_in (wants_left state) (plain_of next.entry) }
+{
+    break_kind_of_wanted(state.wants_left(), next)
+}
+
+// The same where a left argument is wanted, or not.
+fn break_kind_of_wanted(wanted: bool, next: Piece<'_>) -> Kind
+    ensures { kind_of result ≡ break_kind_in wanted (plain_of next.entry) }
+{
+    match next {
+        Piece::Strange => Kind::NotAscii,
+        Piece::Disjoining => Kind::Disjunction,
+        Piece::In(piece) => {
+            if wanted && is_no_name(piece) {
+                Kind::LeftNotVariable
+            } else {
+                Kind::Syntax
+            }
+        }
+        _ => Kind::Syntax,
+    }
+}
+
+// Whether a left argument begins with a piece that is no name.
+fn is_no_name(piece: Inner<'_>) -> bool
+    ensures { result ≡ plain_no_name (inner_plain piece.entry) }
+{
+    matches!(piece, Inner::Digits(_) | Inner::Open | Inner::Minus)
+}

@@ -1,0 +1,7 @@
+-- the rows and the new values of rules as expressions
+pub mod RowTerms
+-- values that were worked out by hand
+pub mod Worked
+-- the crates below, which callers name through this one
+pub use Rattle.guard_prep.specs as guard_prep
+pub use Rattle.potential_nodes.specs as potential_nodes

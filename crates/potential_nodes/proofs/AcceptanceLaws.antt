@@ -1,0 +1,63 @@
+-- Accepted lemmas state what holds.
+use Rattle.std.proofs.Common.{◌≡◌, suc, List, [], ◌∷◌, ◌++◌, Option, Some, None, refl}
+use Rattle.potentials.specs.model.Programs.{Program}
+use Rattle.potentials.proofs.model.Cases.{some_none}
+use Rattle.signed_bounds.specs.Bounds.{Signed}
+use Rattle.signed_bounds.specs.Safe.{IsSafe}
+use Rattle.signed_bounds.specs.Within.{WithinHolds}
+use Rattle.potential_nodes.specs.Ground.{Ground, IsTrueGround}
+use Rattle.potential_nodes.specs.Facts.{SignedFact, HoldsSigned, AllSignedHold}
+use Rattle.potential_nodes.specs.Checks.{Reason, first_refused}
+use Rattle.potential_nodes.specs.Combinations.{combination_checks}
+use Rattle.potential_nodes.specs.PlainPeaks.{row_checks, sized_checks}
+use Rattle.potential_nodes.specs.Acceptance.{SignedNode, Fall, Peak, Row, Combined, Sized, InPhases}
+use Rattle.potential_nodes.specs.Acceptance.{node_checks, node_fact}
+use Rattle.potential_nodes.specs.Acceptance.{refusal, fact_of, facts_after, refused_or, first_refusal}
+use Rattle.potential_nodes.specs.Acceptance.{AcceptedNodesHold, AcceptedLemmasHold}
+use Rattle.potential_nodes.proofs.CheckLaws.{all-hold}
+use Rattle.potential_nodes.proofs.FallLaws.{falls-sound}
+use Rattle.potential_nodes.proofs.PeakLaws.{peaks-sound}
+use Rattle.potential_nodes.proofs.CombinationLaws.{combination-holds}
+use Rattle.potential_nodes.proofs.PlainPeakLaws.{row-holds, sized-holds}
+use Rattle.potential_nodes.specs.PhaseNodes.{phases_checks}
+use Rattle.potential_nodes.proofs.PhaseNodeLaws.{phases-sound}
+
+-- an accepted node states what holds
+node-holds : WithinHolds → (g : Ground) (facts : List SignedFact) (n : SignedNode) (b : Signed) → IsTrueGround g
+    → IsSafe g.is_safe → AllSignedHold g.program facts → first_refused (node_checks g facts n b) ≡ None
+    → HoldsSigned g.program (node_fact facts n b)
+node-holds within_holds g facts (Fall n) b ground safe hold h = (falls-sound within_holds g facts n b ground safe hold h).1
+node-holds within_holds g facts (Peak n) b ground safe hold h = (peaks-sound within_holds g facts n b ground safe hold h).1
+node-holds within_holds g facts (Row n) b ground safe hold h =
+    row-holds within_holds g n b ground safe (all-hold (row_checks g n b) h)
+node-holds within_holds g facts (Combined n) b ground safe hold h =
+    combination-holds within_holds g facts n b safe hold (all-hold (combination_checks g facts n b) h)
+node-holds within_holds g facts (Sized n) b ground safe hold h =
+    sized-holds within_holds g facts n b safe hold (all-hold (sized_checks g facts n b) h)
+node-holds within_holds g facts (InPhases n) b ground safe hold h =
+    phases-sound within_holds g facts n b ground safe hold (all-hold (phases_checks g facts n b) h)
+
+pub accepted-nodes : WithinHolds → AcceptedNodesHold
+accepted-nodes within_holds g facts l ground safe hold h = node-holds within_holds g facts l.node l.bound ground safe hold h
+
+-- facts and one more
+hold-more : (p : Program) (facts : List SignedFact) (fact : SignedFact) → AllSignedHold p facts → HoldsSigned p fact
+    → AllSignedHold p (facts ++ fact ∷ [])
+hold-more p [] fact hold holds = (holds, tt)
+hold-more p (f ∷ facts) fact (first, others) holds = (first, hold-more p facts fact others holds)
+
+-- where nothing is refused all facts hold
+pub accepted-lemmas : WithinHolds → AcceptedLemmasHold
+accepted-lemmas within_holds g facts n [] ground safe hold h = hold
+accepted-lemmas within_holds g facts n (l ∷ lemmas) ground safe hold h =
+    go (refusal g facts l) refl h
+    (λ holds k. accepted-lemmas within_holds g (facts ++ fact_of facts l ∷ []) (suc n) lemmas ground safe holds k)
+  where
+    go : (o : Option Reason) → refusal g facts l ≡ o
+        → refused_or n o (first_refusal g (facts ++ fact_of facts l ∷ []) (suc n) lemmas) ≡ None
+        → (AllSignedHold g.program (facts ++ fact_of facts l ∷ [])
+        → first_refusal g (facts ++ fact_of facts l ∷ []) (suc n) lemmas ≡ None
+        → AllSignedHold g.program (facts_after (facts ++ fact_of facts l ∷ []) lemmas))
+        → AllSignedHold g.program (facts_after (facts ++ fact_of facts l ∷ []) lemmas)
+    go None e k ih = ih (hold-more g.program facts (fact_of facts l) hold (accepted-nodes within_holds g facts l ground safe hold e)) k
+    go (Some r) e k ih = absurd (some_none (record { number = n; reason = r }) k)

@@ -1,0 +1,83 @@
+-- Lemmas one after the other: when each is accepted, and what it states.
+use Rattle.std.specs.Prelude.{◌≡◌, ℕ, suc, List, [], ◌∷◌, ◌++◌, Option, Some, None}
+use Rattle.signed_bounds.specs.Bounds.{Signed}
+use Rattle.signed_bounds.specs.Safe.{IsSafe}
+use Rattle.potential_nodes.specs.Ground.{Ground, IsTrueGround}
+use Rattle.potential_nodes.specs.Facts.{SignedFact, SumFact, PeakFact, AllSignedHold, HoldsSigned}
+use Rattle.potential_nodes.specs.Checks.{Reason, Check, first_refused}
+use Rattle.potential_nodes.specs.Falls.{FallNode, charges_of, fall_checks}
+use Rattle.potential_nodes.specs.Peaks.{PeakNode, peak_checks}
+use Rattle.potential_nodes.specs.Combinations.{Combination, combination_checks, combination_fact}
+use Rattle.potential_nodes.specs.PlainPeaks.{RowNode, row_checks, SizedNode, sized_checks}
+use Rattle.potential_nodes.specs.PhaseNodes.{PhasesNode, phases_fall, phases_checks}
+
+-- the kinds of nodes
+pub data SignedNode : Type 0 where
+  Fall : FallNode → SignedNode
+  Peak : PeakNode → SignedNode
+  Row : RowNode → SignedNode
+  Combined : Combination → SignedNode
+  Sized : SizedNode → SignedNode
+  InPhases : PhasesNode → SignedNode
+
+-- a lemma: a node, and the bound that it states
+pub record SignedLemma : Type 0 where
+  pub node : SignedNode
+  pub bound : Signed
+
+-- what is checked of a node after lemmas with these facts, in the order of the reasons
+abbrev pub node_checks : Ground → List SignedFact → SignedNode → Signed → List Check
+node_checks g facts (Fall n) b = fall_checks g facts n b
+node_checks g facts (Peak n) b = peak_checks g facts n b
+node_checks g facts (Row n) b = row_checks g n b
+node_checks g facts (Combined n) b = combination_checks g facts n b
+node_checks g facts (Sized n) b = sized_checks g facts n b
+node_checks g facts (InPhases n) b = phases_checks g facts n b
+
+-- what a node states
+abbrev pub node_fact : List SignedFact → SignedNode → Signed → SignedFact
+node_fact facts (Fall n) b = SumFact (charges_of n) b
+node_fact facts (Peak n) b = PeakFact n.rule n.form b
+node_fact facts (Row n) b = PeakFact n.rule n.form b
+node_fact facts (Combined n) b = combination_fact facts n b
+node_fact facts (Sized n) b = PeakFact n.rule n.form b
+node_fact facts (InPhases n) b = SumFact (charges_of (phases_fall n)) b
+
+-- the first reason for which a lemma isn't accepted after lemmas with these facts; none where it is accepted
+abbrev pub refusal : Ground → List SignedFact → SignedLemma → Option Reason
+refusal g facts l = first_refused (node_checks g facts l.node l.bound)
+
+-- the fact of a lemma
+abbrev pub fact_of : List SignedFact → SignedLemma → SignedFact
+fact_of facts l = node_fact facts l.node l.bound
+
+-- all facts behind a list of lemmas
+abbrev pub facts_after : List SignedFact → List SignedLemma → List SignedFact
+facts_after facts [] = facts
+facts_after facts (l ∷ lemmas) = facts_after (facts ++ fact_of facts l ∷ []) lemmas
+
+-- a lemma that isn't accepted, by its number, and the first reason
+pub record Refusal : Type 0 where
+  pub number : ℕ
+  pub reason : Reason
+
+-- the first lemma of a list that isn't accepted, with its first reason; the lemmas have the numbers from n on
+abbrev pub refused_or : ℕ → Option Reason → Option Refusal → Option Refusal
+refused_or n (Some reason) later = Some (record { number = n; reason = reason })
+refused_or n None later = later
+
+abbrev pub first_refusal : Ground → List SignedFact → ℕ → List SignedLemma → Option Refusal
+first_refusal g facts n [] = None
+first_refusal g facts n (l ∷ lemmas) =
+    refused_or n (refusal g facts l) (first_refusal g (facts ++ fact_of facts l ∷ []) (suc n) lemmas)
+
+-- an accepted lemma states what holds on all runs
+abbrev pub AcceptedNodesHold : Type 0
+AcceptedNodesHold = (g : Ground) (facts : List SignedFact) (l : SignedLemma) → IsTrueGround g → IsSafe g.is_safe
+    → AllSignedHold g.program facts → refusal g facts l ≡ None → HoldsSigned g.program (fact_of facts l)
+
+-- where no lemma is refused all facts hold, those from before and those of the lemmas
+abbrev pub AcceptedLemmasHold : Type 0
+AcceptedLemmasHold = (g : Ground) (facts : List SignedFact) (n : ℕ) (lemmas : List SignedLemma) → IsTrueGround g
+    → IsSafe g.is_safe → AllSignedHold g.program facts → first_refusal g facts n lemmas ≡ None
+    → AllSignedHold g.program (facts_after facts lemmas)

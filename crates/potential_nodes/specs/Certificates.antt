@@ -1,0 +1,49 @@
+-- Certificates: a form is at least 0 wherever the rows are, shown by multiples of rows and of products of two rows.
+use Rattle.std.specs.Prelude.{◌≡◌, ℕ, Bool, true, ◌&&◌, List, [], ◌∷◌, ℤ, pos, ◌≤ℤ◌}
+use Rattle.std.specs.List.{AllByRecursion}
+use Rattle.potentials.specs.model.Terms.{Term, Literal, Variable, Negation, Addition, Subtraction, Multiplication}
+use Rattle.potentials.specs.model.Terms.{value}
+use Rattle.signed_bounds.specs.Safe.{IsSafe}
+use Rattle.potential_nodes.specs.PolynomialTerms.{term_at}
+
+-- a summand of a certificate: m times row i; m times row i times row j; or m times variable u times row i, which row k
+-- is the opposite of
+pub data Summand : Type 0 where
+  OneRow : ℕ → ℕ → Summand
+  TwoRows : ℕ → ℕ → ℕ → Summand
+  ZeroRow : ℤ → ℕ → ℕ → ℕ → Summand
+
+-- the expression that a summand stands for; a row that isn't there is 0
+abbrev pub summand_term : List Term → Summand → Term
+summand_term rows (OneRow m i) = Multiplication (Literal (pos m)) (term_at rows i)
+summand_term rows (TwoRows m i j) =
+    Multiplication (Literal (pos m)) (Multiplication (term_at rows i) (term_at rows j))
+summand_term rows (ZeroRow m i k u) = Multiplication (Literal m) (Multiplication (Variable u) (term_at rows i))
+
+-- a goal less each summand
+abbrev pub rest : List Term → List Summand → Term → Term
+rest rows [] goal = goal
+rest rows (s ∷ summands) goal = rest rows summands (Subtraction goal (summand_term rows s))
+
+-- whether the two rows that a summand says are opposites have a sum of at most 0
+abbrev pub are_opposite : (Term → Bool) → List Term → Summand → Bool
+are_opposite is_safe rows (OneRow m i) = true
+are_opposite is_safe rows (TwoRows m i j) = true
+are_opposite is_safe rows (ZeroRow m i k u) = is_safe (Negation (Addition (term_at rows i) (term_at rows k)))
+
+abbrev pub all_opposite : (Term → Bool) → List Term → List Summand → Bool
+all_opposite is_safe rows [] = true
+all_opposite is_safe rows (s ∷ summands) = are_opposite is_safe rows s && all_opposite is_safe rows summands
+
+-- whether the summands show the goal: what is left of it is never negative
+abbrev pub shows : (Term → Bool) → List Term → List Summand → Term → Bool
+shows is_safe rows summands goal = all_opposite is_safe rows summands && is_safe (rest rows summands goal)
+
+-- all rows are at least 0 at these values
+abbrev pub RowsHoldAt : List Term → List ℤ → Type 0
+RowsHoldAt rows z = AllByRecursion (λ row. pos 0 ≤ℤ value row z) rows
+
+-- a goal that is shown is at least 0 wherever all rows are
+pub record CertificatesOfProductsHold : Type 0 where
+  pub each : (is_safe : Term → Bool) → IsSafe is_safe → (rows : List Term) (summands : List Summand) (goal : Term)
+      → shows is_safe rows summands goal ≡ true → (z : List ℤ) → RowsHoldAt rows z → pos 0 ≤ℤ value goal z

@@ -1,0 +1,22 @@
+-- what nodes consist of, and what is checked of them
+pub mod Lookup
+pub mod PolynomialTerms
+pub mod Certificates
+pub mod Ground
+pub mod Facts
+pub mod PlainFacts
+pub mod Checks
+pub mod Tables
+pub mod Falls
+pub mod Peaks
+pub mod Combinations
+pub mod PlainPeaks
+pub mod PhaseNodes
+pub mod Acceptance
+pub mod Laws
+-- values that were worked out by hand
+pub mod Worked
+-- the crates below, which callers name through this one
+pub use Rattle.potentials.specs.model
+pub use Rattle.potentials.specs as potentials
+pub use Rattle.signed_bounds.specs as signed_bounds

@@ -1,0 +1,75 @@
+//! Nodes that show facts about all runs by potentials: what they consist of, when they are accepted, and that an
+//! accepted one states what holds. The functions here have no code: the contract of each is the law, or values that
+//! were worked out by hand.
+#![tactic(auto)]
+
+ghost use Rattle.potential_nodes.specs.Certificates.{CertificatesOfProductsHold};
+ghost use Rattle.potential_nodes.specs.Checks.{RefusalsAreFailures};
+ghost use Rattle.potential_nodes.specs.PlainFacts.{PlainFactsHold};
+ghost use Rattle.potential_nodes.specs.Acceptance.{AcceptedNodesHold, AcceptedLemmasHold};
+ghost use Rattle.potential_nodes.specs.Laws.{FallsAreSound, PeaksAreSound};
+ghost use Rattle.potential_nodes.specs.Worked.{CertificatesAreWorkedOut, FallsAreWorkedOut, PeaksAreWorkedOut};
+ghost use Rattle.potential_nodes.specs.Worked.{CombinationsAreWorkedOut, PhaseNodesAreWorkedOut, LoopsAreBounded};
+
+/// A goal that a certificate shows is at least 0 wherever the rows are.
+pub fn certificates_of_products_hold()
+    ensures { CertificatesOfProductsHold }
+{}
+
+/// No check of a list is refused exactly where all hold, and a refusal has the reason of the first that fails.
+pub fn refusals_are_failures()
+    ensures { RefusalsAreFailures }
+{}
+
+/// A fact over the absolute values of the start arguments holds as a signed one.
+pub fn plain_facts_hold()
+    ensures { PlainFactsHold }
+{
+    signed_bounds::signed_bounds_keep_values();
+}
+
+/// An accepted node that pays for charges states a bound on their sum that holds on all runs.
+pub fn falls_are_sound()
+    ensures { FallsAreSound }
+{
+    signed_bounds::within_holds();
+}
+
+/// An accepted node that covers a form of a rule states a bound on it that holds at every step.
+pub fn peaks_are_sound()
+    ensures { PeaksAreSound }
+{
+    signed_bounds::within_holds();
+}
+
+/// An accepted lemma states what holds on all runs, whatever the kind of its node.
+pub fn accepted_nodes_hold()
+    ensures { AcceptedNodesHold }
+{
+    signed_bounds::within_holds();
+}
+
+/// Where no lemma of a list is refused, the facts of all of them hold on all runs.
+pub fn accepted_lemmas_hold()
+    ensures { AcceptedLemmasHold }
+{
+    signed_bounds::within_holds();
+}
+
+/// Certificates and nodes of all kinds are accepted, or refused for the reason, that was worked out by hand.
+pub fn nodes_are_as_worked_out()
+    ensures certificates { CertificatesAreWorkedOut }
+    ensures falls { FallsAreWorkedOut }
+    ensures peaks { PeaksAreWorkedOut }
+    ensures combinations { CombinationsAreWorkedOut }
+    ensures phases { PhaseNodesAreWorkedOut }
+{}
+
+/// The whole way on a loop that counts A up to B: what is known of its steps is true, the lemma is accepted, and its
+/// rule occurs at most `[B - A]` times, and not always once less.
+pub fn loops_are_bounded()
+    ensures { LoopsAreBounded }
+{
+    signed_bounds::within_holds();
+    signed_bounds::squares_are_safe();
+}

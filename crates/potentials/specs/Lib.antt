@@ -1,0 +1,14 @@
+-- facts about sums over a run and about peaks at its steps
+pub mod Sums
+-- potentials, what they pay for, and the laws of both
+pub mod Potentials
+pub mod Nodes
+pub mod Laws
+pub mod Phases
+pub mod Ranks
+-- values that were worked out by hand
+pub mod Worked
+-- the crates below, which callers name through this one
+pub use Rattle.run_counting.specs.model
+pub use Rattle.run_counting.specs as run_counting
+pub use Rattle.int_laws.specs as int_laws

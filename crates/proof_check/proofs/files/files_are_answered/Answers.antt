@@ -1,8 +1,0 @@
-use Rattle.proof_check.proofs.WorkedFiles.{files-numbered, files-answered}
-use Rattle.proof_check.proofs.files.files_are_answered.Goals as goal
-
-pub returns-clause-numbered : goal.returns-clause-numbered
-returns-clause-numbered c = files-numbered
-
-pub returns-clause-answered : goal.returns-clause-answered
-returns-clause-answered c = files-answered

@@ -1,8 +1,0 @@
-use Rattle.std.proofs.Common.{◌≡◌, ◌++◌, drop}
-use Rattle.proof_tree.specs.Views.{facts_of}
-use Rattle.proof_check.proofs.lemmas.push_copies.Given as goal
-
--- what is done and what is left is all
-abbrev pub invariant-loop-fact : goal.invariant-loop-fact
-invariant-loop-fact l =
-    facts_of l.all.items ++ facts_of (drop l.fact-index l.facts) ≡ facts_of l.initial.all.items ++ facts_of l.facts

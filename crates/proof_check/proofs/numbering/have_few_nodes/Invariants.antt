@@ -1,9 +1,0 @@
-use Rattle.std.proofs.Common.{map, take}
-use Rattle.std.specs.List.{All}
-use Rattle.proof_tree.specs.Views.{proof_of}
-use Rattle.proof_check.specs.Files.{HasFewNodes}
-use Rattle.proof_check.proofs.numbering.have_few_nodes.Given as goal
-
--- the proofs so far have few nodes
-abbrev pub invariant-loop-proof : goal.invariant-loop-proof
-invariant-loop-proof l = All HasFewNodes (map proof_of (take l.proof-index l.proofs))

@@ -1,8 +1,0 @@
-use Rattle.std.proofs.Common.{take}
-use Rattle.proof_tree.specs.Views.{facts_of}
-use Rattle.proof_check.specs.Zeros.{AddsZeros}
-use Rattle.proof_check.proofs.unreached.push_zeros.Given as goal
-
--- the rules of the facts so far are added
-abbrev pub invariant-loop-fact : goal.invariant-loop-fact
-invariant-loop-fact l = AddsZeros l.initial.cut.items (facts_of (take l.fact-index l.facts)) l.cut.items

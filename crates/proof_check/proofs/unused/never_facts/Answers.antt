@@ -1,5 +1,0 @@
-use Rattle.std.proofs.Common.{inl, refl}
-use Rattle.proof_check.proofs.unused.never_facts.Goals as goal
-
-pub returns-in_default : goal.returns-in_default
-returns-in_default c = inl (c.in_default.ensures, refl)

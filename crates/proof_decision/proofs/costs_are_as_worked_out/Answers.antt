@@ -1,5 +1,0 @@
-use Rattle.proof_decision.proofs.WorkedCosts.{costs_judged, cost_reasons_in_order}
-use Rattle.proof_decision.proofs.costs_are_as_worked_out.Goals as goal
-
-pub returns : goal.returns
-returns c = record { judged = costs_judged; reasons = cost_reasons_in_order }

@@ -1,7 +1,0 @@
-use Rattle.std.proofs.Common.{take}
-use Rattle.proof_facts.specs.Lookups.{HasTimes, facts_at}
-use Rattle.proof_facts.proofs.joining.times_of.Given as goal
-
--- the facts so far
-abbrev pub invariant-loop-i : goal.invariant-loop-i
-invariant-loop-i l = HasTimes (facts_at (take l.i l.facts)) l.times

@@ -1,8 +1,0 @@
-use Rattle.std.proofs.Common.{take}
-use Rattle.std.specs.List.{All}
-use Rattle.proof_facts.specs.Needed.{HasTime}
-use Rattle.proof_facts.proofs.needed.first_untimed.Given as goal
-
--- the rules so far have times
-abbrev pub invariant-loop-rule : goal.invariant-loop-rule
-invariant-loop-rule g l = All (HasTime (g.K.Known.table l.known)) (take l.rule-index l.rules)

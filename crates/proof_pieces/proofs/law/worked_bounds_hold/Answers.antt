@@ -1,5 +1,0 @@
-use Rattle.proof_pieces.proofs.WorkedBounds.{bounds_worked_out}
-use Rattle.proof_pieces.proofs.law.worked_bounds_hold.Goals as goal
-
-pub returns : goal.returns
-returns c = bounds_worked_out

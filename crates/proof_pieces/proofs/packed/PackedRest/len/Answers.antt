@@ -1,6 +1,0 @@
-use Rattle.std.proofs.Common.{sym}
-use Rattle.proof_pieces.proofs.PackedLaws.{unpacked_length}
-use Rattle.proof_pieces.proofs.packed.PackedRest.len.Goals as goal
-
-pub returns : goal.returns
-returns c = sym (unpacked_length c.args.self.now.marks.now c.args.self.now.shorts.now c.args.self.now.longs.now)

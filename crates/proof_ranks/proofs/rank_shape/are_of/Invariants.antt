@@ -1,7 +1,0 @@
-use Rattle.std.proofs.Common.{◌≡◌, map, take}
-use Rattle.proof_ranks.specs.RankShapes.{symbol_in}
-use Rattle.proof_ranks.proofs.rank_shape.are_of.Given as goal
-
--- the symbols so far
-abbrev pub invariant-loop-i : goal.invariant-loop-i
-invariant-loop-i l = map symbol_in (take l.i l.forms) ≡ take l.i l.symbols

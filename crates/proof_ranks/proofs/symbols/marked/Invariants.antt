@@ -1,9 +1,0 @@
-use Rattle.std.proofs.Common.{◌≡◌, ℕ, Bool, filter}
-use Rattle.std.specs.List.{range_with_len}
-use Rattle.proof_ranks.specs.Marks.{AreMarks}
-use Rattle.proof_ranks.proofs.symbols.marked.Given as goal
-
--- the marked numbers so far
-abbrev pub invariant-loop-mark : goal.invariant-loop-mark
-invariant-loop-mark l = (test : ℕ → Bool) → AreMarks test l.marks
-    → l.found.items ≡ filter test (range_with_len 0 l.mark-index)

@@ -1,5 +1,0 @@
-use Rattle.proof_setting.proofs.WorkedGaps as lemmas
-use Rattle.proof_setting.proofs.laws.gaps_are_as_worked_out.Goals as goal
-
-pub returns : goal.returns
-returns c = record { sets = lemmas.sets_worked_out; gaps = lemmas.gaps_of_programs }

@@ -1,7 +1,0 @@
-use Rattle.std.proofs.Common.{◌<◌, take}
-use Rattle.std.specs.List.{All}
-use Rattle.proof_sizes.proofs.arms.are_below.Given as goal
-
--- the variables so far are below
-abbrev pub invariant-loop-variable : goal.invariant-loop-variable
-invariant-loop-variable l = All (λ v. v < l.left) (take l.variable-index l.variables)

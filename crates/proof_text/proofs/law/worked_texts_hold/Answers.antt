@@ -1,7 +1,0 @@
--- Each is worked out.
-use Rattle.proof_text.proofs.WorkedTexts.{texts_worked_out}
-use Rattle.proof_text.proofs.WorkedLimits.{limits_worked_out}
-use Rattle.proof_text.proofs.law.worked_texts_hold.Goals as goal
-
-pub returns : goal.returns
-returns c = record { texts = texts_worked_out; limits = limits_worked_out }

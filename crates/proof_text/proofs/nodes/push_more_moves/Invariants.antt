@@ -1,9 +1,0 @@
-use Rattle.std.proofs.Common.{◌≡◌, ◌++◌, map, drop, codes}
-use Rattle.proof_text.specs.Lists.{each_behind, numbers_text}
-use Rattle.proof_text.proofs.nodes.push_more_moves.Given as goal
-
--- what is written and what is left make the whole
-abbrev pub invariant-loop-multipliers : goal.invariant-loop-multipliers
-invariant-loop-multipliers l =
-    l.text.items ++ each_behind (codes "; ") (map numbers_text (map (λ m. m.items) (drop l.multipliers-index l.moves)))
-    ≡ l.initial.text.items ++ each_behind (codes "; ") (map numbers_text (map (λ m. m.items) l.moves))

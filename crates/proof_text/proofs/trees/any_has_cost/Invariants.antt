@@ -1,9 +1,0 @@
-use Rattle.std.proofs.Common.{◌≡◌, map, drop}
-use Rattle.proof_tree.specs.Views.{proof_of}
-use Rattle.proof_text.specs.Texts.{some_has_cost}
-use Rattle.proof_text.proofs.trees.any_has_cost.Given as goal
-
--- what is left decides
-abbrev pub invariant-loop-lemma : goal.invariant-loop-lemma
-invariant-loop-lemma l =
-    some_has_cost (map proof_of (drop l.lemma-index l.lemmas)) ≡ some_has_cost (map proof_of l.lemmas)

@@ -1,7 +1,0 @@
-use Rattle.std.proofs.Common.{drop}
-use Rattle.proof_tree.specs.FormLookups.{HasForms}
-use Rattle.proof_tree.proofs.form_lookup.first_forms.Given as goal
-
--- the forms from here on
-abbrev pub invariant-loop-position : goal.invariant-loop-position
-invariant-loop-position l = HasForms (drop l.position l.forms) l.firsts

@@ -1,0 +1,8 @@
+use Rattle.std.proofs.Common.{refl}
+use Rattle.refined_programs.proofs.law.worked_values_hold.Goals as goal
+
+pub returns : goal.returns
+returns c = record {
+  forms = record { sum = refl; constant = refl; nothing = refl };
+  ends = record { at_copies = refl };
+}

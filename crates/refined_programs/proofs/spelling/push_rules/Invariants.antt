@@ -1,0 +1,12 @@
+use Rattle.std.proofs.Common.{◌≡◌, ◌++◌, drop, map}
+use Rattle.its_model.specs.Views.{rule_of}
+use Rattle.refinement.specs.Sections.{rule_along}
+use Rattle.refined_programs.specs.Ends.{end_of, paths_of}
+use Rattle.refined_programs.proofs.spelling.push_rules.Given as goal
+
+-- the rules of the ends passed, and behind them those of the others, are the rules of all behind those that were there
+abbrev pub invariant-loop-end : goal.invariant-loop-end
+invariant-loop-end l =
+    map rule_of l.rules.items
+    ++ map (rule_along l.source (rule_of l.rule)) (paths_of (map end_of (drop l.end-index l.ends)))
+    ≡ map rule_of l.fn.rules.items ++ map (rule_along l.source (rule_of l.rule)) (paths_of (map end_of l.ends))

@@ -1,0 +1,52 @@
+-- The ends of all paths through cases, those that end nowhere among them, with their certificates.
+use Rattle.std.specs.Prelude.{ℕ, List, [], ◌∷◌, ◌++◌, map}
+use Rattle.refinement.specs.model.Programs.{Atom}
+use Rattle.refinement.specs.Sections.{Path, passes, fails}
+use Rattle.its_model.specs.Views.{atom_of}
+use Rattle.refined_programs.specs.declared.ends.Goal as declared_goal
+use Rattle.refined_programs.specs.declared.ends.Goal.TheVariants as goals
+use Rattle.refined_programs.specs.declared.ends.End as declared_end
+use Rattle.refined_programs.specs.declared.section.Cases.{Cases}
+use Rattle.refined_programs.specs.declared.section.Cases.TheVariants.{To, Never, If'}
+use Rattle.refined_programs.specs.declared.section.Multipliers.{Multipliers}
+use Rattle.refined_programs.specs.Affine.{affine_of}
+
+-- where a path ends: at a copy, with multipliers for each of its facts, or nowhere, with multipliers
+pub data Goal : Type 0 where
+  AtCopy : ℕ → List (List ℕ) → Goal
+  Nowhere : List ℕ → Goal
+
+-- the end of a path, with what holds along it
+pub record End : Type 0 where
+  pub atoms : List Atom
+  pub goal : Goal
+
+-- lists of multipliers as plain data
+abbrev pub lists_of : List Multipliers → List (List ℕ)
+lists_of by = map (λ m. m.numbers.items) by
+
+-- the ends of the paths behind these atoms, in order
+abbrev pub ends : List Atom → Cases → List End
+ends atoms (To copy by) = record { atoms = atoms; goal = AtCopy copy (lists_of by.items) } ∷ []
+ends atoms (Never by) = record { atoms = atoms; goal = Nowhere by.numbers.items } ∷ []
+ends atoms (If' test p yes_cases q no_cases) =
+    ends (atoms ++ passes (affine_of test) ∷ []) yes_cases ++ ends (atoms ++ fails (affine_of test) ∷ []) no_cases
+
+-- the path to a copy, where an end is at one
+abbrev pub path_of : List Atom → Goal → List Path
+path_of atoms (AtCopy copy by) = record { atoms = atoms; copy = copy } ∷ []
+path_of atoms (Nowhere by) = []
+
+-- the paths of the ends at copies, in order
+abbrev pub paths_of : List End → List Path
+paths_of [] = []
+paths_of (e ∷ es) = path_of e.atoms e.goal ++ paths_of es
+
+-- where a path ends, as plain data
+abbrev pub goal_of : declared_goal.Goal → Goal
+goal_of (goals.Copy copy by) = AtCopy copy (lists_of by.items)
+goal_of (goals.Nowhere by) = Nowhere by.numbers.items
+
+-- an end as plain data
+abbrev pub end_of : declared_end.End → End
+end_of e = record { atoms = map atom_of e.atoms.items; goal = goal_of e.goal }

@@ -1,0 +1,11 @@
+-- what the contracts of this crate, and of those above it, cite
+pub mod Affine
+pub mod Views
+pub mod Ends
+-- values that were worked out by hand
+pub mod Worked
+-- the crates below, which callers name through this one
+pub use Rattle.refinement.specs.model
+pub use Rattle.refinement.specs as refinement
+pub use Rattle.its_model.specs.poly_terms
+pub use Rattle.its_model.specs as its_model

@@ -1,0 +1,14 @@
+pub mod Members
+mod Lifting
+mod Sums
+mod Bounds
+mod Spelling
+pub mod Cases
+mod Rights
+pub mod Shown
+mod Weaker
+pub mod Keeping
+mod WorkedSections
+mod WorkedPrograms
+-- the lemmas of the crate below, which callers name through this one
+pub use Rattle.model.proofs as model

@@ -1,0 +1,10 @@
+-- what the contracts of this crate, and of those above it, cite
+pub mod Refined
+pub mod Lifted
+pub mod Sections
+pub mod Obligations
+-- laws, and values that were worked out by hand
+pub mod Laws
+pub mod Worked
+-- the crate below, which callers name through this one
+pub use Rattle.model.specs as model

@@ -1,0 +1,221 @@
+-- Sections of small programs, what they spell, and which of them are shown, as it was worked out by hand.
+use Rattle.std.specs.Prelude.{◌≡◌, ℕ, [], ◌∷◌, pos, None, ⊤}
+use Rattle.model.specs.Terms.{Term, Literal, Variable, Negation, Addition, Subtraction}
+use Rattle.model.specs.Programs.{AtLeast, AtMost, LessThan, Compare, Rule, Program}
+use Rattle.model.specs.WorkedRuns.{entering, countdown, entry_alone, two_names}
+use Rattle.refinement.specs.Refined.{IsRefined}
+use Rattle.refinement.specs.Lifted.{AreCopies}
+use Rattle.refinement.specs.Sections.{Copy, Cases, To, Never, If, Branch, Section, passes, fails, paths, spelled}
+use Rattle.refinement.specs.Sections.{projection_of}
+use Rattle.refinement.specs.Obligations.{moved, ReadsFirst, IsShown}
+use Rattle.refinement.specs.Laws.{HoldsAt, HasWeakerGuards, same_numbers}
+
+-- less than an expression, by a number
+abbrev pub less : Term → ℕ → Term
+less f n = Subtraction f (Literal (pos n))
+
+-- copies of the symbols of the program that enters a loop and counts A down: `a` of l0, and of l1 `b`, with a fact, and
+-- `c`, where A is below 0
+abbrev pub entry_copy : Copy
+entry_copy = record { name = 97 ∷ []; over = 0; facts = [] }
+
+abbrev pub loop_copy : Term → Copy
+loop_copy fact = record { name = 98 ∷ []; over = 1; facts = fact ∷ [] }
+
+abbrev pub end_copy : Copy
+end_copy = record { name = 99 ∷ []; over = 1; facts = less (Negation (Variable 0)) 1 ∷ [] }
+
+-- its rules at these: it enters by whether A is at least 0; it loops at `b` by these cases; and it never loops at `c`
+abbrev pub enters_by_sign : Branch
+enters_by_sign = record { source = 0; rule = 1; cases = If (Variable 0) (To 1) (To 2) }
+
+abbrev pub loops_by : Cases → Branch
+loops_by cases = record { source = 1; rule = 2; cases = cases }
+
+abbrev pub never_loops : Branch
+never_loops = record { source = 2; rule = 2; cases = Never }
+
+-- the section with this fact at `b`, and these cases of the loop there
+abbrev pub split : Term → Cases → Section
+split fact cases = record {
+  copies = entry_copy ∷ loop_copy fact ∷ end_copy ∷ [];
+  branches = enters_by_sign ∷ loops_by cases ∷ never_loops ∷ [];
+}
+
+-- where the loop is entered with A at least 0, it stays so
+abbrev pub split_by_sign : Section
+split_by_sign = split (Variable 0) (To 1)
+
+-- the same without the branch of the loop at `c`
+abbrev pub without_last : Section
+without_last = record {
+  copies = entry_copy ∷ loop_copy (Variable 0) ∷ end_copy ∷ [];
+  branches = enters_by_sign ∷ loops_by (To 1) ∷ [];
+}
+
+-- the same with a fact at the start
+abbrev pub with_start_fact : Section
+with_start_fact = record {
+  copies = record { name = 97 ∷ []; over = 0; facts = Variable 0 ∷ [] } ∷ loop_copy (Variable 0) ∷ end_copy ∷ [];
+  branches = enters_by_sign ∷ loops_by (To 1) ∷ never_loops ∷ [];
+}
+
+-- by hand: entering with A at least 0, entering with A below 0, and looping with A at least 0
+abbrev pub entering_up : Rule
+entering_up = record {
+  source = 0;
+  target = 1;
+  left = 2;
+  free = 0;
+  names = two_names;
+  updates = Variable 0 ∷ Variable 1 ∷ [];
+  guard = Compare (Variable 0) AtLeast (Literal (pos 0)) ∷ [];
+  cost = None;
+}
+
+abbrev pub entering_down : Rule
+entering_down = record {
+  source = 0;
+  target = 2;
+  left = 2;
+  free = 0;
+  names = two_names;
+  updates = Variable 0 ∷ Variable 1 ∷ [];
+  guard = Compare (Variable 0) LessThan (Literal (pos 0)) ∷ [];
+  cost = None;
+}
+
+abbrev pub looping_up : Rule
+looping_up = record {
+  source = 1;
+  target = 1;
+  left = 2;
+  free = 0;
+  names = two_names;
+  updates = Subtraction (Variable 0) (Literal (pos 1)) ∷ Negation (Variable 0) ∷ [];
+  guard =
+      Compare (Variable 0) AtLeast (Literal (pos 1)) ∷ Compare (Variable 0) AtMost (Literal (pos 9))
+      ∷ Compare (Variable 0) AtLeast (Literal (pos 0)) ∷ [];
+  cost = None;
+}
+
+-- the program that the section spells
+abbrev pub by_sign : Program
+by_sign = record {
+  symbols =
+      record { name = 97 ∷ []; arity = 2 } ∷ record { name = 98 ∷ []; arity = 2 }
+      ∷ record { name = 99 ∷ []; arity = 2 } ∷ [];
+  start = 0;
+  start_names = two_names;
+  rules = entering_up ∷ entering_down ∷ looping_up ∷ [];
+}
+
+-- l0(A) -> l1(A) where A >= 3
+abbrev pub entering_from_3 : Rule
+entering_from_3 = record {
+  source = 0;
+  target = 1;
+  left = 1;
+  free = 0;
+  names = (65 ∷ []) ∷ [];
+  updates = Variable 0 ∷ [];
+  guard = Compare (Variable 0) AtLeast (Literal (pos 3)) ∷ [];
+  cost = None;
+}
+
+-- the program of this rule
+abbrev pub from_3 : Program
+from_3 = record {
+  symbols = record { name = 108 ∷ 48 ∷ []; arity = 1 } ∷ record { name = 108 ∷ 49 ∷ []; arity = 1 } ∷ [];
+  start = 0;
+  start_names = (65 ∷ []) ∷ [];
+  rules = entering_from_3 ∷ [];
+}
+
+-- its section with a copy of each symbol, and the fact that A is at least a number at l1
+abbrev pub at_least : ℕ → Section
+at_least n = record {
+  copies = entry_copy ∷ loop_copy (less (Variable 0) n) ∷ [];
+  branches = record { source = 0; rule = 1; cases = To 1 } ∷ [];
+}
+
+-- paths through cases, the spelled program and what is below its symbols and rules are what was worked out
+pub record SectionsSpell : Type 0 where
+  pub to_copy : paths (passes (Variable 1) ∷ []) (To 2) ≡ record { atoms = passes (Variable 1) ∷ []; copy = 2 } ∷ []
+  pub to_nowhere : paths (passes (Variable 1) ∷ []) Never ≡ []
+  pub by_test : paths [] (If (Variable 0) (To 1) (If (Variable 1) Never (To 2)))
+      ≡ record { atoms = passes (Variable 0) ∷ []; copy = 1 }
+      ∷ record { atoms = fails (Variable 0) ∷ fails (Variable 1) ∷ []; copy = 2 } ∷ []
+  pub program : spelled countdown split_by_sign ≡ by_sign
+  pub first_rule : (projection_of countdown split_by_sign).rule 1 ≡ 1
+  pub second_rule : (projection_of countdown split_by_sign).rule 2 ≡ 1
+  pub third_rule : (projection_of countdown split_by_sign).rule 3 ≡ 2
+  pub entry : (projection_of countdown split_by_sign).rule 0 ≡ 0
+  pub past_the_rules : (projection_of countdown split_by_sign).rule 4 ≡ 0
+  pub first_symbol : (projection_of countdown split_by_sign).symbol 0 ≡ 0
+  pub second_symbol : (projection_of countdown split_by_sign).symbol 1 ≡ 1
+  pub third_symbol : (projection_of countdown split_by_sign).symbol 2 ≡ 1
+  -- the copies of rule 1 are the first two rules, and not the first alone; others may be listed with them
+  pub copies : AreCopies (spelled countdown split_by_sign) (projection_of countdown split_by_sign) 1 (1 ∷ 2 ∷ [])
+  pub more_copies : AreCopies (spelled countdown split_by_sign) (projection_of countdown split_by_sign) 2 (1 ∷ 3 ∷ [])
+  pub fewer_copies : ¬ (AreCopies (spelled countdown split_by_sign) (projection_of countdown split_by_sign) 1 (1 ∷ []))
+
+-- B - A with A + 1 in place of A and A in place of B is A - (A + 1); what has nothing in its place is 0; and an
+-- expression over the first variables alone is one that reads no other
+pub record ExpressionsAreMoved : Type 0 where
+  pub difference : moved (Subtraction (Variable 1) (Variable 0))
+      (Addition (Variable 0) (Literal (pos 1)) ∷ Variable 0 ∷ [])
+      ≡ Subtraction (Variable 0) (Addition (Variable 0) (Literal (pos 1)))
+  pub past_the_updates : moved (Variable 2) (Variable 0 ∷ Variable 1 ∷ []) ≡ Literal (pos 0)
+  pub reads_second : ReadsFirst 2 (Variable 1)
+  pub reads_third : ¬ (ReadsFirst 2 (Variable 2))
+
+-- the section that splits the loop by the sign of A is shown
+pub record SectionsAreShown : Type 0 where
+  pub by_sign : IsShown countdown split_by_sign
+  -- one isn't with a fact that is too strong by 1, nor with a loop that never is or leads to a copy of another symbol
+  pub too_strong : ¬ (IsShown countdown (split (less (Variable 0) 1) (To 1)))
+  pub never : ¬ (IsShown countdown (split (Variable 0) Never))
+  pub other_symbol : ¬ (IsShown countdown (split (Variable 0) (To 0)))
+  pub no_copy : ¬ (IsShown countdown (split (Variable 0) (To 3)))
+  -- nor without a branch, or with a fact at the start
+  pub missing_branch : ¬ (IsShown countdown without_last)
+  pub start_fact : ¬ (IsShown countdown with_start_fact)
+  -- A is at least 3 behind the rule that says so, and not at least 4
+  pub at_least_3 : IsShown from_3 (at_least 3)
+  pub at_least_4 : ¬ (IsShown from_3 (at_least 4))
+
+-- so A is at least 3 wherever a run stands at l1, and it isn't at least 4 there, nor at least 3 at l0
+pub record FactsHoldAtSymbols : Type 0 where
+  pub at_least_3 : HoldsAt from_3 1 (less (Variable 0) 3)
+  pub at_least_4 : ¬ (HoldsAt from_3 1 (less (Variable 0) 4))
+  pub at_start : ¬ (HoldsAt from_3 0 (less (Variable 0) 3))
+
+-- looping on A alone, without its second atom
+abbrev pub looping_from_1 : Rule
+looping_from_1 = record {
+  source = 1;
+  target = 1;
+  left = 2;
+  free = 0;
+  names = two_names;
+  updates = Subtraction (Variable 0) (Literal (pos 1)) ∷ Negation (Variable 0) ∷ [];
+  guard = Compare (Variable 0) AtLeast (Literal (pos 1)) ∷ [];
+  cost = None;
+}
+
+-- the program that enters and loops so
+abbrev pub longer_countdown : Program
+longer_countdown = record {
+  symbols = record { name = 108 ∷ 48 ∷ []; arity = 2 } ∷ record { name = 108 ∷ 49 ∷ []; arity = 2 } ∷ [];
+  start = 0;
+  start_names = two_names;
+  rules = entering ∷ looping_from_1 ∷ [];
+}
+
+-- a program refines itself, and one with fewer atoms refines it; one with more atoms or fewer rules doesn't
+pub record ProgramsRefine : Type 0 where
+  pub itself : HasWeakerGuards countdown countdown
+  pub fewer_atoms : HasWeakerGuards countdown longer_countdown
+  pub more_atoms : ¬ (IsRefined longer_countdown countdown same_numbers (λ c. ⊤))
+  pub fewer_rules : ¬ (IsRefined countdown entry_alone same_numbers (λ c. ⊤))

@@ -1,0 +1,5 @@
+use Rattle.refinement_rows.proofs.WorkedGuards.{guards_are_refuted}
+use Rattle.refinement_rows.proofs.certificates_are_as_worked_out.Goals as goal
+
+pub returns : goal.returns
+returns c = guards_are_refuted

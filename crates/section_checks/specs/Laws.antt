@@ -1,0 +1,22 @@
+-- What accepted sections tell, and what is wrong first.
+use Rattle.std.specs.Prelude.{◌≡◌}
+use Rattle.refined_programs.specs.model.Programs.{Program}
+use Rattle.refined_programs.specs.its_model.Valid.{IsValid}
+use Rattle.refined_programs.specs.declared.section.Section.{Section}
+use Rattle.refined_programs.specs.refinement.Laws.{SpellsTheRunsOf, FactsOfCopiesHold}
+use Rattle.refined_programs.specs.Views.{section_of}
+use Rattle.refinement_rows.specs.Certified.{IsCertified}
+use Rattle.section_checks.specs.Faults.{Fault, IsAccepted, IsFirstFault}
+
+-- over a valid program an accepted section is certified, so what it spells has the runs of the program, its bounds
+-- carry over, and what follows from the facts of each copy of a symbol holds there
+pub record AcceptedSectionsAreCertified : Type 0 where
+  pub certified : (p : Program) (s : Section) → IsValid p → IsAccepted p s → IsCertified p (section_of s)
+  pub runs : (p : Program) (s : Section) → IsValid p → IsAccepted p s → SpellsTheRunsOf p (section_of s)
+  pub facts : (p : Program) (s : Section) → IsValid p → IsAccepted p s → FactsOfCopiesHold p (section_of s)
+
+-- one fault at most is the first, and where there is one the section isn't accepted
+pub record FaultsAreDecided : Type 0 where
+  pub excluded : (p : Program) (s : Section) (fault : Fault) → IsFirstFault p s fault → ¬ (IsAccepted p s)
+  pub one : (p : Program) (s : Section) (fault other : Fault) → IsFirstFault p s fault → IsFirstFault p s other
+      → fault ≡ other

@@ -1,0 +1,7 @@
+-- what the contracts of this crate, and of those above it, cite
+pub mod Faults
+-- laws
+pub mod Laws
+-- the crates below, which callers name through this one
+pub use Rattle.refined_programs.specs as refined_programs
+pub use Rattle.refinement_rows.specs as refinement_rows

@@ -1,0 +1,132 @@
+-- The worked values, each by computing.
+use Rattle.std.proofs.Common.{refl}
+use Rattle.signed_bounds.specs.Worked.{BoundsHaveTheirValues, InputsAreAbsoluteValues, MeasuresAreWorkedOut, SquaresAreFound}
+use Rattle.signed_bounds.specs.Worked.{ProductsAreMultipliedOut, SumsAreCompared, QuotientsAreCompared, ShapesAreCompared}
+
+-- values of bounds
+pub values : BoundsHaveTheirValues
+values = record {
+  above = refl;
+  below = refl;
+  unread = refl;
+  polynomial = refl;
+  half = refl;
+  even_half = refl;
+  by_zero = refl;
+  root_of_15 = refl;
+  root_of_16 = refl;
+  root_of_17 = refl;
+  root_of_0 = refl;
+  minimum = refl;
+  first_minimum = refl;
+  minimum_of_one = refl;
+  maximum = refl;
+  product = refl;
+  power = refl;
+  power_of_0 = refl;
+  empty_sum = refl;
+  empty_product = refl;
+  empty_maximum = refl;
+}
+
+-- absolute values
+pub inputs : InputsAreAbsoluteValues
+inputs = record {
+  negative_first = refl;
+  negative_second = refl;
+}
+
+-- nodes and levels
+pub measures : MeasuresAreWorkedOut
+measures = record {
+  polynomial = refl;
+  polynomial_levels = refl;
+  nodes = refl;
+  levels = refl;
+  deeper_part = refl;
+  nodes_at_most = refl;
+  nodes_beyond = refl;
+  levels_at_most = refl;
+  levels_beyond = refl;
+}
+
+-- sums of squares
+pub squares : SquaresAreFound
+squares = record {
+  nothing = refl;
+  constant = refl;
+  square = refl;
+  cancelled = refl;
+  negative = refl;
+  variable = refl;
+  mixed = refl;
+  opposite_square = refl;
+  cube = refl;
+  high_degree = refl;
+}
+
+-- products
+pub products : ProductsAreMultipliedOut
+products = record {
+  outcome = refl;
+  most_products = refl;
+  more_products = refl;
+  largest = refl;
+  too_large = refl;
+  times_zero = refl;
+  twice = refl;
+}
+
+-- sums that are compared
+pub sums : SumsAreCompared
+sums = record {
+  order = refl;
+  one_less = refl;
+  other = refl;
+  added = refl;
+  parted = refl;
+  one_more = refl;
+  multiplied = refl;
+  multiplied_less = refl;
+  factor_left = refl;
+  greater = refl;
+  lesser = refl;
+  whole = refl;
+  in_parts = refl;
+  not_whole = refl;
+  largest = refl;
+  past_limit = refl;
+}
+
+-- quotients that are compared
+pub quotients : QuotientsAreCompared
+quotients = record {
+  five = refl;
+  five_less = refl;
+  six = refl;
+  six_less = refl;
+  taken_out = refl;
+  left_out = refl;
+  divided = refl;
+  not_divided = refl;
+  itself = refl;
+  other_divisor = refl;
+  with_other_divisor = refl;
+  second_quotient = refl;
+}
+
+-- shapes that are compared
+pub shapes : ShapesAreCompared
+shapes = record {
+  part = refl;
+  not_part = refl;
+  number_in_maximum = refl;
+  number_above = refl;
+  minimum = refl;
+  not_minimum = refl;
+  root = refl;
+  not_root = refl;
+  power = refl;
+  lesser_base = refl;
+  base_0 = refl;
+}

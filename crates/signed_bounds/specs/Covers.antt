@@ -1,0 +1,114 @@
+-- When one sum of products is at most another, product by product.
+use Rattle.std.specs.Prelude.{ℕ, ◌-◌, ◌*◌, Bool, true, false, ◌||◌, ◌==◌, nat_le, if◌then◌else◌, List, [], ◌∷◌}
+use Rattle.std.specs.Prelude.{Option, Some, None, option_map}
+use Rattle.poly_terms.specs.model.Terms.{Term}
+use Rattle.signed_bounds.specs.Bounds.{Signed, Constant, PositivePart, SignedParts, NoParts, Part}
+use Rattle.signed_bounds.specs.Products.{Product}
+use Rattle.signed_bounds.specs.Fits.{is_equal, factor_fits, maximum_parts, weighted_difference}
+
+-- the factors without the first one that passes a test; none where none passes
+abbrev pub without_first : (Signed → Bool) → List Signed → Option (List Signed)
+without_first test [] = None
+without_first test (b ∷ bs) = if test b then Some bs else option_map (λ rest. b ∷ rest) (without_first test bs)
+
+-- the first list where there is one, else the second
+abbrev pub or_else : Option (List Signed) → Option (List Signed) → Option (List Signed)
+or_else None second = second
+or_else (Some first) second = Some first
+
+-- the factors without one that is equal to the bound
+abbrev pub without_equal : (Term → Bool) → Signed → List Signed → Option (List Signed)
+without_equal is_safe a bs = without_first (is_equal is_safe a) bs
+
+-- the factors without one that the bound fits, an equal one where there is one
+abbrev pub without_fitting : (Term → Bool) → Signed → List Signed → Option (List Signed)
+without_fitting is_safe a bs = or_else (without_equal is_safe a bs) (without_first (factor_fits is_safe a) bs)
+
+-- whether no factor is left
+abbrev pub is_empty : List Signed → Bool
+is_empty [] = true
+is_empty (b ∷ bs) = false
+
+-- whether each of the first factors takes one of the second, in turn, and none of these is left
+abbrev pub are_matched : (Signed → List Signed → Option (List Signed)) → List Signed → List Signed → Bool
+are_matched without [] gs = is_empty gs
+are_matched without (f ∷ fs) gs = elim (without f gs) [ None ↦ false | Some rest ↦ are_matched without fs rest ]
+
+-- whether the two lists have equal factors
+abbrev pub factors_equal : (Term → Bool) → List Signed → List Signed → Bool
+factors_equal is_safe fs gs = are_matched (without_equal is_safe) fs gs
+
+-- whether each factor of the first list fits another one of the second, and none of these is left
+abbrev pub factors_fit : (Term → Bool) → List Signed → List Signed → Bool
+factors_fit is_safe fs gs = are_matched (without_fitting is_safe) fs gs
+
+-- of n times the factors, how often they aren't taken from the products whose factors pass the test
+abbrev pub missing_times : (List Signed → List Signed → Bool) → ℕ → List Signed → List Product → ℕ
+missing_times test n fs [] = n
+missing_times test n fs (q ∷ qs) =
+    missing_times test (if test fs q.factors then n - q.times else n) fs qs
+
+-- the products once n times the factors are taken from those whose factors pass the test, from the first one on
+abbrev pub used_up : (List Signed → List Signed → Bool) → ℕ → List Signed → List Product → List Product
+used_up test n fs [] = []
+used_up test n fs (q ∷ qs) =
+    record { times = if test fs q.factors then q.times - n else q.times; factors = q.factors }
+    ∷ used_up test (if test fs q.factors then n - q.times else n) fs qs
+
+-- the products that aren't found in the second list, each as often as it is missing there
+abbrev pub missing_products : (List Signed → List Signed → Bool) → List Product → List Product → List Product
+missing_products test [] qs = []
+missing_products test (p ∷ ps) qs =
+    record { times = missing_times test p.times p.factors qs; factors = p.factors }
+    ∷ missing_products test ps (used_up test p.times p.factors qs)
+
+-- the second list once all products of the first are taken from it
+abbrev pub all_used_up : (List Signed → List Signed → Bool) → List Product → List Product → List Product
+all_used_up test [] qs = qs
+all_used_up test (p ∷ ps) qs = all_used_up test ps (used_up test p.times p.factors qs)
+
+-- whether n is at most m times a constant among the parts
+abbrev pub is_below_constant : ℕ → ℕ → SignedParts → Bool
+is_below_constant n m NoParts = false
+is_below_constant n m (Part (Constant c) bs) = nat_le n (m * c) || is_below_constant n m bs
+is_below_constant n m (Part b bs) = is_below_constant n m bs
+
+-- whether n times the first factors are at most m times the second as a whole: a polynomial each, or a number and a
+-- maximum with a constant that is large enough
+abbrev pub fits_whole : (Term → Bool) → ℕ → List Signed → ℕ → List Signed → Bool
+fits_whole is_safe n (PositivePart f ∷ []) m (PositivePart h ∷ []) = is_safe (weighted_difference n f m h)
+fits_whole is_safe n [] m (b ∷ []) = is_below_constant n m (maximum_parts b)
+fits_whole is_safe n _ m _ = false
+
+-- a product that is used up
+abbrev pub emptied : Product → Product
+emptied q = record { times = 0; factors = q.factors }
+
+-- the products once the first one that as a whole is at least the product is used up; none where no one is
+abbrev pub used_whole : (Term → Bool) → Product → List Product → Option (List Product)
+used_whole is_safe p [] = None
+used_whole is_safe p (q ∷ qs) =
+    if fits_whole is_safe p.times p.factors q.times q.factors
+    then Some (emptied q ∷ qs)
+    else option_map (λ rest. q ∷ rest) (used_whole is_safe p qs)
+
+-- the products once the product is taken from those that it fits, as often as it is taken, or else from one that as a
+-- whole is at least it; none where neither is there
+abbrev pub without_product : (Term → Bool) → Product → List Product → Option (List Product)
+without_product is_safe p qs =
+    if missing_times (factors_fit is_safe) p.times p.factors qs == 0
+    then Some (used_up (factors_fit is_safe) p.times p.factors qs)
+    else used_whole is_safe p qs
+
+-- whether each product of the first list, in turn, is found in the second and used up there
+abbrev pub dominated : (Term → Bool) → List Product → List Product → Bool
+dominated is_safe [] qs = true
+dominated is_safe (p ∷ ps) qs =
+    elim (without_product is_safe p qs) [ None ↦ false | Some rest ↦ dominated is_safe ps rest ]
+
+-- whether the first sum is at most the second, product by product: equal products are used up first, and what is left
+-- is dominated
+abbrev pub covers : (Term → Bool) → List Product → List Product → Bool
+covers is_safe ps qs = dominated is_safe
+    (missing_products (factors_equal is_safe) ps qs)
+    (all_used_up (factors_equal is_safe) ps qs)

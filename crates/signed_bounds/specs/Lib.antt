@@ -1,0 +1,17 @@
+-- signed bounds, their values and their measure
+pub mod Bounds
+pub mod Limits
+pub mod Measure
+pub mod Inputs
+pub mod Views
+-- the comparison of bounds
+pub mod Safe
+pub mod Products
+pub mod Fits
+pub mod Covers
+pub mod Within
+-- values that were worked out by hand
+pub mod Worked
+-- the crates below, which callers name through this one
+pub use Rattle.poly_terms.specs as poly_terms
+pub use Rattle.poly_terms.specs.model

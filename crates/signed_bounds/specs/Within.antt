@@ -1,0 +1,49 @@
+-- Whether a number that is at most a bound, den times, is at most a stated bound.
+use Rattle.std.specs.Prelude.{◌≡◌, ℕ, ◌*◌, ◌-◌, ◌≤◌, Bool, true, false, ◌&&◌, ◌||◌, ◌==◌, nat_le, List, [], ◌∷◌, ◌++◌, ℤ}
+use Rattle.std.specs.Prelude.{Option, Some, None, if◌then◌else◌}
+use Rattle.poly_terms.specs.model.Terms.{Term}
+use Rattle.signed_bounds.specs.Bounds.{Signed, Quotient, signed_val}
+use Rattle.signed_bounds.specs.Products.{Product, number, scaled, products_of, is_multipliable}
+use Rattle.signed_bounds.specs.Covers.{covers}
+use Rattle.signed_bounds.specs.Safe.{IsSafe}
+
+-- the numerator of a product that is a quotient by den alone, taken at least once
+abbrev pub numerator : ℕ → ℕ → List Signed → Option Signed
+numerator den n (Quotient b d ∷ []) = if nat_le 1 n && (d == den) then Some b else None
+numerator den n _ = None
+
+-- a product taken once less
+abbrev pub once_less : Product → Product
+once_less p = record { times = p.times - 1; factors = p.factors }
+
+-- whether a sum of products is covered by a numerator and den times the other products
+abbrev pub is_covered_with_numerator : (Term → Bool) → ℕ → List Product → Option Signed → List Product → Bool
+is_covered_with_numerator is_safe den ps None others = false
+is_covered_with_numerator is_safe den ps (Some b) others =
+    is_multipliable 1 b && covers is_safe ps (products_of b ++ scaled den others)
+
+-- whether some of the second products is a quotient by den, so that the sum of the first is covered by its numerator
+-- and den times all others; `before` are the products that stand before these
+abbrev pub is_covered_by_quotient : (Term → Bool) → ℕ → List Product → List Product → List Product → Bool
+is_covered_by_quotient is_safe den ps before [] = false
+is_covered_by_quotient is_safe den ps before (q ∷ qs) =
+    is_covered_with_numerator is_safe den ps (numerator den q.times q.factors) (before ++ once_less q ∷ qs)
+    || is_covered_by_quotient is_safe den ps (before ++ q ∷ []) qs
+
+-- whether the sum of the first products is at most den times that of the second and den - 1
+abbrev pub is_covered_rounded : (Term → Bool) → ℕ → List Product → List Product → Bool
+is_covered_rounded is_safe den ps qs = covers is_safe ps (number (den - 1) ∷ scaled den qs)
+
+-- whether each number that is at most the first bound, den times, is at most the second by a comparison of products
+abbrev pub within : (Term → Bool) → ℕ → Signed → Signed → Bool
+within is_safe den a b =
+    (is_multipliable 1 a && is_multipliable den b)
+    && (is_covered_rounded is_safe den (products_of a) (products_of b)
+    || is_covered_by_quotient is_safe den (products_of a) [] (products_of b))
+
+-- where a bound is within another one, each number that is at most the first, den times, is at most the second, at all
+-- start values
+pub record WithinHolds : Type 0 where
+  pub each : (is_safe : Term → Bool) → IsSafe is_safe → (den : ℕ) (a b : Signed) → 1 ≤ den
+      → within is_safe den a b ≡ true → (start : List ℤ) (n : ℕ) → den * n ≤ signed_val a start
+      → n ≤ signed_val b start

@@ -1,0 +1,220 @@
+-- Values of the definitions that were worked out by hand.
+use Rattle.std.specs.Prelude.{◌≡◌, ℕ, zero, suc, ◌+◌, Bool, true, false, List, [], ◌∷◌, ℤ, pos, negsuc}
+use Rattle.poly_terms.specs.model.Bounds as plain
+use Rattle.poly_terms.specs.model.Polynomials.{Monomial}
+use Rattle.poly_terms.specs.model.Terms.{Literal, Variable, Addition, Subtraction, Multiplication, Exponentiation}
+use Rattle.signed_bounds.specs.Bounds.{Signed, Constant, PositivePart, SumOf, ProductOf, MaximumOf, MinimumOf, Quotient}
+use Rattle.signed_bounds.specs.Bounds.{Root, PowerOf, SignedParts, NoParts, Part, signed_val}
+use Rattle.signed_bounds.specs.Measure.{node_count, depth_of, is_large}
+use Rattle.signed_bounds.specs.Inputs.{signed_of_bound}
+use Rattle.signed_bounds.specs.Safe.{expands_to_squares}
+use Rattle.signed_bounds.specs.Limits.{constant_limit}
+use Rattle.signed_bounds.specs.Products.{number, products_of, is_multipliable}
+use Rattle.signed_bounds.specs.Within.{within}
+
+-- a part alone, and two parts
+abbrev pub one_part : Signed → SignedParts
+one_part a = Part a NoParts
+
+abbrev pub two_parts : Signed → Signed → SignedParts
+two_parts a b = Part a (one_part b)
+
+-- an integer times variables
+abbrev pub times : ℤ → List ℕ → Monomial
+times z vs = record { coef = z; vars = vs }
+
+-- the positive parts of x, y, 2*x, 2*x + 2, x + 1 and x - 5, where x and y are the first two start arguments
+abbrev pub x : Signed
+x = PositivePart (times (pos 1) (0 ∷ []) ∷ [])
+
+abbrev pub y : Signed
+y = PositivePart (times (pos 1) (1 ∷ []) ∷ [])
+
+abbrev pub twice_x : Signed
+twice_x = PositivePart (times (pos 2) (0 ∷ []) ∷ [])
+
+abbrev pub twice_x_and_2 : Signed
+twice_x_and_2 = PositivePart (times (pos 2) [] ∷ times (pos 2) (0 ∷ []) ∷ [])
+
+abbrev pub x_and_1 : Signed
+x_and_1 = PositivePart (times (pos 1) [] ∷ times (pos 1) (0 ∷ []) ∷ [])
+
+abbrev pub x_less_5 : Signed
+x_less_5 = PositivePart (times (negsuc 4) [] ∷ times (pos 1) (0 ∷ []) ∷ [])
+
+-- the positive part of x*x + 3*x - 4
+abbrev pub parabola : Signed
+parabola = PositivePart (times (negsuc 3) [] ∷ times (pos 3) (0 ∷ []) ∷ times (pos 1) (0 ∷ 0 ∷ []) ∷ [])
+
+-- values: parts at 7, 3 and -3, quotients, roots, minima, maxima, and empty lists of parts
+pub record BoundsHaveTheirValues : Type 0 where
+  pub above : signed_val x_less_5 (pos 7 ∷ []) ≡ 2
+  pub below : signed_val x_less_5 (pos 3 ∷ []) ≡ 0
+  pub unread : signed_val y (pos 7 ∷ []) ≡ 0
+  pub polynomial : signed_val parabola (negsuc 4 ∷ []) ≡ 6
+  pub half : signed_val (Quotient x 2) (pos 7 ∷ []) ≡ 3
+  pub even_half : signed_val (Quotient x 2) (pos 8 ∷ []) ≡ 4
+  pub by_zero : signed_val (Quotient x 0) (pos 7 ∷ []) ≡ 0
+  pub root_of_15 : signed_val (Root x) (pos 15 ∷ []) ≡ 3
+  pub root_of_16 : signed_val (Root x) (pos 16 ∷ []) ≡ 4
+  pub root_of_17 : signed_val (Root x) (pos 17 ∷ []) ≡ 4
+  pub root_of_0 : signed_val (Root x) (negsuc 8 ∷ []) ≡ 0
+  pub minimum : signed_val (MinimumOf x (two_parts y (Constant 4))) (pos 5 ∷ pos 3 ∷ []) ≡ 3
+  pub first_minimum : signed_val (MinimumOf x (one_part y)) (pos 2 ∷ pos 3 ∷ []) ≡ 2
+  pub minimum_of_one : signed_val (MinimumOf x NoParts) (pos 5 ∷ []) ≡ 5
+  pub maximum : signed_val (MaximumOf (two_parts x y)) (pos 5 ∷ pos 3 ∷ []) ≡ 5
+  pub product : signed_val (ProductOf (two_parts x y)) (pos 5 ∷ pos 3 ∷ []) ≡ 15
+  pub power : signed_val (PowerOf 2 x) (pos 5 ∷ []) ≡ 32
+  pub power_of_0 : signed_val (PowerOf 0 x) (negsuc 0 ∷ []) ≡ 1
+  pub empty_sum : signed_val (SumOf NoParts) [] ≡ 0
+  pub empty_product : signed_val (ProductOf NoParts) [] ≡ 1
+  pub empty_maximum : signed_val (MaximumOf NoParts) [] ≡ 0
+
+-- |A|*2^|B| at (-3, 4) and at (3, -4)
+abbrev pub exponential : plain.Bound
+exponential = plain.ProductOf (plain.Part (plain.Input 0) (plain.Part (plain.PowerOf 2 (plain.Input 1)) plain.NoParts))
+
+pub record InputsAreAbsoluteValues : Type 0 where
+  pub negative_first : signed_val (signed_of_bound exponential) (negsuc 2 ∷ pos 4 ∷ []) ≡ 48
+  pub negative_second : signed_val (signed_of_bound exponential) (pos 3 ∷ negsuc 3 ∷ []) ≡ 48
+
+-- so many copies of x
+abbrev pub copies : ℕ → SignedParts
+copies zero = NoParts
+copies (suc n) = Part (Constant 0) (copies n)
+
+-- 2^(2^(.. x)), with so many powers
+abbrev pub tower : ℕ → Signed
+tower zero = x
+tower (suc n) = PowerOf 2 (tower n)
+
+-- nodes and levels, and the first bounds that are large
+pub record MeasuresAreWorkedOut : Type 0 where
+  -- the parabola has three monomials with three factors, and is one node more
+  pub polynomial : node_count parabola ≡ 7
+  pub polynomial_levels : depth_of parabola ≡ 1
+  pub nodes : node_count (MinimumOf (Quotient x 2) (two_parts (Root y) (Constant 1))) ≡ 10
+  pub levels : depth_of (MinimumOf (Quotient x 2) (two_parts (Root y) (Constant 1))) ≡ 3
+  pub deeper_part : depth_of (MinimumOf x (one_part (Quotient (Root y) 2))) ≡ 4
+  pub nodes_at_most : is_large (SumOf (copies 4095)) ≡ false
+  pub nodes_beyond : is_large (SumOf (copies 4096)) ≡ true
+  pub levels_at_most : is_large (tower 199) ≡ false
+  pub levels_beyond : is_large (tower 200) ≡ true
+
+-- which expressions expand to sums of squares
+pub record SquaresAreFound : Type 0 where
+  -- 0, 3, x*x + 2 and (x + y)*(x + y) - 2*x*y do
+  pub nothing : expands_to_squares (Literal (pos 0)) ≡ true
+  pub constant : expands_to_squares (Literal (pos 3)) ≡ true
+  pub square : expands_to_squares (Addition (Multiplication (Variable 0) (Variable 0)) (Literal (pos 2))) ≡ true
+  pub cancelled : expands_to_squares (Subtraction
+      (Exponentiation (Addition (Variable 0) (Variable 1)) 2)
+      (Multiplication (Literal (pos 2)) (Multiplication (Variable 0) (Variable 1)))) ≡ true
+  -- -1, x, x*y, -(x*x) and x*x*x don't, nor does x^10, whose degree is too high
+  pub negative : expands_to_squares (Literal (negsuc 0)) ≡ false
+  pub variable : expands_to_squares (Variable 0) ≡ false
+  pub mixed : expands_to_squares (Multiplication (Variable 0) (Variable 1)) ≡ false
+  pub opposite_square : expands_to_squares (Subtraction (Literal (pos 0)) (Exponentiation (Variable 0) 2)) ≡ false
+  pub cube : expands_to_squares (Exponentiation (Variable 0) 3) ≡ false
+  pub high_degree : expands_to_squares (Exponentiation (Variable 0) 10) ≡ false
+
+-- so many factors [x] + 1
+abbrev pub powers_of_sum : ℕ → SignedParts
+powers_of_sum zero = NoParts
+powers_of_sum (suc n) = Part (SumOf (two_parts x (Constant 1))) (powers_of_sum n)
+
+-- what is multiplied out, and its limits
+pub record ProductsAreMultipliedOut : Type 0 where
+  -- ([x] + 2) * 3 is 3*[x] + 6
+  pub outcome : products_of (ProductOf (two_parts (SumOf (two_parts x (Constant 2))) (Constant 3)))
+      ≡ record { times = 3; factors = x ∷ [] } ∷ number 6 ∷ []
+  -- ([x] + 1)^12 has 4,096 products, ([x] + 1)^13 has more
+  pub most_products : is_multipliable 1 (ProductOf (powers_of_sum 12)) ≡ true
+  pub more_products : is_multipliable 1 (ProductOf (powers_of_sum 13)) ≡ false
+  -- 2^127 - 1 is a number, also in a product with 0, and the next number none
+  pub largest : is_multipliable 1 (Constant constant_limit) ≡ true
+  pub too_large : is_multipliable 1 (Constant (constant_limit + 1)) ≡ false
+  pub times_zero : is_multipliable 1 (ProductOf (two_parts (Constant (constant_limit + 1)) (Constant 0))) ≡ false
+  pub twice : is_multipliable 2 (Constant constant_limit) ≡ false
+
+-- whether each number that is at most a, den times, is at most b, where differences that expand to sums of squares count
+-- as never negative
+abbrev pub is_within : ℕ → Signed → Signed → Bool
+is_within den a b = within expands_to_squares den a b
+
+-- sums, products and numbers
+pub record SumsAreCompared : Type 0 where
+  -- [x] + 1 is within 1 + [x], and not within [x]; [x] isn't within [y]
+  pub order : is_within 1 (SumOf (two_parts x (Constant 1))) (SumOf (two_parts (Constant 1) x)) ≡ true
+  pub one_less : is_within 1 (SumOf (two_parts x (Constant 1))) x ≡ false
+  pub other : is_within 1 x y ≡ false
+  -- [x] + 2*[x] is within 3*[x], and 3*[x] within it; 4*[x] isn't
+  pub added : is_within 1 (SumOf (two_parts x (ProductOf (two_parts (Constant 2) x))))
+      (ProductOf (two_parts x (Constant 3))) ≡ true
+  pub parted : is_within 1 (ProductOf (two_parts x (Constant 3)))
+      (SumOf (two_parts x (ProductOf (two_parts (Constant 2) x)))) ≡ true
+  pub one_more : is_within 1 (ProductOf (two_parts x (Constant 4)))
+      (SumOf (two_parts x (ProductOf (two_parts (Constant 2) x)))) ≡ false
+  -- ([x] + 1)*([y] + 2) is within [x]*[y] + 2*[x] + [y] + 2, and not within that with 1 in place of 2
+  pub multiplied : is_within 1
+      (ProductOf (two_parts (SumOf (two_parts x (Constant 1))) (SumOf (two_parts y (Constant 2)))))
+      (SumOf (Part (ProductOf (two_parts y x)) (Part (ProductOf (two_parts (Constant 2) x)) (two_parts y (Constant 2)))))
+      ≡ true
+  pub multiplied_less : is_within 1
+      (ProductOf (two_parts (SumOf (two_parts x (Constant 1))) (SumOf (two_parts y (Constant 2)))))
+      (SumOf (Part (ProductOf (two_parts y x)) (Part (ProductOf (two_parts (Constant 2) x)) (two_parts y (Constant 1)))))
+      ≡ false
+  -- [x] isn't within [x]*[y], which may be 0
+  pub factor_left : is_within 1 x (ProductOf (two_parts x y)) ≡ false
+  -- [x] is within [x + 1], and not the other way round
+  pub greater : is_within 1 x x_and_1 ≡ true
+  pub lesser : is_within 1 x_and_1 x ≡ false
+  -- 2*[x] is within [2*x] and [2*x] within 2*[x], but [2*x + 2] isn't
+  pub whole : is_within 1 (ProductOf (two_parts (Constant 2) x)) twice_x ≡ true
+  pub in_parts : is_within 1 twice_x (ProductOf (two_parts (Constant 2) x)) ≡ true
+  pub not_whole : is_within 1 twice_x_and_2 (ProductOf (two_parts (Constant 2) x)) ≡ false
+  -- 2^127 - 1 is within itself, while 2^127 is past the limit
+  pub largest : is_within 1 (Constant constant_limit) (Constant constant_limit) ≡ true
+  pub past_limit : is_within 1 (Constant (constant_limit + 1)) (Constant (constant_limit + 1)) ≡ false
+
+-- quotients and rounding
+pub record QuotientsAreCompared : Type 0 where
+  -- a number that is at most 5 when doubled is at most 2, and not at most 1; one of 6 is at most 3, and not at most 2
+  pub five : is_within 2 (Constant 5) (Constant 2) ≡ true
+  pub five_less : is_within 2 (Constant 5) (Constant 1) ≡ false
+  pub six : is_within 2 (Constant 6) (Constant 3) ≡ true
+  pub six_less : is_within 2 (Constant 6) (Constant 2) ≡ false
+  -- ([x*x + 3*x - 4] + 2)/2 is within [x*x + 3*x - 4]/2 + 1, and not within it without the 1
+  pub taken_out : is_within 2 (SumOf (two_parts parabola (Constant 2)))
+      (SumOf (two_parts (Quotient parabola 2) (Constant 1))) ≡ true
+  pub left_out : is_within 2 (SumOf (two_parts parabola (Constant 2))) (Quotient parabola 2) ≡ false
+  -- [2*x]/2 is within [x], and [2*x + 2]/2 isn't
+  pub divided : is_within 2 twice_x x ≡ true
+  pub not_divided : is_within 2 twice_x_and_2 x ≡ false
+  -- a quotient is within itself, and not within one by another number
+  pub itself : is_within 3 parabola (Quotient parabola 3) ≡ true
+  pub other_divisor : is_within 3 parabola (Quotient parabola 4) ≡ false
+  pub with_other_divisor : is_within 1 (Quotient parabola 3) (Quotient parabola 4) ≡ false
+  -- the second quotient serves where the first doesn't
+  pub second_quotient : is_within 2 parabola (SumOf (two_parts (Quotient y 2) (Quotient parabola 2))) ≡ true
+
+-- maxima, minima, roots and powers
+pub record ShapesAreCompared : Type 0 where
+  -- [x] is within max([y], [x]), and max([y], [x]) isn't within [x]
+  pub part : is_within 1 x (MaximumOf (two_parts y x)) ≡ true
+  pub not_part : is_within 1 (MaximumOf (two_parts y x)) x ≡ false
+  -- 6 is within 2*max([x], 3), and 7 isn't
+  pub number_in_maximum : is_within 1 (Constant 6)
+      (ProductOf (two_parts (Constant 2) (MaximumOf (two_parts x (Constant 3))))) ≡ true
+  pub number_above : is_within 1 (Constant 7)
+      (ProductOf (two_parts (Constant 2) (MaximumOf (two_parts x (Constant 3))))) ≡ false
+  -- min([x], [y]) is within min([x + 1], [y]), and not the other way round
+  pub minimum : is_within 1 (MinimumOf x (one_part y)) (MinimumOf x_and_1 (one_part y)) ≡ true
+  pub not_minimum : is_within 1 (MinimumOf x_and_1 (one_part y)) (MinimumOf x (one_part y)) ≡ false
+  -- the root of [x] is within that of [x + 1], and not the other way round
+  pub root : is_within 1 (Root x) (Root x_and_1) ≡ true
+  pub not_root : is_within 1 (Root x_and_1) (Root x) ≡ false
+  -- 2^[x] is within 3^[x + 1]; 3^[x] isn't within 2^[x + 1], nor 0^[x] within itself
+  pub power : is_within 1 (PowerOf 2 x) (PowerOf 3 x_and_1) ≡ true
+  pub lesser_base : is_within 1 (PowerOf 3 x) (PowerOf 2 x_and_1) ≡ false
+  pub base_0 : is_within 1 (PowerOf 0 x) (PowerOf 0 x) ≡ false

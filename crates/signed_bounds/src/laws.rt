@@ -1,0 +1,23 @@
+//! The laws of signed bounds and of their comparison.
+
+ghost use Rattle.signed_bounds.specs.Inputs.{SignedBoundsKeepValues};
+ghost use Rattle.signed_bounds.specs.Safe.{SquaresAreSafe};
+ghost use Rattle.signed_bounds.specs.Within.{WithinHolds};
+
+/// The law that a bound over absolute values keeps its value as a signed bound. Its contract is the law; it does
+/// nothing.
+pub fn signed_bounds_keep_values()
+    ensures { SignedBoundsKeepValues }
+{}
+
+/// The law that an expression that expands to a sum of squares is never negative. Its contract is the law; it does
+/// nothing.
+pub fn squares_are_safe()
+    ensures { SquaresAreSafe }
+{}
+
+/// The law that a number that is at most a bound, den times, is at most each bound that the comparison accepts. Its
+/// contract is the law; it does nothing.
+pub fn within_holds()
+    ensures { WithinHolds }
+{}

@@ -1,0 +1,14 @@
+-- That a list is a listing has one proof alone, so that a type may keep it.
+use Rattle.std.proofs.Common.{ℕ, suc, List, [], ◌∷◌}
+use Rattle.std.proofs.Props.{props}
+use Rattle.sparse_merge.specs.Listing.{Ascends, IsListing}
+
+module _ {C : Type 0} (place_of : C → ℕ) (fits : C → Type 0) (one : (c : C) → IsProp (fits c)) where
+  -- places ascend in one way alone
+  Ascends-prop : (from : ℕ) (cs : List C) → IsProp (Ascends place_of fits from cs)
+  Ascends-prop from [] = hlevel props
+  Ascends-prop from (c ∷ cs) = let rest = Ascends-prop (suc (place_of c)) cs in let here = one c in hlevel (props, here, rest)
+
+  -- a list is a listing in one way alone
+  pub IsListing-prop : (cs : List C) → IsProp (IsListing place_of fits cs)
+  IsListing-prop cs = let ascend = Ascends-prop 0 cs in hlevel (props, ascend)

@@ -1,0 +1,274 @@
+-- A size that grows by a rule without a time, and a time that is large.
+use Rattle.std.proofs.Common.{◌≡◌, inl, inr, ℕ, zero, suc, ◌≤◌, true, false, List, [], ◌∷◌, map, None, refl, sym, ◌∙◌, subst}
+use Rattle.std.proofs.Common.{arith}
+use Rattle.std.specs.Prelude.{ℤ, pos, negsuc}
+use Rattle.std.proofs.lemmas.List.Elements.{All-nil, All-cons, All-head}
+use Rattle.model.specs.Bounds.{Constant, Input}
+use Rattle.model.specs.Entries.{is_in}
+use Rattle.model.specs.Paths.{IsInSet, LeadsBackTo}
+use Rattle.model.specs.Programs.{arity_of}
+use Rattle.model.proofs.Cases.{none_some, some_none, some_same}
+use Rattle.model.proofs.Membership.{no_is_not_yes}
+use Rattle.its_model.specs.linear_forms.Forms.{at}
+use Rattle.its_model.specs.linear_forms.Questions.{program_of_question}
+use Rattle.its_model.specs.linear_forms.QuestionLaws.{parameters_of}
+use Rattle.its_model.specs.linear_forms.RuleQuestions.{RankedSet, symbols_of_set}
+use Rattle.guard_prep.specs.Tightening.{divisor_of}
+use Rattle.simplex_core.specs.Tableau.{first_tableau, equation, cost, pivot}
+use Rattle.simplex_core.specs.Trips.{IsScaledSolution}
+use Rattle.cert_types.specs.rule_forms.RankLaws.{function_of}
+use Rattle.cert_types.specs.cert_rules.Checks.{large_nodes}
+use Rattle.cert_types.specs.cert_rules.Nodes.{SymbolForm, RankNode}
+use Rattle.bound_fixpoint.proofs.OneOrder.{sets_one, shut_one}
+use Rattle.cert_types.specs.cert_rules.AcceptsPlain.{AreMultipliers}
+use Rattle.cert_types.specs.cert_rules.AcceptsRank.{HasRankShape, Loses, moves_of, rank_time}
+use Rattle.cert_types.specs.cert_rules.AcceptsSizes.{HasLinearShape, HasMemberShape, HasCycleShape, AcceptsUp, AcceptsLow}
+use Rattle.cert_types.specs.cert_rules.Gaps.{SymbolPlace}
+use Rattle.cert_types.specs.cert_rules.Reasons as reasons
+use Rattle.cert_types.specs.cert_rules.Worked.{doubled, doubled_member, alone_node}
+use Rattle.cert_types.specs.cert_rules.WorkedReasons.{tower}
+use Rattle.cert_types.specs.cert_rules.WorkedSettings.{form, counting, doubling}
+use Rattle.cert_types.proofs.cert_rules.WorkedAccepted.{of_one, alone_accepted}
+use Rattle.cert_types.proofs.cert_rules.WorkedSizes.{size_nodes}
+use Rattle.cert_types.specs.cert_program.Setting.{setting_of}
+use Rattle.rank_search.specs.RankAnswers.{rank_program, part_at, IsRankNode}
+use Rattle.rank_search.specs.rule_questions.ProgramQuestions.{ranked_set}
+use Rattle.bound_fixpoint.specs.Keys.{IsPlace, is_untimed, over}
+use Rattle.bound_fixpoint.specs.Right.{IsRanking}
+use Rattle.bound_fixpoint.specs.Sets.{IsSetOfRule, IsShut, AreShutOf}
+use Rattle.bound_fixpoint.proofs.ListMembers.{contains-none}
+use Rattle.time_bounds.specs.SizeWhys.{GrowsUntimed}
+use Rattle.time_bounds.specs.TimeWhys.{IsSought, TimeIsLarge}
+use Rattle.worked_reasons.specs.Growths.{growing_said, deep_said, GrowthsAreWorkedOut}
+use Rattle.worked_reasons.proofs.DoubleComponents.{doubled_alone}
+use Rattle.worked_reasons.proofs.DoubleMembers.{not_used}
+use Rattle.worked_reasons.proofs.LoopComponents.{grows_nowhere}
+use Rattle.worked_reasons.proofs.WholeEnds.{solution_run, solution_untripped, solutions_same}
+
+-- the arms of the place that doubles have their shape over the rows of the program
+doubled_up : HasLinearShape (setting_of doubling.program) 2 1 1 (form (pos 2 ∷ []) (pos 0)) []
+doubled_up =
+    let old = (All-head (HasMemberShape doubling) doubled_member [] size_nodes.with_time.1.shape.each).up in
+    record {
+      over = old.over;
+      den_limit = old.den_limit;
+      long = old.long;
+      limit = old.limit;
+      one_each = record { long = old.one_each.long; limit = old.one_each.limit };
+    }
+
+doubled_low : HasLinearShape (setting_of doubling.program) 2 1 1 (form (negsuc 1 ∷ []) (pos 0)) []
+doubled_low =
+    let old = (All-head (HasMemberShape doubling) doubled_member [] size_nodes.with_time.1.shape.each).low in
+    record {
+      over = old.over;
+      den_limit = old.den_limit;
+      long = old.long;
+      limit = old.limit;
+      one_each = record { long = old.one_each.long; limit = old.one_each.limit };
+    }
+
+pub doubled_shape : HasCycleShape (setting_of doubling.program) doubled
+doubled_shape = record {
+  some = omega arith;
+  ascending = tt;
+  each = All-cons (HasMemberShape (setting_of doubling.program)) doubled_member []
+      (record {
+        at = (All-head (HasMemberShape doubling) doubled_member [] size_nodes.with_time.1.shape.each).at;
+        up = doubled_up;
+        low = doubled_low;
+      }) (All-nil (HasMemberShape (setting_of doubling.program)));
+}
+
+-- what doubles grows by its rule
+grows : GrowsUntimed doubling.program 10 growing_said 2 1 2
+grows = record {
+  members = doubled;
+  component = doubled_alone;
+  loop = refl;
+  uses = refl;
+  grows = refl;
+  missing = refl;
+  first = (
+    reasons.MissingTime 2,
+    refl,
+    inr (
+      doubled_shape,
+      inr (
+        All-head (AcceptsUp doubling) doubled_member [] size_nodes.with_time.1.up,
+        inr (
+          All-head (AcceptsLow doubling) doubled_member [] size_nodes.with_time.1.low,
+          inr (
+            (Input 0, refl),
+            inr (
+              (Input 0, refl),
+              inr (tt, inr (tt, inr (tt, inr (tt, inl ((λ h. none_some h.0 h.1), refl))))),
+            ),
+          ),
+        ),
+      ),
+    ),
+  );
+}
+
+-- the function A over the second rule of the program that counts down has its shape over the rows of the program
+alone_shape : HasRankShape (setting_of counting.program) alone_node
+unfolding divisor_of
+alone_shape =
+    let old = alone_accepted.1.shape in
+    record {
+      ascending = old.ascending;
+      rules = old.rules;
+      inside = old.inside;
+      symbols = old.symbols;
+      forms = old.forms;
+      den = old.den;
+      den_limit = old.den_limit;
+      one_each = old.one_each;
+      moves = of_one (λ t. AreMultipliers (setting_of counting.program) t (moves_of alone_node.set alone_node.moves t)) 2
+          (record { long = refl; limit = (old.moves 2 refl).limit });
+      floor = record { long = refl; limit = old.floor.limit };
+    }
+
+-- and it ranks the rule
+alone_ranks : IsRanking (setting_of counting.program) (2 ∷ []) 2 [] alone_node
+unfolding divisor_of
+alone_ranks = record {
+  rule = refl;
+  same_set = refl;
+  shape = alone_shape;
+  moves = of_one (Loses (setting_of counting.program) alone_node) 2 (alone_accepted.1.moves 2 refl);
+  floor = alone_accepted.1.floor;
+  reads = λ a j h. absurd (no_is_not_yes false refl h);
+}
+
+-- where the first rule has a time, the set of the second one is itself
+alone_set : IsSetOfRule counting.program deep_said 2 (2 ∷ [])
+alone_set = record { ascending = tt; members = λ e. (onward e, back e) }
+  where
+    onward : (e : ℕ) → is_in e (2 ∷ []) ≡ true → IsInSet counting.program (is_untimed deep_said) 2 e
+    onward e m = of_one (λ n. IsInSet counting.program (is_untimed deep_said) 2 n) 2 (inl refl) e m
+
+    leading : (e : ℕ) → LeadsBackTo counting.program (is_untimed deep_said) 2 e → is_in e (2 ∷ []) ≡ true
+    leading zero h = absurd (no_is_not_yes false refl h.untimed)
+    leading (suc zero) h = absurd (no_is_not_yes false refl h.untimed)
+    leading (suc (suc zero)) h = refl
+    leading (suc (suc (suc k))) h = absurd (none_some h.from h.leads)
+
+    back : (e : ℕ) → IsInSet counting.program (is_untimed deep_said) 2 e → is_in e (2 ∷ []) ≡ true
+    back e (inl same) = subst (λ (n : ℕ). is_in n (2 ∷ []) ≡ true) (sym same) refl
+    back e (inr h) = leading e h
+
+-- the first rule, which enters it, has a size at its only place
+one_place : (i : ℕ) → IsPlace counting.program 1 i → i ≡ 1
+one_place i place =
+    let last : i ≤ 1 = subst (λ (a : ℕ). i ≤ arity_of counting.program a) (sym (some_same 1 place.symbol place.target)) place.last in
+    omega (arith, place.least, last)
+
+keeps_open : (i : ℕ) → IsPlace counting.program 1 i → deep_said 1 i ≡ None → ⊥
+keeps_open i place missing =
+    some_none (tower 200) (subst (λ (n : ℕ). deep_said 1 n ≡ None) (one_place i place) missing)
+
+none_shut : (s : SymbolPlace) → IsShut counting.program deep_said (2 ∷ []) s → ⊥
+none_shut s h =
+    of_one (λ e. IsPlace counting.program e s.place → deep_said e s.place ≡ None → ⊥) 1 (keeps_open s.place) h.entry h.enters
+    h.place h.missing
+
+alone_sought : IsSought counting.program deep_said 2 (2 ∷ []) []
+alone_sought = record {
+  is_set = alone_set;
+  are_shut = record {
+    order = tt;
+    places = λ s. ((λ m. absurd (contains-none s m)), λ h. absurd (none_shut s h));
+  };
+}
+
+-- the question which function ranks the rule, and the numbers of its solution
+abbrev counted : RankedSet
+counted = ranked_set counting.program (2 ∷ []) 2 []
+
+abbrev numbers : List ℤ
+numbers = pos 1 ∷ pos 0 ∷ pos 0 ∷ pos 0 ∷ pos 0 ∷ pos 0 ∷ pos 1 ∷ pos 0 ∷ []
+
+solved : IsScaledSolution (rank_program counted) 10 numbers 1
+unfolding program_of_question first_tableau equation cost pivot divisor_of
+solved = solution_run (rank_program counted) 10 4 numbers (8 ∷ 3 ∷ 0 ∷ 6 ∷ []) refl
+
+-- so the function A is found
+alone_found : IsRankNode counted 10 alone_node
+unfolding divisor_of
+alone_found = record {
+  numbered = refl;
+  same_set = refl;
+  numbers = numbers;
+  solution = solved;
+  forms = refl;
+  multipliers = refl;
+  untripped = record { each = solution_untripped (rank_program counted) 10 numbers 1 solved };
+}
+
+-- the time that it composes of 201 levels is large
+deep : TimeIsLarge counting.program 10 deep_said 2 208
+deep = record {
+  set = 2 ∷ [];
+  shut = [];
+  sought = alone_sought;
+  node = alone_node;
+  ranks = alone_ranks;
+  found = alone_found;
+  large = λ h. no_is_not_yes true h.before refl;
+  nodes = refl;
+}
+
+-- no other function is found, whatever its multipliers
+nodes_of : (node : RankNode) → node.set ≡ 2 ∷ [] → node.den ≡ 1 → node.forms ≡ alone_node.forms
+    → large_nodes (setting_of counting.program).rewrite (rank_time (setting_of counting.program) node (over deep_said)) ≡ 208
+nodes_of node set den forms =
+    subst (λ (fs : List SymbolForm). count node.set node.den fs ≡ 208) (sym forms)
+    (subst (λ (d : ℕ). count node.set d alone_node.forms ≡ 208) (sym den)
+    (subst (λ (ts : List ℕ). count ts 1 alone_node.forms ≡ 208) (sym set) refl))
+  where
+    count : List ℕ → ℕ → List SymbolForm → ℕ
+    count ts d fs =
+        large_nodes (setting_of counting.program).rewrite
+        (rank_time (setting_of counting.program)
+        (record { rule = node.rule; set = ts; den = d; forms = fs; moves = node.moves; floor = node.floor }) (over deep_said))
+
+node_is : (node : RankNode) → IsRankNode counted 10 node → (node.den ≡ 1) × (node.forms ≡ alone_node.forms)
+unfolding divisor_of
+node_is node h =
+    let same = solutions_same (rank_program counted) 10 h.numbers numbers node.den 1 h.solution solved in (
+      same.1,
+      subst (λ (zs : List ℤ). node.forms ≡ map (part_at (function_of counted (parameters_of (at zs)))) (symbols_of_set counted))
+          same.0 h.forms,
+    )
+
+not_so_large : TimeIsLarge counting.program 10 deep_said 2 207 → ⊥
+not_so_large h = other (h.nodes ∙ nodes_of h.node (h.found.same_set ∙ set) is.0 is.1)
+  where
+    set : h.set ≡ 2 ∷ []
+    set = sets_one counting.program deep_said 2 h.set (2 ∷ []) h.sought.is_set alone_set
+
+    shut : h.shut ≡ []
+    shut = shut_one counting.program deep_said (2 ∷ []) h.shut []
+        (subst (λ (s : List ℕ). AreShutOf counting.program deep_said s h.shut) set h.sought.are_shut) alone_sought.are_shut
+
+    found : IsRankNode counted 10 h.node
+    found = subst (λ (ys : List SymbolPlace). IsRankNode (ranked_set counting.program (2 ∷ []) 2 ys) 10 h.node) shut
+        (subst (λ (xs : List ℕ). IsRankNode (ranked_set counting.program xs 2 h.shut) 10 h.node) set h.found)
+
+    is : (h.node.den ≡ 1) × (h.node.forms ≡ alone_node.forms)
+    is = node_is h.node found
+
+    other : ◌≡◌ {A = ℕ} 207 208 → ⊥
+    other e = omega (arith, e)
+
+pub growths_worked : GrowthsAreWorkedOut
+growths_worked = record {
+  untimed = grows;
+  other_rule = λ h. not_used h.members h.component h.uses;
+  timed = λ h. some_none (Constant 3) h.missing;
+  grows_nowhere = grows_nowhere;
+  large = deep;
+  not_so_large = not_so_large;
+}

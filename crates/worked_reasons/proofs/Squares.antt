@@ -1,0 +1,220 @@
+-- Why places have no size in the program that squares.
+use Rattle.std.proofs.Common.{◌≡◌, inl, inr, ℕ, zero, suc, ◌<◌, true, List, [], ◌∷◌, Some, refl, sym, ◌∙◌}
+use Rattle.std.proofs.Common.{subst, arith, All}
+use Rattle.std.specs.Prelude.{pos}
+use Rattle.std.proofs.lemmas.List.Elements.{All-nil, All-cons}
+use Rattle.model.specs.Bounds.{Bound, Input}
+use Rattle.model.specs.Polynomials.{Monomial}
+use Rattle.model.proofs.Cases.{some_none, none_some}
+use Rattle.model.proofs.Membership.{no_is_not_yes}
+use Rattle.cert_types.specs.declared.answer.Question.TheVariants as asked
+use Rattle.cert_types.specs.cert_rules.AcceptsSizes.{IsPolynomialUpdate, HasMemberShape, HasCycleShape}
+use Rattle.cert_types.specs.cert_rules.Checks.{large_nodes}
+use Rattle.cert_types.specs.cert_rules.Nodes.{Member}
+use Rattle.cert_types.specs.cert_rules.Reasons as reasons
+use Rattle.cert_types.specs.cert_rules.WorkedReasons.{tower}
+use Rattle.cert_types.proofs.cert_rules.WorkedSizes.{below_one}
+use Rattle.cert_types.specs.cert_program.Setting.{setting_of}
+use Rattle.outcome.specs.Holding.{numbered_entry, place_entry}
+use Rattle.outcome.specs.Reports.{NoTime, TimeTripped, Untimed, NoSize, SizeMissing, SizeNonlinear, Unsized}
+use Rattle.bound_fixpoint.specs.Keys.{Bounds, key, over}
+use Rattle.bound_fixpoint.specs.Loops.{do_loop}
+use Rattle.time_bounds.specs.SaidBounds.{bounds_said}
+use Rattle.time_bounds.specs.SizeWhys.{RestsOnSize, BendsAt, SizeIsLarge, composed_size, HasNoSize}
+use Rattle.time_bounds.specs.TimeWhys.{HasNoTime}
+use Rattle.worked_reasons.specs.Programs.{tripped_at, squaring_to, squares, square, square_after, squares_report}
+use Rattle.worked_reasons.specs.Programs.{bending_report}
+use Rattle.worked_reasons.specs.Squares.{squares_said, towering_said, SquaresAreWorkedOut}
+use Rattle.worked_reasons.proofs.SquareComponents.{components}
+use Rattle.worked_reasons.proofs.SquareTimes.{first_time, second_time}
+
+-- its monomials have the first variable alone
+square_left : All (λ (m : Monomial). All (λ (v : ℕ). v < 1) m.vars) square
+square_left = All-cons (λ (m : Monomial). All (λ (v : ℕ). v < 1) m.vars) (record { coef = pos 1; vars = 0 ∷ 0 ∷ [] }) []
+    below_one (All-nil (λ (m : Monomial). All (λ (v : ℕ). v < 1) m.vars))
+
+-- the update of either rule is the square
+first_square : IsPolynomialUpdate (setting_of squares) (key 1 1)
+first_square = record { polynomial = square; nonlinear = refl; left_alone = square_left }
+
+second_square : IsPolynomialUpdate (setting_of squares) (key 2 1)
+second_square = record { polynomial = square; nonlinear = refl; left_alone = square_left }
+
+-- the members have their shape
+first_shape : HasMemberShape (setting_of squares) (square_after 1)
+first_shape = record {
+  at = record { rule = squaring_to 0; numbered = refl; least = omega arith; most = omega arith };
+  up = tt;
+  low = tt;
+}
+
+second_shape : HasMemberShape (setting_of squares) (square_after 2)
+second_shape = record {
+  at = record { rule = squaring_to 1; numbered = refl; least = omega arith; most = omega arith };
+  up = tt;
+  low = tt;
+}
+
+first_together : HasCycleShape (setting_of squares) (square_after 1 ∷ [])
+first_together = record {
+  some = omega arith;
+  ascending = tt;
+  each = All-cons (HasMemberShape (setting_of squares)) (square_after 1) [] first_shape
+      (All-nil (HasMemberShape (setting_of squares)));
+}
+
+-- the first place squares itself
+bends : BendsAt squares 0 squares_said 1 1 (key 1 1)
+bends = record {
+  members = square_after 1 ∷ [];
+  component = components.first;
+  member = square_after 1;
+  among = (zero, omega arith, refl);
+  same = refl;
+  loop = refl;
+  nonlinear = λ h. no_is_not_yes true (h.up 1 refl 0 refl) refl;
+  first = (
+    reasons.Nonlinear 1 1,
+    refl,
+    inr (
+      first_together,
+      inr (
+        first_square,
+        inr (
+          first_square,
+          inr (
+            (Input 0, refl),
+            inr (
+              (Input 0, refl),
+              inr (
+                (λ j r. refl),
+                inr ((λ j r. refl), inl ((λ h. no_is_not_yes true (h 0 refl) refl), refl)),
+              ),
+            ),
+          ),
+        ),
+      ),
+    ),
+  );
+}
+
+-- the second place isn't in a loop
+no_loop : (b : Bounds) → BendsAt squares 0 b 2 1 (key 2 1) → ⊥
+no_loop b h =
+    no_is_not_yes (do_loop (setting_of squares) (square_after 2 ∷ [])) refl
+    (subst (λ (ms : List Member). do_loop (setting_of squares) ms ≡ true) (components.no_other_second h.members h.component)
+    h.loop)
+
+-- it takes the first one over
+rests : RestsOnSize squares 0 squares_said 2 1 (key 1 1)
+rests = record {
+  members = square_after 2 ∷ [];
+  component = components.second;
+  member = square_after 2;
+  among = (zero, omega arith, refl);
+  takes = record { place = omega arith; before = refl; reads = refl };
+  outside = refl;
+  missing = refl;
+  first = (
+    reasons.MissingSize 1 1,
+    refl,
+    inr (
+      second_shape,
+      inr (
+        second_square,
+        inr (
+          second_square,
+          inr ((Input 0, refl), inr ((Input 0, refl), inl ((λ h. none_some h.0 h.1), refl))),
+        ),
+      ),
+    ),
+  );
+}
+
+-- a size of 201 levels becomes 823 nodes
+large : SizeIsLarge squares 0 towering_said 2 1 823
+large = record {
+  members = square_after 2 ∷ [];
+  component = components.second;
+  size = composed_size (do_loop (setting_of squares) (square_after 2 ∷ [])) (setting_of squares) (over towering_said)
+      (square_after 2 ∷ []);
+  composed = refl;
+  large = λ h. no_is_not_yes true h.before refl;
+  nodes = refl;
+  first = (
+    reasons.Large 823,
+    refl,
+    inr (
+      second_shape,
+      inr (
+        second_square,
+        inr (
+          second_square,
+          inr (
+            (Input 0, refl),
+            inr (
+              (Input 0, refl),
+              inr (
+                (tower 200, refl),
+                inr ((tower 200, refl), inl ((λ h. no_is_not_yes true h.before refl), refl)),
+              ),
+            ),
+          ),
+        ),
+      ),
+    ),
+  );
+}
+
+not_so_large : SizeIsLarge squares 0 towering_said 2 1 822 → ⊥
+not_so_large h = other (h.nodes ∙ nodes_of h.members h.size h.composed (components.no_other_second h.members h.component))
+  where
+    other : ◌≡◌ {A = ℕ} 822 823 → ⊥
+    other e = omega (arith, e)
+
+    nodes_of : (ms : List Member) (size : Bound)
+        → size ≡ composed_size (do_loop (setting_of squares) ms) (setting_of squares) (over towering_said) ms
+        → ms ≡ square_after 2 ∷ [] → large_nodes (setting_of squares).rewrite size ≡ 823
+    nodes_of ms size e same =
+        subst (λ (b : Bound). large_nodes (setting_of squares).rewrite b ≡ 823) (sym e)
+        (subst
+        (λ (ns : List Member). large_nodes (setting_of squares).rewrite
+        (composed_size (do_loop (setting_of squares) ns) (setting_of squares) (over towering_said) ns) ≡ 823) (sym same) refl)
+
+-- the whole report
+whole_times : (t : ℕ) (why : NoTime) → numbered_entry squares_report.times t ≡ Some (Untimed why)
+    → HasNoTime squares 0 squares_said t why
+whole_times zero why e = absurd (none_some (Untimed why) e)
+whole_times (suc zero) why e =
+    let same : TimeTripped (tripped_at 0 (asked.Rank 1)) ≡ why = cc in
+    subst (λ (w : NoTime). HasNoTime squares 0 squares_said 1 w) same first_time
+whole_times (suc (suc zero)) why e =
+    let same : TimeTripped (tripped_at 0 (asked.Rank 2)) ≡ why = cc in
+    subst (λ (w : NoTime). HasNoTime squares 0 squares_said 2 w) same second_time
+whole_times (suc (suc (suc t))) why e = absurd (none_some (Untimed why) e)
+
+whole_sizes : (t i : ℕ) (why : NoSize) → place_entry (numbered_entry squares_report.sizes t) i ≡ Some (Unsized why)
+    → HasNoSize squares 0 squares_said t i why
+whole_sizes zero i why e = absurd (none_some (Unsized why) e)
+whole_sizes (suc zero) zero why e = absurd (none_some (Unsized why) e)
+whole_sizes (suc zero) (suc zero) why e =
+    let same : SizeNonlinear (key 1 1) ≡ why = cc in subst (λ (w : NoSize). HasNoSize squares 0 squares_said 1 1 w) same bends
+whole_sizes (suc zero) (suc (suc i)) why e = absurd (none_some (Unsized why) e)
+whole_sizes (suc (suc zero)) zero why e = absurd (none_some (Unsized why) e)
+whole_sizes (suc (suc zero)) (suc zero) why e =
+    let same : SizeMissing (key 1 1) ≡ why = cc in subst (λ (w : NoSize). HasNoSize squares 0 squares_said 2 1 w) same rests
+whole_sizes (suc (suc zero)) (suc (suc i)) why e = absurd (none_some (Unsized why) e)
+whole_sizes (suc (suc (suc t))) i why e = absurd (none_some (Unsized why) e)
+
+pub squares_worked : SquaresAreWorkedOut
+squares_worked = record {
+  components = components;
+  nonlinear = bends;
+  not_in_a_loop = no_loop squares_said;
+  missing = rests;
+  not_missing = λ h. some_none (tower 200) h.missing;
+  large = large;
+  not_so_large = not_so_large;
+  whole = record { times = whole_times; sizes = whole_sizes };
+  not_whole = λ h. no_loop (bounds_said squares bending_report) (h.sizes 2 1 (SizeNonlinear (key 2 1)) refl);
+}

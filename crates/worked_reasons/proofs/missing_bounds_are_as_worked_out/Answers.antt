@@ -1,0 +1,15 @@
+use Rattle.worked_reasons.proofs.FirstReasons.{first_reasons_worked}
+use Rattle.worked_reasons.proofs.FirstTrips.{first_trips_worked}
+use Rattle.worked_reasons.proofs.FirstUntimed.{first_untimed_worked}
+use Rattle.worked_reasons.proofs.Growths.{growths_worked}
+use Rattle.worked_reasons.proofs.Limits.{limits_worked}
+use Rattle.worked_reasons.proofs.UnboundedPlaces.{unbounded_places_worked}
+use Rattle.worked_reasons.proofs.PointTrips.{point_trips_worked}
+use Rattle.worked_reasons.proofs.Products.{products_worked}
+use Rattle.worked_reasons.proofs.Scales.{scales_worked}
+use Rattle.worked_reasons.proofs.Squares.{squares_worked}
+use Rattle.worked_reasons.proofs.Trips.{trips_worked}
+use Rattle.worked_reasons.proofs.missing_bounds_are_as_worked_out.Goals as goal
+
+pub returns : goal.returns
+returns c = record { trips = trips_worked; first_trips = first_trips_worked; point_trips = point_trips_worked; limits = limits_worked; scales = scales_worked; unbounded_places = unbounded_places_worked; squares = squares_worked; products = products_worked; growths = growths_worked; first_reasons = first_reasons_worked; first_untimed = first_untimed_worked }

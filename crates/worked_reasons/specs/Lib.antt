@@ -1,0 +1,13 @@
+-- values that were worked out by hand
+pub mod Programs
+pub mod Trips
+pub mod Squares
+pub mod FirstTrips
+pub mod PointTrips
+pub mod Limits
+pub mod Scales
+pub mod UnboundedPlaces
+pub mod Products
+pub mod Growths
+pub mod FirstReasons
+pub mod FirstUntimed

@@ -1,0 +1,38 @@
+//! Worked values of why bounds are missing: small programs and reports for which a trip of a question itself or of the
+//! one for a point, `missing`, `bent`, `untimed`, `large` and a loose place are right, and for which they aren't.
+//! Worked values of gaps are in `time_bounds`.
+//!
+//! No crate depends on this one, so its proofs delay no other. Main guarantee: the values themselves.
+#![tactic(auto)]
+
+ghost use Rattle.worked_reasons.specs.FirstReasons.{FirstReasonsAreWorkedOut};
+ghost use Rattle.worked_reasons.specs.FirstTrips.{FirstTripsAreWorkedOut};
+ghost use Rattle.worked_reasons.specs.FirstUntimed.{FirstUntimedIsWorkedOut};
+ghost use Rattle.worked_reasons.specs.Growths.{GrowthsAreWorkedOut};
+ghost use Rattle.worked_reasons.specs.Limits.{LimitsAreWorkedOut};
+ghost use Rattle.worked_reasons.specs.UnboundedPlaces.{UnboundedPlacesAreWorkedOut};
+ghost use Rattle.worked_reasons.specs.PointTrips.{PointTripsAreWorkedOut};
+ghost use Rattle.worked_reasons.specs.Products.{ProductsAreWorkedOut};
+ghost use Rattle.worked_reasons.specs.Scales.{ScalesAreWorkedOut};
+ghost use Rattle.worked_reasons.specs.Squares.{SquaresAreWorkedOut};
+ghost use Rattle.worked_reasons.specs.Trips.{TripsAreWorkedOut};
+
+/// Worked values, on small programs, of why rules have no time and places no size: linear programs that exceed a limit
+/// of pivots, of numbers, of a table's size or of a point's integers, which of several rules is reported, and the one
+/// for a point where no function and no form is found; places that are loose on a side; sizes that depend on others,
+/// that bend in a loop, that grow by a rule without a time, and that are too large, which of several such reasons is
+/// reported, and of several such rules the first; and a time that is too large. The function has no code: its contract
+/// is these values.
+pub fn missing_bounds_are_as_worked_out()
+    ensures trips { TripsAreWorkedOut }
+    ensures first_trips { FirstTripsAreWorkedOut }
+    ensures point_trips { PointTripsAreWorkedOut }
+    ensures limits { LimitsAreWorkedOut }
+    ensures scales { ScalesAreWorkedOut }
+    ensures unbounded_places { UnboundedPlacesAreWorkedOut }
+    ensures squares { SquaresAreWorkedOut }
+    ensures products { ProductsAreWorkedOut }
+    ensures growths { GrowthsAreWorkedOut }
+    ensures first_reasons { FirstReasonsAreWorkedOut }
+    ensures first_untimed { FirstUntimedIsWorkedOut }
+{}

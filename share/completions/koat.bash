@@ -1,0 +1,24 @@
+# Completions of `koat` for bash.
+_koat() {
+    local word=${COMP_WORDS[COMP_CWORD]} before=${COMP_WORDS[COMP_CWORD - 1]} command=${COMP_WORDS[1]}
+    local ending='!*.@(koat|its)'
+    COMPREPLY=()
+    if [ "$COMP_CWORD" = 1 ]; then
+        COMPREPLY=($(compgen -W 'facts analyse prove check replay generate selfrun --help --version' -- "$word"))
+        return
+    fi
+    case $before:$command:$word in
+        --pivots:*) COMPREPLY=($(compgen -W '10000 100000 1000000' -- "$word")) && return ;;
+        *:analyse:-* | *:prove:-* | *:facts:-*) COMPREPLY=($(compgen -W '--pivots' -- "$word")) && return ;;
+        *:generate:* | *:selfrun:*) return ;;
+    esac
+    [ "$COMP_CWORD" = 2 ] || [ "$command" != check ] || ending='!*.proof'
+    [ "$COMP_CWORD" = 2 ] || [ "$command" != replay ] || ending='!*.run'
+    local IFS=$'\n'
+    compopt -o filenames 2>/dev/null
+    shopt -q extglob || { local on=1 && shopt -s extglob; }
+    COMPREPLY=($(compgen -d -- "$word") $(compgen -f -X "$ending" -- "$word"))
+    [ -z "$on" ] || shopt -u extglob
+    [ ${#COMPREPLY[@]} != 0 ] || COMPREPLY=($(compgen -f -- "$word"))
+}
+complete -F _koat koat

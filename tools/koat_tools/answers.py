@@ -1,0 +1,42 @@
+"""An answer as JSON: a report or a refusal, with the program's rules. docs/report.schema.json describes it."""
+
+from . import growth, hints, programs, reports
+
+FORMAT = "koat report 2"
+NO_BOUND = "MAYBE"
+
+
+def competition(answer):
+    """The answer as the termination competition has it: an upper bound of all steps, or none."""
+    total = answer.report.total if answer.report else None
+    return NO_BOUND if total is None else growth.competition(growth.growth(total))
+
+
+def as_json(answer, version):
+    """The whole answer as plain data, with what the program said of itself."""
+    told = {"format": FORMAT, "koat": version, "file": answer.name}
+    if answer.refusal:
+        return {**told, "verdict": "refused", "competition": NO_BOUND, "refusal": _refusal(answer)}
+    program = answer.program
+    rules = zip(program.rules, programs.columns(answer.data, [it.at for it in program.rules]))
+    return {**told, "competition": competition(answer), "inputs": program.inputs,
+            "rules": [_rule(rule, *where) for rule, where in rules], **reports.as_json(answer.report)}
+
+
+def _rule(rule, line, column):
+    return {
+        "rule": rule.number, "line": line, "column": column, "text": rule.text,
+        "source": rule.source.text, "left": rule.left_names,
+        "target": rule.target.text, "updates": rule.updates,
+        "guard": rule.guard or None, "cost": rule.cost, "free": [it.text for it in rule.free],
+    }
+
+
+def _refusal(answer):
+    refusal = answer.refusal
+    told = {"text": refusal.line, "kind": refusal.kind}
+    if refusal.at is None:
+        return {**told, "hint": "a text has at most 4,194,304 bytes"}
+    where = programs.place(answer.data, refusal.at)
+    return {**told, "byte": refusal.at, "line": where.line, "column": where.column,
+            "hint": hints.hint(answer.data, refusal.at, refusal.kind)}
