@@ -1,13 +1,15 @@
 """Runs koat, and reads what it says. Nothing here changes what it says."""
 
+import contextlib
 import os
 import re
 import subprocess
 import tempfile
+import threading
 from dataclasses import dataclass
 from typing import Optional
 
-from . import calls, programs, reports, runs
+from . import programs, reports, runs
 
 TOP = os.path.dirname(os.path.dirname(os.path.dirname(os.path.abspath(__file__))))
 
@@ -113,27 +115,43 @@ def prove(answer, pivots=None, seconds=None):
 
 def check(answer, data, seconds=None):
     """What koat's checker says of a proof file's text, line by line; a refusal of the text ends the call."""
+    said = judged(answer, data, seconds)
+    if said[0].startswith("proof refused"):
+        raise Stop(BAD_PROOF, f"the proof: {said[0]}")
+    return said
+
+
+def judged(answer, data, seconds=None):
+    """The same, where the line of a refusal is one of those."""
     with tempfile.NamedTemporaryFile() as file:
         file.write(data)
         file.flush()
         ran = _ran(["check", "--", "-", file.name], answer.data, seconds)
     said = ran.stdout.decode("latin-1").splitlines()
-    if ran.returncode == PROOF_REFUSED and said:
-        raise Stop(BAD_PROOF, f"the proof: {said[0]}")
-    if ran.returncode not in (0, NOT_ACCEPTED) or not said:
+    if ran.returncode not in (0, PROOF_REFUSED, NOT_ACCEPTED) or not said:
         raise Stop(KOAT_FAILED, f"koat ended with status {ran.returncode}" + (f": {said[0]}" if said else ""))
     return said
 
 
-# How much memory a call may hold, in mebibytes; None is no limit.
-MEBIBYTES = None
+# The calls of a thread, where they have limits of their own and can be ended.
+_THREAD = threading.local()
+
+
+@contextlib.contextmanager
+def within(calling):
+    """Within it this thread calls koat by `calling`, a `calls.Calls`."""
+    _THREAD.calling = calling
+    try:
+        yield
+    finally:
+        del _THREAD.calling
 
 
 def _ran(words, data, seconds):
     """koat's call with these words and this standard input."""
     path = program_path()
-    if MEBIBYTES is not None:
-        return _ran_within(words, data, calls.Limits(seconds, MEBIBYTES))
+    if getattr(_THREAD, "calling", None):
+        return _ran_within(words, data, _THREAD.calling)
     try:
         return subprocess.run([path, *words], input=data, stdout=subprocess.PIPE, timeout=seconds, check=False)
     except subprocess.TimeoutExpired as fault:
@@ -142,9 +160,9 @@ def _ran(words, data, seconds):
         raise Stop(NO_KOAT, f"{path} can't be run: {fault.strerror}") from fault
 
 
-def _ran_within(words, data, limits):
-    """The same, with a limit on memory too."""
-    status, output, problem = calls.Calls(program_path(), limits).call(words, data)
+def _ran_within(words, data, calling):
+    """The same by calls that can be ended."""
+    status, output, problem = calling.call(words, data)
     if problem:
         raise Stop(KOAT_FAILED, f"koat had no answer: {problem}")
     return subprocess.CompletedProcess(words, status, output)

@@ -1,5 +1,7 @@
 """An answer as JSON: a report or a refusal, with the program's rules. docs/report.schema.json describes it."""
 
+import re
+
 from . import growth, hints, programs, reports
 
 FORMAT = "koat report 2"
@@ -40,3 +42,26 @@ def _refusal(answer):
     where = programs.place(answer.data, refusal.at)
     return {**told, "byte": refusal.at, "line": where.line, "column": where.column,
             "hint": hints.hint(answer.data, refusal.at, refusal.kind)}
+
+
+def run_json(replay):
+    """A run beside the bounds: of each label the number of the run, and the bound's value at its inputs."""
+    return {"steps": replay.steps, "beside": [{"label": label, "in_run": counted, "bound": value}
+                                              for label, (counted, value) in replay.beside.items()]}
+
+
+def proof_json(said):
+    """What the checker says of a proof file, by its lines."""
+    if said[0] == "accepted":
+        return {"verdict": "accepted", "facts": [it for it in said[1:] if not it.startswith("gap ")],
+                "gaps": [int(it[len("gap "):]) for it in said[1:] if it.startswith("gap ")]}
+    found = PLACE.fullmatch(said[0])
+    told = {"verdict": "not accepted" if found else "refused", "text": said[0]}
+    if not found:
+        return told
+    kind, number, node, reason = found.groups()
+    return {**told, kind: int(number), **({"node": int(node)} if node else {}), "reason": reason}
+
+
+# The line of the checker on a proof that isn't accepted.
+PLACE = re.compile("no (lemma|gap) ([0-9]+)(?: node ([0-9]+))?: (.*)")

@@ -9,8 +9,8 @@ import random
 import re
 import sys
 
-from . import analyser, answers, bounds, explain, growth, lint, making, many, page, picture, programs, proofs
-from . import refusals, runs, sentences, serve
+from . import analyser, answers, bounds, explain, gallery, growth, lint, making, many, page, picture, programs
+from . import proofs, refusals, runs, sentences, serve
 from .analyser import Stop
 
 HELP = """Shows what koat says of a program in other forms. It runs koat and changes nothing of what it says; what
@@ -19,13 +19,15 @@ stands beside it (hints, O-classes, values, pictures) is worked out here and isn
   explain FILE        a refusal with line, column and a hint; else each missing bound with its reason in plain words
   lint FILE           likely slips that koat takes silently: names, dead ends, rules that never occur, large constants,
                       costs
-  json FILE           the whole answer as JSON, also a refusal, as docs/report.schema.json describes it
+  json FILE           the whole answer as JSON, also a refusal, as docs/report.schema.json describes it; with --run RUN
+                      the counts of that run too, and with --proof PROOF what the checker says of that proof
   class FILE          a first line as the termination competition has it, and the O-class of each bound
   at FILE A=30 B=12   the value of each bound at these inputs
   run FILE A=30 B=12  a run made at random from these inputs, as a run file for `koat replay`
   proof FILE          the proof of the bounds in sentences, lemma by lemma; with --proof PROOF that of this file
   many PATH..         files and folders at once: a line of JSON for each, and a table at the end
   serve               an editor in the browser with koat's answers beside it, for this machine alone
+  gallery FOLDER      the examples as pages in a folder, with an index that says what each shows
   page FILE           a page for the browser: the graph, the rules with their bounds, fields for the inputs; with
                       --run RUN also how often each rule occurs in the run of that file, and how large values become"""
 
@@ -61,13 +63,12 @@ def parser():
     commands = top.add_subparsers(dest="command", metavar="COMMAND", required=True)
     for name in COMMANDS:
         one = commands.add_parser(name, description=COMMANDS[name].__doc__)
-        if name == "many":
-            _many_words(one)
-        elif name == "serve":
-            _serve_words(one)
-            continue
+        if name in WORDS_OF:
+            WORDS_OF[name](one)
         else:
             one.add_argument("file", metavar="FILE")
+        if name == "serve":
+            continue
         one.add_argument("--pivots", metavar="N", help="handed to koat")
         one.add_argument("--seconds", metavar="N", type=seconds, help="how long koat, and dot, may each take")
         one.add_argument("--facts", action="store_true", help="what `koat facts` says, in place of `koat analyse`")
@@ -76,8 +77,11 @@ def parser():
         if name == "run":
             one.add_argument("--steps", metavar="N", type=counted, default=1000, help="how many steps at most; 1,000")
             one.add_argument("--seed", metavar="N", type=counted, default=0, help="another number gives another run; 0")
-        if name == "proof":
-            one.add_argument("--proof", metavar="PROOF", help="a proof file, in place of the one that koat writes")
+        if name in ("proof", "json"):
+            one.add_argument("--proof", metavar="PROOF", help="a proof file" + (
+                ", in place of the one that koat writes" if name == "proof" else " that the checker is to judge"))
+        if name == "json":
+            one.add_argument("--run", metavar="RUN", help="the file of a run, counted beside the bounds")
         if name == "page":
             one.add_argument("--without-picture", action="store_true", help="needs no dot")
             one.add_argument("--run", metavar="RUN", help="the file of a run, shown beside the bounds")
@@ -107,6 +111,7 @@ def _many_words(one):
     one.add_argument("--resume", metavar="FILE", help="where the lines go; what stands there isn't asked again")
     one.add_argument("--retry", action="store_true", help="ask again what had no answer")
     one.add_argument("--html", metavar="FILE", help="a page with a row for each file")
+    one.add_argument("--pages", metavar="FOLDER", help="a folder for the page of each file, with an index.html")
     one.add_argument("--part", metavar="K/N", type=kth, default=(0, 1),
                      help="every Nth file, from the Kth on, K from 0")
 
@@ -115,6 +120,12 @@ def _serve_words(one):
     one.add_argument("--port", metavar="N", type=counted, default=0, help="the port; without it one that is free")
     one.add_argument("--seconds", metavar="N", type=seconds, default=20, help="how long koat may take each time; 20")
     one.add_argument("--memory", metavar="MIB", type=positive, default=2000, help="how much memory it may hold; 2000")
+
+
+def _gallery_words(one):
+    one.add_argument("folder", metavar="FOLDER", help="it is made where it isn't there")
+    one.add_argument("paths", nargs="*", metavar="PATH", help="other programs than the examples")
+    one.add_argument("--jobs", metavar="N", type=positive, default=os.cpu_count() or 1, help="how many calls at once")
 
 
 def _asked(words):
@@ -211,7 +222,13 @@ def _lint(asked, out):
 def _json(asked, out):
     """Prints the whole answer as JSON: the report, or the refusal."""
     answer = _analysed(asked)
-    json.dump(answers.as_json(answer, analyser.version(asked.seconds)), out, indent=1, ensure_ascii=False)
+    told = answers.as_json(answer, analyser.version(asked.seconds))
+    if asked.run is not None and answer.report:
+        told["run"] = answers.run_json(analyser.replay(answer, asked.run, asked.seconds)[0])
+    if asked.proof is not None and answer.report:
+        data = analyser.read_file(asked.proof, analyser.MOST_OF_PROOF)
+        told["proof"] = answers.proof_json(analyser.judged(answer, data, asked.seconds))
+    json.dump(told, out, indent=1, ensure_ascii=False)
     print(file=out)
     return analyser.REFUSED if answer.refusal else 0
 
@@ -329,8 +346,14 @@ def _serve(asked, out):
     return serve.run(asked, out)
 
 
+def _gallery(asked, out):
+    """Writes the examples, or other programs, as pages into a folder, with an index that says what each shows."""
+    return gallery.run(asked, out)
+
+
 WITH_INPUTS = ("at", "run")
+WORDS_OF = {"many": _many_words, "serve": _serve_words, "gallery": _gallery_words}
 AT_ONCE = ("many", "serve")
 
 COMMANDS = {"explain": _explain, "lint": _lint, "json": _json, "class": _class, "at": _at, "run": _run, "proof": _proof,
-            "page": _page, "many": _many, "serve": _serve}
+            "page": _page, "many": _many, "serve": _serve, "gallery": _gallery}

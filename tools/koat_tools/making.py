@@ -1,8 +1,12 @@
 """What a page shows beside an answer: what koat proves of it, and what the program says of itself."""
 
+import hashlib
+import os
+import re
+import shutil
 import sys
 
-from . import analyser, facts, page, proofs, whys
+from . import analyser, facts, page, picture, proofs, whys
 from .analyser import Stop
 
 
@@ -16,9 +20,47 @@ def with_facts(answer, pivots=None, seconds=None):
     return told
 
 
-def beside(answer, is_with_facts=False, pivots=None, seconds=None):
+def beside(answer, is_with_facts=False, pivots=None, seconds=None, version=None):
     """What stands beside an answer on its page, without a picture."""
-    return page.Beside(version=analyser.version(seconds), whys=_whys(answer, is_with_facts, pivots, seconds))
+    version = analyser.version(seconds) if version is None else version
+    return page.Beside(version=version, whys=_whys(answer, is_with_facts, pivots, seconds))
+
+
+def drawn(answer, seconds=None):
+    """The picture of an answer's program; none where dot isn't there, fails or takes too long."""
+    try:
+        return picture.draw(answer.program, answer.report, seconds) if shutil.which("dot") else ""
+    except Stop as fault:
+        print(f"show: {answer.name}: {fault}", file=sys.stderr)
+        return ""
+
+
+def write_page(folder, answer, is_with_facts=False, pivots=None, seconds=None, version=None):
+    """Writes the page of an answer into a folder; the name of its file there. A page that is there is replaced whole."""
+    stem = re.sub("[^A-Za-z0-9_-]", "_", os.path.splitext(os.path.basename(answer.name))[0])[:60]
+    checksum = hashlib.sha256(answer.data).hexdigest()[:12]
+    name = f"{stem}-{checksum}{'-facts' if is_with_facts else ''}.html"
+    shown = beside(answer, is_with_facts, pivots, seconds, version)
+    shown.drawn = drawn(answer, seconds)
+    write(os.path.join(folder, name), page.page(answer, shown))
+    return name
+
+
+def write(path, text):
+    """Writes a file in one step: who reads it finds the old one or the new one."""
+    try:
+        with open(f"{path}.{os.getpid()}", "w", encoding="utf-8", errors="replace") as file:
+            file.write(text)
+        os.replace(file.name, path)
+    except OSError as fault:
+        raise Stop(analyser.WRITE_FAULT, f"{path} can't be written: {fault.strerror}") from fault
+
+
+def make_folder(path):
+    try:
+        os.makedirs(path, exist_ok=True)
+    except OSError as fault:
+        raise Stop(analyser.WRITE_FAULT, f"{path} can't be made: {fault.strerror}") from fault
 
 
 def _whys(answer, is_with_facts, pivots, seconds):

@@ -9,7 +9,7 @@ import sys
 import threading
 import time
 
-from . import analyser, answers, calls, tally
+from . import analyser, answers, calls, making, tally
 from .analyser import Stop
 
 ENDINGS = (".koat", ".its")
@@ -33,7 +33,7 @@ def part(found, which):
     return found[which[0]::which[1]]
 
 
-def answered(calling, words, name, version):
+def answered(calling, words, name, version, asked):
     """The line of JSON of a file, as plain data; none where the call was interrupted."""
     begun = time.monotonic()
     told = {"format": answers.FORMAT, "koat": version, "file": name}
@@ -52,6 +52,12 @@ def answered(calling, words, name, version):
     told["call"] = words
     if answer is None:
         return {**told, "verdict": "no answer", "competition": answers.NO_BOUND, "problem": problem}
+    if asked.pages and answer.report:
+        try:
+            with analyser.within(calling):
+                told["page"] = making.write_page(asked.pages, answer, asked.facts, asked.pivots, asked.seconds, version)
+        except Stop as stop:
+            print(f"show: {name}: {stop}", file=sys.stderr)
     return {**told, **answers.as_json(answer, version)}
 
 
@@ -74,16 +80,23 @@ def earlier(path):
     return found
 
 
-def is_done(told, name, version, words, retries):
-    """Whether an earlier line is of this file as it is now, this program and these words."""
+def is_done(told, name, version, words, asked):
+    """Whether an earlier line is of this file as it is now, this program and these words, with a page where one is
+    wanted."""
     if told is None or told["koat"] != version or told.get("call") != words:
         return False
-    if told["verdict"] == "no answer" and retries:
+    if told["verdict"] == "no answer" and asked.retry:
+        return False
+    if asked.pages and told["verdict"] in ("bounded", "unknown") and not _has_page(told, asked.pages):
         return False
     try:
         return told.get("checksum") == hashlib.sha256(analyser.read_file(name)).hexdigest()
     except Stop:
         return told["verdict"] == "no answer"
+
+
+def _has_page(told, folder):
+    return "page" in told and os.path.exists(os.path.join(folder, told["page"]))
 
 
 def run(asked, out):
@@ -92,12 +105,14 @@ def run(asked, out):
     words += [] if asked.pivots is None else ["--pivots", str(asked.pivots)]
     version = analyser.version(asked.seconds)
     before = earlier(asked.resume) if asked.resume else {}
+    if asked.pages:
+        making.make_folder(asked.pages)
     found = part(files(asked.paths), asked.part)
-    left = [it for it in found if not is_done(before.get(it), it, version, words, asked.retry)]
+    left = [it for it in found if not is_done(before.get(it), it, version, words, asked)]
     told = [before[it] for it in found if it not in set(left)] if found else list(before.values())
     calling = calls.Calls(analyser.program_path(), calls.Limits(asked.seconds, asked.memory))
     with open(asked.resume, "a", encoding="utf-8") if asked.resume else _Lines(out) as sink:
-        is_whole = _all(calling, asked.jobs, left, lambda it: answered(calling, words, it, version),
+        is_whole = _all(calling, asked.jobs, left, lambda it: answered(calling, words, it, version, asked),
                         lambda it: _noted(told, it, sink, len(found)))
     table = "\n".join(tally.lines(told)) + "\n"
     if asked.resume:
@@ -105,7 +120,10 @@ def run(asked, out):
     else:
         sys.stderr.write(table)
     if asked.html:
-        _write_page(asked.html, tally.page(told))
+        making.write(asked.html, tally.page(told))
+    if asked.pages:
+        making.write(os.path.join(asked.pages, "index.html"),
+                     tally.page(told, [it["file"] for it in told if _has_page(it, asked.pages)]))
     if not is_whole:
         again = f"; the same command with --resume {asked.resume} goes on" if asked.resume else ""
         print(f"show: interrupted after {len(told)} of {len(found)} files{again}", file=sys.stderr)
@@ -167,10 +185,3 @@ def _all(calling, jobs, left, answer, note):
         return False
     return True
 
-
-def _write_page(path, text):
-    try:
-        with open(path, "w", encoding="utf-8") as file:
-            file.write(text)
-    except OSError as fault:
-        raise Stop(analyser.WRITE_FAULT, f"{path} can't be written: {fault.strerror}") from fault

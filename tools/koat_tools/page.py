@@ -40,7 +40,7 @@ def page(answer, beside=None):
         "inputs": _inputs(program, run.start), "counted": _counted(replay), "picture": _picture(beside.drawn),
         "rules": "\n".join(_rule(rule, answer, beside) for rule in program.rules), "facts": _facts(program, report),
         "missing": _missing(report, program), "report": html.escape(report.text), "run": _run(program, report, run),
-        "version": _version(beside.version),
+        "version": version_text(beside.version),
     }
     return re.sub(r"\{\{(\w+)\}\}", lambda match: parts[match.group(1)], _file("page.html"))
 
@@ -58,14 +58,18 @@ def _said(report):
     return f"{missing} of {len(report.times)} rules {has} no bound. Of what is missing nothing is claimed."
 
 
-def _about(data):
-    """The comments of the program."""
+def comments(data):
+    """What the comments of the program say."""
     texts = [it.text[1:-1] for it in programs.tokens(data.decode("latin-1")) if it.kind == "comment"]
     told = [it.strip()[len("COMMENT"):].strip().encode("latin-1").decode("utf-8", "replace") for it in texts]
-    return "".join(f"<p class=\"about\">{html.escape(it)}</p>" for it in told if it)
+    return [it for it in told if it]
 
 
-def _version(version):
+def _about(data):
+    return "".join(f"<p class=\"about\">{html.escape(it)}</p>" for it in comments(data))
+
+
+def version_text(version):
     """Which program answered."""
     if not version.get("version"):
         return "The program that answered doesn't say which it is, and whether it is proved."

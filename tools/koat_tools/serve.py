@@ -4,25 +4,29 @@ The server listens on 127.0.0.1 and answers below a random path alone, which it 
 program; it runs koat on it with limits on bytes, seconds and memory, and keeps the last pages that it made, in memory.
 """
 
+import contextlib
+import glob
 import hmac
 import html
 import json
 import os
+import re
 import secrets
-import shutil
+import select
+import socket
 import sys
 import threading
 from http.server import BaseHTTPRequestHandler, ThreadingHTTPServer
 from urllib.parse import parse_qs, urlsplit
 
-from . import analyser, answers, making, page, picture
+from . import analyser, answers, calls, making, page
 from .analyser import Stop
 
 MOST_BYTES = 1 << 20
 MOST_AT_ONCE = 2
 MOST_PAGES = 8
-# How long a client may take to send or to read.
-PATIENCE = 10
+# How long a client may take to send or to read, and how often it is looked whether it is still there, in seconds.
+PATIENCE, LOOK = 10, 0.2
 FOLDER = os.path.dirname(os.path.abspath(__file__))
 BEGINNING = """(STARTTERM (FUNCTIONSYMBOLS start))
 (RULES
@@ -40,9 +44,9 @@ class Server(ThreadingHTTPServer):
     daemon_threads = True
     allow_reuse_address = False
 
-    def __init__(self, port, seconds):
+    def __init__(self, port, seconds, mebibytes=None):
         super().__init__(("127.0.0.1", port), Handler)
-        self.token, self.seconds = secrets.token_urlsafe(24), seconds
+        self.token, self.limits = secrets.token_urlsafe(24), calls.Limits(seconds, mebibytes)
         self.places, self.pages, self.lock = threading.Semaphore(MOST_AT_ONCE), {}, threading.Lock()
 
     @property
@@ -83,8 +87,7 @@ class Handler(BaseHTTPRequestHandler):
             nonce = secrets.token_urlsafe(16)
             policy = (f"default-src 'none'; script-src 'nonce-{nonce}'; style-src 'nonce-{nonce}'; connect-src 'self'; "
                       "frame-src 'self'; base-uri 'none'; form-action 'none'; frame-ancestors 'none'")
-            self.put(200, "text/html", _file("serve.html").replace("{{nonce}}", nonce).replace(
-                "{{beginning}}", html.escape(BEGINNING)), policy)
+            self.put(200, "text/html", editor(nonce), policy)
         elif path is not None and path.startswith("page/") and path[5:] in self.server.pages:
             policy = ("sandbox allow-scripts; default-src 'none'; script-src 'unsafe-inline'; style-src "
                       "'unsafe-inline'; frame-ancestors 'self'")
@@ -107,10 +110,23 @@ class Handler(BaseHTTPRequestHandler):
         if not self.server.places.acquire(timeout=PATIENCE):
             return self.put(503, "text/plain", "other texts are being looked at\n")
         try:
-            told = self.answer(data)
+            with self.watched() as calling, analyser.within(calling):
+                told = self.answer(data)
         finally:
             self.server.places.release()
         return self.put(200, "application/json", json.dumps(told))
+
+    @contextlib.contextmanager
+    def watched(self):
+        """Calls of koat that are ended where the client goes away before its answer."""
+        calling, done = calls.Calls(analyser.program_path(), self.server.limits), threading.Event()
+        watcher = threading.Thread(target=_watch, args=(self.connection, calling, done), daemon=True)
+        watcher.start()
+        try:
+            yield calling
+        finally:
+            done.set()
+            watcher.join()
 
     def path_below(self):
         """The path below that of the token, or none where the token or the host is another one."""
@@ -127,13 +143,13 @@ class Handler(BaseHTTPRequestHandler):
     def answer(self, data):
         """What is said of a text: a refusal with its place, or the name of a page, or why there is none."""
         with_facts = "facts" in parse_qs(urlsplit(self.path).query)
-        seconds = self.server.seconds
+        seconds = self.server.limits.seconds
         try:
             answer = analyser.analysed(data, "program", None, seconds, with_facts)
             if answer.refusal:
                 return {"refusal": answers.as_json(answer, {})["refusal"]}
             beside = making.beside(answer, with_facts, None, seconds)
-            beside.drawn = picture.draw(answer.program, answer.report, seconds) if shutil.which("dot") else ""
+            beside.drawn = making.drawn(answer, seconds)
             said = {"verdict": answer.report.verdict, "competition": answers.competition(answer)}
             return {**said, "page": self.server.keep(page.page(answer, beside))}
         except Stop as stop:
@@ -151,6 +167,31 @@ class Handler(BaseHTTPRequestHandler):
         self.wfile.write(data)
 
 
+def _watch(connection, calling, done):
+    """Ends the calls as soon as the client has closed its side."""
+    while not done.wait(LOOK):
+        try:
+            if select.select([connection], [], [], 0)[0] and not connection.recv(1, socket.MSG_PEEK):
+                return calling.stop()
+        except (OSError, ValueError):
+            return calling.stop()
+    return None
+
+
+def editor(nonce):
+    """The page of the editor, with the examples in it."""
+    texts = {}
+    for path in sorted(glob.glob(os.path.join(analyser.TOP, "examples", "*.koat"))):
+        with open(path, encoding="utf-8") as file:
+            texts[os.path.basename(path)[:-len(".koat")]] = file.read()
+    shown = {
+        "nonce": nonce, "style": _file("serve.css"), "script": _file("serve.js"), "beginning": html.escape(BEGINNING),
+        "examples": "".join(f"<option>{html.escape(it)}</option>" for it in texts),
+        "texts": json.dumps(texts).replace("<", "\\u003c"),
+    }
+    return re.sub(r"\{\{(\w+)\}\}", lambda match: shown[match.group(1)], _file("serve.html"))
+
+
 def _file(name):
     with open(os.path.join(FOLDER, name), encoding="utf-8") as file:
         return file.read()
@@ -158,9 +199,8 @@ def _file(name):
 
 def run(asked, out):
     """Serves until it is interrupted."""
-    analyser.MEBIBYTES = asked.memory
     try:
-        server = Server(asked.port, asked.seconds)
+        server = Server(asked.port, asked.seconds, asked.memory)
     except (OSError, OverflowError) as fault:
         raise Stop(analyser.WORDS_FAULT, f"port {asked.port} can't be listened on: {fault}") from fault
     print(server.address, file=out, flush=True)

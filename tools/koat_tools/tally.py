@@ -46,16 +46,16 @@ def lines(all_told):
 STYLE = """:root { color-scheme: light dark; }
 body { font: 1rem/1.5 system-ui, sans-serif; max-width: 72rem; margin: 0 auto; padding: 1rem; }
 table { border-collapse: collapse; width: 100%; } th, td { text-align: left; padding: 0.2rem 0.6rem; vertical-align: top; }
-tr { border-bottom: 1px solid #8884; } td { overflow-wrap: anywhere; } td.number { text-align: right; }
+tr { border-bottom: 1px solid #8884; } tbody th { font-weight: 400; overflow-wrap: anywhere; } td { overflow-wrap: anywhere; } td.number { text-align: right; }
 .bounded td:nth-child(2) { color: #1a7f3c; } .unknown td:nth-child(2), .refused td:nth-child(2) { color: #b0451b; }
 @media (prefers-color-scheme: dark) { .bounded td:nth-child(2) { color: #86d9a5; }
 .unknown td:nth-child(2), .refused td:nth-child(2) { color: #f7a57c; } }"""
 
 
-def page(all_told):
-    """A page for the browser with the table and a row for each file."""
+def page(all_told, with_pages=()):
+    """A page for the browser with the table and a row for each file, which leads to its own page where it has one."""
     head = html.escape("\n".join(lines(all_told)))
-    rows = "\n".join(_row(it) for it in sorted(all_told, key=lambda one: one["file"]))
+    rows = "\n".join(_row(it, it["file"] in with_pages) for it in sorted(all_told, key=lambda one: one["file"]))
     return f"""<!doctype html>
 <html lang="en">
 <head>
@@ -67,6 +67,7 @@ def page(all_told):
 </style>
 </head>
 <body>
+<main>
 <h1>{len(all_told)} files</h1>
 <pre>{head}</pre>
 <table>
@@ -76,15 +77,18 @@ def page(all_told):
 {rows}
 </tbody>
 </table>
+</main>
 </body>
 </html>
 """
 
 
-def _row(told):
+def _row(told, has_page):
     group, row = outcome(told)
     total = (told.get("total") or {}).get("text", "")
     where = told["refusal"].get("hint", "") if group == "refused" else total
-    cells = [os.path.normpath(told["file"]), group, row, where]
-    return (f'<tr class="{group.replace(" ", "-")}">' + "".join(f"<td>{html.escape(it)}</td>" for it in cells)
+    name = html.escape(os.path.normpath(told["file"]))
+    name = f'<a href="{html.escape(told["page"])}">{name}</a>' if has_page else name
+    return (f'<tr class="{group.replace(" ", "-")}"><th scope="row">{name}</th>'
+            + "".join(f"<td>{html.escape(it)}</td>" for it in (group, row, where))
             + f'<td class="number">{told.get("seconds", 0):.2f}</td></tr>')

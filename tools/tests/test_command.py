@@ -78,7 +78,7 @@ class Commands(unittest.TestCase):
                          ("WORST_CASE(?, O(n^1))", "0.4.0", True))
         second = told["rules"][1]
         self.assertEqual((second["line"], second["source"], second["updates"], second["guard"]),
-                         (4, "loop", ["A - B", "B"], "A > B && B >= 1"))
+                         (5, "loop", ["A - B", "B"], "A > B && B >= 1"))
         self.assertEqual(told["times"][1]["bound"]["class"], "O(n)")
 
     def test_json_of_a_refusal(self):
@@ -97,7 +97,7 @@ class Commands(unittest.TestCase):
     def test_lint(self):
         status, out, _ = shown("lint", examples.path("gcd"))
         self.assertEqual((status, re.sub(r"^.*gcd", "gcd", out)),
-                         (0, "gcd.koat:6:23: note: no rule leaves `stop`: runs end there\n"))
+                         (0, "gcd.koat:7:23: note: no rule leaves `stop`: runs end there\n"))
         self.assertEqual(shown("lint", examples.path("large_constant"))[0], 1)
 
     def test_pages_stand_alone(self):

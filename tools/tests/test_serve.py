@@ -12,7 +12,7 @@ import unittest
 from unittest import mock
 
 import examples
-from koat_tools import analyser, serve
+from koat_tools import serve
 from test_command import STAND_IN, script
 
 
@@ -21,10 +21,7 @@ class Serving(unittest.TestCase):
         patched = mock.patch.dict(os.environ, {"KOAT": STAND_IN})
         patched.start()
         self.addCleanup(patched.stop)
-        memory = mock.patch.object(analyser, "MEBIBYTES", 500)
-        memory.start()
-        self.addCleanup(memory.stop)
-        self.server = serve.Server(0, 30)
+        self.server = serve.Server(0, 30, 500)
         threading.Thread(target=self.server.serve_forever, daemon=True).start()
         self.addCleanup(self.server.server_close)
         self.addCleanup(self.server.shutdown)
@@ -84,7 +81,7 @@ class Serving(unittest.TestCase):
         for length in ("-1", "x", "1e3", "9" * 30, "\u00b2".encode("latin-1").decode("latin-1")):
             self.assertIn(self.answer("", Content_Length=length)[0], (411, 413))
         with tempfile.TemporaryDirectory() as room:
-            self.server.seconds = 0.3
+            self.server.limits.seconds = 0.3
             with mock.patch.dict(os.environ, {"KOAT": script(room, "slow", "exec sleep 60")}):
                 told = json.loads(self.answer("(")[2])
         self.assertIn("time limit of 0.3 seconds", told["problem"])

@@ -1,0 +1,101 @@
+"""The examples as pages in a folder, with an index: what each shows, its program, its bounds, and its page."""
+
+import html
+import os
+from concurrent.futures import ThreadPoolExecutor
+
+from . import analyser, growth, making, many, page
+from .analyser import Stop
+
+EXAMPLES = os.path.join(analyser.TOP, "examples")
+# What stands over the programs of a folder.
+TITLES = {EXAMPLES: "Programs, by name", os.path.join(EXAMPLES, "reasons"): "A program for each reason that a bound is missing"}
+
+
+def run(asked, out):
+    """Writes the pages and the index, and prints where the index is."""
+    making.make_folder(asked.folder)
+    version = analyser.version(asked.seconds)
+    found = many.files(asked.paths or [EXAMPLES])
+    with ThreadPoolExecutor(asked.jobs) as workers:
+        shown = list(workers.map(lambda path: _shown(path, asked, version), found))
+    path = os.path.join(asked.folder, "index.html")
+    making.write(path, index(list(zip(found, shown)), version))
+    print(path, file=out)
+    return 0
+
+
+def _shown(path, asked, version):
+    """The card of a program, as HTML: its answer, and the one with facts where that is another."""
+    try:
+        answer = analyser.analyse(path, asked.pivots, asked.seconds)
+        if answer.refusal:
+            return _card(path, answer.data, [_line("refused", answer.refusal.line, None)])
+        rows = [_row("analyse", answer, False, asked, version)]
+        other = analyser.analysed(answer.data, path, asked.pivots, asked.seconds, True)
+        if other.report.total_text != answer.report.total_text or other.report.facts:
+            rows.append(_row("facts", other, True, asked, version))
+        return _card(path, answer.data, rows)
+    except Stop as stop:
+        return _card(path, b"", [_line("no answer", stop.line, None)])
+
+
+def _row(command, answer, with_facts, asked, version):
+    report = answer.report
+    name = making.write_page(asked.folder, answer, with_facts, asked.pivots, asked.seconds, version)
+    if report.total is None:
+        missing = ", ".join(str(it.rule) for it in report.times if it.why)
+        return _line(command, f"no time for rule {missing}", name)
+    return _line(command, f"{report.total_text} steps, {growth.text(growth.growth(report.total))}", name)
+
+
+def _line(command, said, name):
+    link = f' <a href="{html.escape(name)}">its page</a>' if name else ""
+    return f"<dt>{html.escape(command)}</dt><dd>{html.escape(said)}{link}</dd>"
+
+
+def _card(path, data, rows):
+    title = html.escape(os.path.splitext(os.path.basename(path))[0])
+    text = html.escape(data.decode("utf-8", "replace"))
+    about = "".join(f"<p>{html.escape(it)}</p>" for it in page.comments(data))
+    return (f'<article id="{title}"><h3>{title}</h3>{about}<dl>{"".join(rows)}</dl>'
+            f"<details><summary>its text</summary><pre>{text}</pre></details></article>")
+
+
+STYLE = """:root { color-scheme: light dark; --mark: #1f5fa8; --line: #8886; }
+@media (prefers-color-scheme: dark) { :root { --mark: #86b9f2; } }
+body { font: 1rem/1.5 system-ui, sans-serif; max-width: 76rem; margin: 0 auto; padding: 1rem; }
+.cards { display: grid; grid-template-columns: repeat(auto-fill, minmax(min(100%, 22rem), 1fr)); gap: 0.8rem; }
+article { border: 1px solid var(--line); border-radius: 0.5rem; padding: 0.7rem 0.9rem; min-width: 0; }
+h3, p, dl, pre { margin: 0 0 0.4rem; } dl { display: grid; grid-template-columns: max-content 1fr; gap: 0 0.8rem; }
+dd { margin: 0; overflow-wrap: anywhere; } pre { white-space: pre-wrap; overflow-wrap: anywhere; font-size: 0.85rem; }
+a { color: var(--mark); } summary { cursor: pointer; }"""
+
+
+def index(shown, version):
+    """The page that leads to all, by the folders of the programs."""
+    folders = {}
+    for path, card in shown:
+        folders.setdefault(os.path.dirname(path), []).append(card)
+    parts = "".join(f"<h2>{html.escape(TITLES.get(folder, os.path.normpath(folder)))}</h2>\n"
+                    '<div class="cards">\n' + "\n".join(cards) + "\n</div>\n" for folder, cards in folders.items())
+    return f"""<!doctype html>
+<html lang="en">
+<head>
+<meta charset="utf-8">
+<meta name="viewport" content="width=device-width, initial-scale=1">
+<title>koat: a gallery</title>
+<style>
+{STYLE}
+</style>
+</head>
+<body>
+<main>
+<h1>A gallery of programs</h1>
+<p><b>analyse</b> and <b>facts</b> are koat's commands; steps are bounded in the inputs' absolute values. A page says why
+each bound holds, and steps through a run.</p>
+{parts}</main>
+<footer><p>{page.version_text(version)}</p></footer>
+</body>
+</html>
+"""
