@@ -11,7 +11,7 @@ from unittest import mock
 
 import examples
 import schema
-from koat_tools import command
+from koat_tools import answers, command, reports, runs
 
 STAND_IN = os.path.join(examples.HERE, "stand_in")
 
@@ -89,6 +89,41 @@ class Commands(unittest.TestCase):
         self.assertEqual((told["refusal"]["kind"], schema.faults(wanted, wanted, told)), ("Syntax", []))
         _, out, _ = shown("json", examples.path("gcd"))
         self.assertEqual(schema.faults(wanted, wanted, json.loads(out)), [])
+
+    def test_json_of_a_run_and_of_a_proof(self):
+        wanted = json.loads(examples.text("../docs/report.schema", ".json"))
+        told = json.loads(shown("json", examples.path("gcd"))[1])
+        replay = runs.read(examples.text("gcd", ".run.txt"), [it for it, _, _ in reports.read(examples.text("gcd")).labelled()])
+        told["run"] = answers.run_json(replay)
+        self.assertEqual((told["run"]["steps"], told["run"]["beside"][1]),
+                         (replay.steps, {"label": "time 2", "in_run": replay.beside["time 2"][0],
+                                         "bound": replay.beside["time 2"][1]}))
+        proofs = [["accepted", "time 1: 1", "gap 2"], ["no lemma 3 node 2: move 1"], ["no gap 1: floor"],
+                  ["proof refused at 5: Syntax"]]
+        found = [answers.proof_json(it) for it in proofs]
+        self.assertEqual([schema.faults(wanted, wanted, {**told, "proof": it}) for it in found], [[]] * 4)
+        self.assertEqual(found[:2], [
+            {"verdict": "accepted", "facts": ["time 1: 1"], "gaps": [2]},
+            {"verdict": "not accepted", "text": "no lemma 3 node 2: move 1", "lemma": 3, "node": 2, "reason": "move 1"}])
+        proof = os.path.join(examples.HERE, "proofs", "gcd.proof")
+        said = json.loads(shown("json", examples.path("gcd"), "--proof", proof)[1])["proof"]
+        self.assertEqual((said["verdict"], said["facts"][1]), ("accepted", "time 2: A"))
+
+    def test_a_gallery(self):
+        with tempfile.TemporaryDirectory() as room:
+            evil = os.path.join(room, "<i>.koat")
+            with open(evil, "w", encoding="utf-8") as file:
+                file.write("(COMMENT <b>)")
+            folder = os.path.join(room, "made")
+            status, out, _ = shown("gallery", folder, examples.path("gcd"), examples.path("flag"), evil)
+            with open(out.strip(), encoding="utf-8") as file:
+                index = file.read()
+            links = re.findall('href="([^"]*)"', index)
+            self.assertEqual((status, sorted(os.listdir(folder))), (0, sorted([*links, "index.html"])))
+        for text in ("A + B + 2 steps, O(n)", "no time for rule 3", "N + 1 steps, O(n)", "&lt;b&gt;", "refused",
+                     "the greatest common divisor of A and B by subtraction", "It is the proved program"):
+            self.assertIn(text, index)
+        self.assertEqual(index.count("<b>") + index.count("<i>"), 2)
 
     def test_explain(self):
         self.assertEqual(shown("explain", examples.path("gcd"))[:2], (0, "no bound is missing\n"))

@@ -2,6 +2,7 @@
 
 import json
 import os
+import re
 import shutil
 import signal
 import subprocess
@@ -125,6 +126,21 @@ class Many(unittest.TestCase):
         with open(path, encoding="utf-8") as file:
             page = file.read()
         self.assertEqual((page.count('<tr class="'), page.count("<b>"), page.count("&lt;b&gt;")), (4, 0, 1))
+
+    def test_a_page_for_each_file(self):
+        self.put("bad.koat", "(")
+        folder = os.path.join(self.room, "pages")
+        words = ("--pages", folder, "--resume", self.lines)
+        self.assertEqual(self.shown(*words)[0], 0)
+        with open(os.path.join(folder, "index.html"), encoding="utf-8") as file:
+            links = re.findall('href="([^"]*)"', file.read())
+        self.assertEqual((len(links), sorted([*links, "index.html"])), (3, sorted(os.listdir(folder))))
+        wanted = json.loads(examples.text("../docs/report.schema", ".json"))
+        with open(self.lines, encoding="utf-8") as file:
+            self.assertEqual([schema.faults(wanted, wanted, json.loads(it)) for it in file], [[]] * 4)
+        os.remove(os.path.join(folder, links[0]))
+        self.assertEqual(self.shown(*words)[0], 0)
+        self.assertEqual((self.count(), os.path.exists(os.path.join(folder, links[0]))), (5, True))
 
     def test_a_file_that_is_no_answers(self):
         self.put("../../lines", "{}\n")

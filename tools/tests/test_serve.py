@@ -8,12 +8,31 @@ import socket
 import subprocess
 import tempfile
 import threading
+import time
 import unittest
+from concurrent.futures import ThreadPoolExecutor
 from unittest import mock
 
 import examples
 from koat_tools import serve
 from test_command import STAND_IN, script
+
+
+def open_text(path):
+    if not os.path.exists(path):
+        return ""
+    with open(path, encoding="utf-8") as file:
+        return file.read()
+
+
+def wait(what):
+    """What comes to be, within half a minute."""
+    for _ in range(300):
+        found = what()
+        if found:
+            return found
+        time.sleep(0.1)
+    return None
 
 
 class Serving(unittest.TestCase):
@@ -98,6 +117,31 @@ class Serving(unittest.TestCase):
             status, _, told = self.answer(text)
             self.assertEqual((status, list(json.loads(told))), (200, ["refusal"]), told)
         self.assertEqual(self.asked("GET", f"/{self.server.token}/")[0], 200)
+
+    def test_koat_is_ended_where_nobody_waits(self):
+        with tempfile.TemporaryDirectory() as room:
+            note = os.path.join(room, "note")
+            with mock.patch.dict(os.environ, {"KOAT": script(room, "slow", f"echo $$ >{note}; exec sleep 60")}):
+                talk = http.client.HTTPConnection("127.0.0.1", self.port, timeout=60)
+                talk.request("POST", f"/{self.server.token}/answer", "(", {"X-Koat": "1"})
+                number = wait(lambda: open_text(note).strip())
+                self.assertTrue(os.path.exists(f"/proc/{number}"))
+                talk.sock.shutdown(socket.SHUT_RDWR)
+                talk.close()
+                self.assertTrue(wait(lambda: not os.path.exists(f"/proc/{number}")))
+        self.assertEqual(self.answer("(")[0], 200)
+
+    def test_many_requests_at_once(self):
+        def ask(_):
+            return self.answer(examples.text("first", ".koat"))[0]
+        with ThreadPoolExecutor(24) as workers:
+            statuses = list(workers.map(ask, range(24)))
+        self.assertEqual(set(statuses) - {200, 503}, set())
+        self.assertIn(200, statuses)
+        idle = [socket.create_connection(("127.0.0.1", self.port), timeout=10) for _ in range(100)]
+        self.assertEqual(self.asked("GET", f"/{self.server.token}/")[0], 200)
+        for it in idle:
+            it.close()
 
     def test_old_pages_are_forgotten(self):
         names = [self.server.keep("x") for _ in range(serve.MOST_PAGES + 2)]
