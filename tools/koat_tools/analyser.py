@@ -78,6 +78,11 @@ def analysed(data, name, pivots=None, seconds=None, with_facts=False):
     return answer_of(ran.returncode, ran.stdout, data, name)
 
 
+def ready():
+    """Calls koat once, which compiles it where it isn't there yet, and says so; before calls that come at once."""
+    _ran(["generate", "0"], b"", None)
+
+
 def version(seconds=None):
     """What the program says of itself: its version, the checksum of its sources, and whether it is proved."""
     ran = _ran(["--version"], b"", seconds)
@@ -133,6 +138,9 @@ def judged(answer, data, seconds=None):
     return said
 
 
+# Whether koat's line on which program answers was let through: once is enough.
+_SAID = threading.Event()
+
 # The calls of a thread, where they have limits of their own and can be ended.
 _THREAD = threading.local()
 
@@ -152,8 +160,13 @@ def _ran(words, data, seconds):
     path = program_path()
     if getattr(_THREAD, "calling", None):
         return _ran_within(words, data, _THREAD.calling)
+    error = subprocess.DEVNULL if _SAID.is_set() else None
     try:
-        return subprocess.run([path, *words], input=data, stdout=subprocess.PIPE, timeout=seconds, check=False)
+        ran = subprocess.run([path, *words], input=data, stdout=subprocess.PIPE, stderr=error, timeout=seconds,
+                             check=False)
+        if words != ["--version"]:
+            _SAID.set()
+        return ran
     except subprocess.TimeoutExpired as fault:
         raise Stop(KOAT_FAILED, f"koat had no answer within {seconds} seconds") from fault
     except OSError as fault:

@@ -15,6 +15,7 @@ TITLES = {EXAMPLES: "Programs, by name", os.path.join(EXAMPLES, "reasons"): "A p
 def run(asked, out):
     """Writes the pages and the index, and prints where the index is."""
     making.make_folder(asked.folder)
+    analyser.ready()
     version = analyser.version(asked.seconds)
     found = many.files(asked.paths or [EXAMPLES])
     with ThreadPoolExecutor(asked.jobs) as workers:

@@ -103,6 +103,7 @@ def run(asked, out):
     """Answers all files, writes a line for each, and then the table; 0, or 130 where it was interrupted."""
     words = ["facts" if asked.facts else "analyse"]
     words += [] if asked.pivots is None else ["--pivots", str(asked.pivots)]
+    analyser.ready()
     version = analyser.version(asked.seconds)
     before = earlier(asked.resume) if asked.resume else {}
     if asked.pages:

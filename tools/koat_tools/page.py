@@ -7,7 +7,7 @@ import re
 from dataclasses import dataclass, field
 from typing import Dict, List, Optional
 
-from . import bounds, facts, growth, programs, reasons, runs, sentences
+from . import bounds, curve, facts, growth, programs, reasons, runs, sentences
 
 FOLDER = os.path.dirname(os.path.abspath(__file__))
 # From so many sizes on those of a rule are folded.
@@ -36,11 +36,12 @@ def page(answer, beside=None):
     parts = {
         "title": html.escape(os.path.basename(answer.name)), "verdict": report.verdict,
         "style": _file("page.css"), "script": _file("page.js"), "said": _said(report), "about": _about(answer.data),
-        "total": _table(replay, [_bound_row(replay, "all rules", "total", report.total_text, report.total)]),
+        "total": _table(replay, "all steps together",
+                        [_bound_row(replay, "all rules", "total", report.total_text, report.total)]),
         "inputs": _inputs(program, run.start), "counted": _counted(replay), "picture": _picture(beside.drawn),
         "rules": "\n".join(_rule(rule, answer, beside) for rule in program.rules), "facts": _facts(program, report),
         "missing": _missing(report, program), "report": html.escape(report.text), "run": _run(program, report, run),
-        "version": version_text(beside.version),
+        "version": version_text(beside.version), "curve": curve.section(program, report),
     }
     return re.sub(r"\{\{(\w+)\}\}", lambda match: parts[match.group(1)], _file("page.html"))
 
@@ -83,13 +84,15 @@ def version_text(version):
 def _inputs(program, start):
     if not program.inputs:
         return "<p>This program has no inputs.</p>"
-    return "\n".join(_input(html.escape(name), value) for name, value in zip(program.inputs, start))
+    return "\n".join(_input(number, html.escape(name), value)
+                     for number, (name, value) in enumerate(zip(program.inputs, start), 1))
 
 
-def _input(name, value):
-    return (f'<label class="input"><span>{name}</span>'
-            f'<input type="range" min="0" max="100" value="{value}" data-input="{name}" aria-label="{name}, slider">'
-            f'<input type="number" step="1" value="{value}" data-input="{name}" aria-label="{name}"></label>')
+def _input(number, name, value):
+    return (f'<div class="input"><label for="input-{number}">{name}</label>'
+            f'<label class="unseen" for="slider-{number}">{name}, slider</label>'
+            f'<input type="range" min="0" max="100" value="{value}" data-input="{name}" id="slider-{number}">'
+            f'<input type="number" step="1" value="{value}" data-input="{name}" id="input-{number}"></div>')
 
 
 def _counted(replay):
@@ -103,7 +106,7 @@ def _counted(replay):
 def _picture(drawn):
     if not drawn:
         return "<p>The page was made without a picture.</p>"
-    return ('<label class="fit"><input type="checkbox" id="fit"> fit into the width</label>'
+    return ('<p class="fit"><input type="checkbox" id="fit"> <label for="fit">fit into the width</label></p>'
             f'<div class="picture" tabindex="0" role="region" aria-label="graph, scrolls">{drawn}</div>')
 
 
@@ -121,9 +124,9 @@ def _facts(program, report):
             f"at a symbol; the rules that leave it are analysed with it in their guards.</p><dl>{rows}</dl></section>")
 
 
-def _table(replay, rows):
+def _table(replay, caption, rows):
     told = "" if replay is None else '<th scope="col">in the run</th>'
-    return ('<table><thead><tr><th scope="col">of</th><th scope="col">at most</th><th scope="col">at the inputs</th>'
+    return (f'<table><caption class="unseen">{html.escape(caption)}</caption><thead><tr><th scope="col">of</th><th scope="col">at most</th><th scope="col">at the inputs</th>'
             f'<th scope="col">class</th>{told}</tr></thead><tbody>' + "\n".join(rows) + "</tbody></table>")
 
 
@@ -153,14 +156,15 @@ def _rule(rule, answer, beside):
                        _anchor(it))
             for it, name in zip(sizes, names)]
     is_open = "" if len(report.sizes) > MANY_SIZES else " open"
-    folded = (f"<details{is_open}><summary>{_count(len(rows), 'value')} after it</summary>{_table(replay, rows)}"
-              "</details>")
+    folded = (f"<details{is_open}><summary>{_count(len(rows), 'value')} after it</summary>"
+              + _table(replay, f"values after rule {rule.number}", rows) + "</details>")
     labels = [("how often", time.label)]
     labels += [(f"{name} after rule {rule.number}", it.label) for name, it in zip(names, sizes)]
     shown = "".join(_why_known(what, beside.whys.get(label)) for what, label in labels)
     return (f'<article class="rule {kind}" id="rule-{rule.number}" tabindex="-1"><h3>Rule {rule.number}</h3>'
             f"<pre>{html.escape(text)}</pre>"
-            + _table(replay, [_bound_row(replay, "how often", time.label, time.text, time.bound, _anchor(time))])
+            + _table(replay, f"how often rule {rule.number} is used",
+                     [_bound_row(replay, "how often", time.label, time.text, time.bound, _anchor(time))])
             + (folded if rows else "")
             + (f'<details class="whys"><summary>why</summary>{shown}</details>' if shown else "")
             + "</article>")

@@ -84,4 +84,5 @@ def draw(program, report, seconds=None):
     # dot names nodes and edges in comments and titles; a title that is `a->b` hides the rule's own.
     drawn = re.sub(r"<!--.*?-->\n?", "", drawn, flags=re.S)
     drawn = re.sub(r"<title>[^<]*</title>\n?", "", drawn)
+    drawn = drawn.replace("xlink:href=", "href=").replace("xlink:title=", "aria-label=")
     return drawn.replace("&#45;", "-").replace("<svg ", '<svg role="img" aria-label="the graph of the program" ', 1)

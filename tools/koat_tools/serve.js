@@ -131,6 +131,7 @@ function show(told) {
     said.textContent = told.problem;
   }
   one("there").hidden = place === null;
+  beside.classList.toggle("earlier", !told.page);
   draw();
 }
 

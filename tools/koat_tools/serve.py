@@ -28,14 +28,6 @@ MOST_PAGES = 8
 # How long a client may take to send or to read, and how often it is looked whether it is still there, in seconds.
 PATIENCE, LOOK = 10, 0.2
 FOLDER = os.path.dirname(os.path.abspath(__file__))
-BEGINNING = """(STARTTERM (FUNCTIONSYMBOLS start))
-(RULES
-  start(A, B) -> Com_1(loop(A, B)) :|: A >= 1 && B >= 1
-  loop(A, B) -> Com_1(loop(A - B, B)) :|: A > B && B >= 1
-  loop(A, B) -> Com_1(loop(A, B - A)) :|: B > A && A >= 1
-  loop(A, B) -> Com_1(stop(A, B)) :|: A = B
-)
-"""
 
 
 class Server(ThreadingHTTPServer):
@@ -185,7 +177,7 @@ def editor(nonce):
         with open(path, encoding="utf-8") as file:
             texts[os.path.basename(path)[:-len(".koat")]] = file.read()
     shown = {
-        "nonce": nonce, "style": _file("serve.css"), "script": _file("serve.js"), "beginning": html.escape(BEGINNING),
+        "nonce": nonce, "style": _file("serve.css"), "script": _file("serve.js"), "beginning": html.escape(texts.get("gcd", "")),
         "examples": "".join(f"<option>{html.escape(it)}</option>" for it in texts),
         "texts": json.dumps(texts).replace("<", "\\u003c"),
     }
@@ -203,6 +195,7 @@ def run(asked, out):
         server = Server(asked.port, asked.seconds, asked.memory)
     except (OSError, OverflowError) as fault:
         raise Stop(analyser.WORDS_FAULT, f"port {asked.port} can't be listened on: {fault}") from fault
+    analyser.ready()
     print(server.address, file=out, flush=True)
     print("show: open this address in a browser of this machine; Ctrl-C ends it", file=sys.stderr)
     try:

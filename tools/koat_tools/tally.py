@@ -71,6 +71,7 @@ def page(all_told, with_pages=()):
 <h1>{len(all_told)} files</h1>
 <pre>{head}</pre>
 <table>
+<caption>Each file</caption>
 <thead><tr><th scope="col">File</th><th scope="col">Answer</th><th scope="col">Class or reason</th>
 <th scope="col">Bound of all steps</th><th scope="col">Seconds</th></tr></thead>
 <tbody>

@@ -10,6 +10,7 @@ import tempfile
 import unittest
 from unittest import mock
 
+import browser
 import examples
 from koat_tools import analyser, bounds, explain, growth, page, picture, programs, proofs, reports, runs, whys
 
@@ -161,7 +162,7 @@ class Pages(unittest.TestCase):
         self.assertEqual([it for it in re.findall(r'href="#([^"]*)"', text) if it not in ids], [])
         self.assertEqual(len(re.findall("<th(?! scope)[ >]", text)), 0)
 
-    @unittest.skipUnless(shutil.which("chromium"), "chromium isn't there")
+    @unittest.skipUnless(shutil.which("chromium") and browser.LACKING, "test_browser tries it, or chromium isn't there")
     def test_the_page_in_a_browser(self):
         text = page.page(answer_of("gcd"), page.Beside(run=runs.Run([6, 4], [(1, []), (2, []), (3, []), (4, [])])))
         with tempfile.TemporaryDirectory() as room:

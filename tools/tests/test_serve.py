@@ -13,6 +13,7 @@ import unittest
 from concurrent.futures import ThreadPoolExecutor
 from unittest import mock
 
+import browser
 import examples
 from koat_tools import serve
 from test_command import STAND_IN, script
@@ -147,7 +148,7 @@ class Serving(unittest.TestCase):
         names = [self.server.keep("x") for _ in range(serve.MOST_PAGES + 2)]
         self.assertEqual((len(self.server.pages), names[0] in self.server.pages), (serve.MOST_PAGES, False))
 
-    @unittest.skipUnless(shutil.which("chromium"), "chromium isn't there")
+    @unittest.skipUnless(shutil.which("chromium") and browser.LACKING, "test_browser tries it, or chromium isn't there")
     def test_the_editor_in_a_browser(self):
         with tempfile.TemporaryDirectory() as room:
             ran = subprocess.run(["chromium", "--headless", "--no-sandbox", "--disable-gpu", f"--user-data-dir={room}/user",

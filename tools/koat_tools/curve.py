@@ -1,0 +1,94 @@
+"""The curve of the bound of all steps beside the longest of some random runs, as a picture with its numbers."""
+
+import html
+import random
+
+from . import bounds, runs
+
+# The inputs are at most each of these numbers; for each one so many runs are made, of so many steps at most.
+SIZES, RUNS, MOST = (0, 1, 2, 3, 4, 6, 8, 10, 12, 16, 20), 5, 400
+WIDTH, HEIGHT, LEFT, TOP, BOTTOM = 560, 230, 70, 14, 34
+# From this factor between the greatest and the least number on, the scale is that of powers.
+WIDE = 500
+
+
+def points(program, report):
+    """For each size of the inputs the bound of all steps, and the longest run from random inputs of at most that size;
+    `True` where that one was cut off."""
+    found, draws = [], random.Random(0)
+    for size in SIZES:
+        longest = 0
+        for seed in range(RUNS):
+            start = [size if seed == 0 else draws.randint(0, size) for _ in program.inputs]
+            longest = max(longest, len(runs.made(program, start, MOST, seed).steps))
+        found.append((size, bounds.value(report.total, {name: size for name in program.inputs}), longest, longest == MOST))
+    return found
+
+
+def section(program, report):
+    """The section of a page; nothing where there is no bound of all steps, or no input."""
+    if report.total is None or not program.inputs:
+        return ""
+    found = points(program, report)
+    rows = "".join(f'<tr><th scope="row">{size}</th><td data-head="at most">{bounds.value_text(bound)}</td>'
+                   f'<td data-head="longest run">{longest}{" or more" if is_cut else ""}</td></tr>'
+                   for size, bound, longest, is_cut in found)
+    names = " = ".join(program.inputs)
+    return ('<section aria-labelledby="curve"><h2 id="curve">All steps, by the inputs</h2>'
+            f'<p class="help">The line is the bound where all inputs are n; a dot is the longest of {RUNS} runs made at '
+            f"random from inputs of at most n, a triangle one that was cut off after {MOST} steps. The longest of all runs "
+            "may be far above.</p>"
+            f'<div class="curve">{_drawn(found)}</div>'
+            "<details><summary>the numbers</summary><table><caption class=\"unseen\">all steps by the inputs</caption>"
+            f'<thead><tr><th scope="col" class="seen">{html.escape(names)}</th><th scope="col">at most</th>'
+            f'<th scope="col">longest run</th></tr></thead><tbody>{rows}</tbody></table></details></section>')
+
+
+def _drawn(found):
+    """The picture, of at most two scales: by numbers, or by their lengths where they differ widely."""
+    greatest = max(max(bound, longest) for _, bound, longest, _ in found)
+    least = min([it for _, bound, longest, _ in found for it in (bound, longest) if it] or [1])
+    is_wide = greatest > WIDE * least
+
+    def across(size):
+        return LEFT + (WIDTH - LEFT - 12) * size / SIZES[-1]
+
+    def up(number):
+        share = _length(number) / max(_length(greatest), 1) if is_wide else number / max(greatest, 1)
+        return HEIGHT - BOTTOM - (HEIGHT - BOTTOM - TOP) * share
+
+    line = " ".join(f"{across(size):.1f},{up(bound):.1f}" for size, bound, _, _ in found)
+    dots = "".join(_dot(across(size), up(longest), is_cut) for size, _, longest, is_cut in found)
+    marks = sorted({0, greatest} | ({_half(greatest)} if is_wide else {greatest // 2}))
+    sides = "".join(f'<text x="{LEFT - 8}" y="{up(it) + 4:.1f}" text-anchor="end">{_short(it)}</text>'
+                    f'<path d="M{LEFT} {up(it):.1f}H{WIDTH - 12}"/>' for it in marks)
+    feet = "".join(f'<text x="{across(it):.1f}" y="{HEIGHT - BOTTOM + 18}" text-anchor="middle">{it}</text>'
+                   for it in SIZES if it % 4 == 0)
+    scale = "; each line upwards is a power of the one below" if is_wide else ""
+    return (f'<svg viewBox="0 0 {WIDTH} {HEIGHT}" role="img" aria-label="the bound of all steps and the longest random '
+            f'run, from inputs of 0 to {SIZES[-1]}{scale}; the numbers follow">{sides}{feet}'
+            f'<text x="{WIDTH - 12}" y="{HEIGHT - 2}" text-anchor="end">n</text>'
+            f'<polyline points="{line}"/>{dots}</svg>')
+
+
+def _dot(across, up, is_cut):
+    if is_cut:
+        return f'<path class="cut" d="M{across - 5:.1f} {up + 4:.1f}h10l-5 -9z"/>'
+    return f'<circle cx="{across:.1f}" cy="{up:.1f}" r="4"/>'
+
+
+def _length(number):
+    """The length of a number in bits, with a part for its first ones: close to its logarithm, and exact on integers."""
+    shift = max(number.bit_length() - 20, 0)
+    first = (number + 1) >> shift
+    return shift + first.bit_length() - 1 + first / (1 << (first.bit_length() - 1)) - 1 if first else 0
+
+
+def _half(greatest):
+    return 1 << (greatest.bit_length() // 2)
+
+
+def _short(number):
+    if number < 100000:
+        return f"{number:,}"
+    return f"2^{number.bit_length() - 1} .." if number & (number - 1) else f"2^{number.bit_length() - 1}"
