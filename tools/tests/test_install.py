@@ -9,6 +9,7 @@ import tempfile
 import unittest
 
 import examples
+from koat_tools import command
 
 PROGRAM = """#!/bin/sh
 [ "$1" != analyze ] || { echo usage; exit 2; }
@@ -36,14 +37,14 @@ class Installations(unittest.TestCase):
         self.room = room.name
         self.checkout, self.prefix = os.path.join(self.room, "check out"), os.path.join(self.room, "pre fix")
         for name in ("koat", "prove", "install", "launch", "share", "scripts", "examples", "docs", "VERSION", "LICENSE",
-                     "README.md", "tools/show", "tools/koat_tools"):
+                     "README.md", "CHANGELOG.md", "CONTRIBUTING.md", "tools/show", "tools/koat_tools"):
             source, target = os.path.join(examples.TOP, name), os.path.join(self.checkout, name)
             os.makedirs(os.path.dirname(target), exist_ok=True)
             if os.path.isdir(source):
                 shutil.copytree(source, target)
             else:
                 shutil.copy2(source, target)
-        write(os.path.join(self.checkout, "crates.txt"), "koat:\n")
+        write(os.path.join(self.checkout, "crates.txt"), "koat: itoa\n")
         write(os.path.join(self.checkout, "HANDLES"), "none\n")
         write(os.path.join(self.checkout, "crates/koat/src/main.rt"), "fn main() {}\n")
         self.out = os.path.join(self.checkout, "crates/koat/out")
@@ -120,6 +121,9 @@ class Installations(unittest.TestCase):
         self.assertEqual([self.install(*it)[0] for it in (["--other"], ["a", "b"], [""])], [2, 2, 2])
 
     def test_an_archive_runs_by_itself(self):
+        write(os.path.join(self.room, "kit/bin/rt"), "#!/bin/sh\nexit 1\n", 0o755)
+        write(os.path.join(self.room, "kit/rattle/itoa/LICENSE"), "as you like\n")
+        self.how["env"]["PATH"] = f"{self.room}/kit/bin:/usr/bin:/bin"
         release = [os.path.join(self.checkout, "scripts", "release"), os.path.join(self.room, "made")]
         status, path, error = called(release, **self.how)
         self.assertEqual((status, error), (0, ""))
@@ -132,6 +136,9 @@ class Installations(unittest.TestCase):
         subprocess.run(["tar", "-xzf", path.strip(), "-C", self.room], check=True)
         tree = os.path.join(self.room, os.path.basename(path.strip())[:-len(".tar.gz")])
         self.assertEqual(called(["sha256sum", "--quiet", "-c", "SHA256SUMS"], cwd=tree), (0, "", ""))
+        self.assertEqual(os.listdir(os.path.join(tree, "licences")), ["itoa-LICENSE"])
+        links = re.findall(r"\]\(([\w./-]+)\)", examples.text("../README", ".md"))
+        self.assertEqual([it for it in links if not os.path.exists(os.path.join(tree, it))], [])
         self.assertEqual(called([os.path.join(tree, "koat"), "generate", "2"], **self.how), (0, "generate 2\n", ""))
         self.assertEqual(self.install(self.prefix, at=tree)[0], 0)
         shutil.rmtree(tree)
@@ -182,6 +189,17 @@ class Completions(unittest.TestCase):
                 said = file.read()
             for command in ("facts", "analyse", "prove", "check", "replay", "generate", "selfrun"):
                 self.assertIn(command, said)
+
+
+    def test_each_list_of_the_tools_knows_each_command(self):
+        lists = [os.path.join(COMPLETIONS, it) for it in ("koat-show.bash", "_koat-show", "koat-show.fish")]
+        lists += [os.path.join(examples.TOP, it) for it in ("launch/hints", "share/man/koat-show.1", "docs/running.md")]
+        lacking = []
+        for path in lists:
+            with open(path, encoding="utf-8") as file:
+                said = file.read()
+            lacking += [(path, it) for it in command.COMMANDS if not re.search(rf"\b{it}\b", said)]
+        self.assertEqual(lacking, [])
 
 
 class Editors(unittest.TestCase):
