@@ -315,7 +315,8 @@ def _proof(asked, out):
         refused = None if is_accepted else refusals.named(said[0])
         _print(sentences.lines(answer.program, proof, stated, refused), out)
         print(f"koat's checker {'accepts this proof' if is_accepted else f'does not accept it: {said[0]}'}", file=out)
-        _print([] if is_accepted else [f"  {it}" for it in refusals.lines(answer.program, proof, said[0])], out)
+        _print([sentences.tally(answer.program, stated)] if is_accepted else
+               [f"  {it}" for it in refusals.lines(answer.program, proof, said[0])], out)
     except (proofs.ProofError, sentences.FactsError, LookupError) as fault:
         raise Stop(analyser.KOAT_FAILED, f"the proof can't be read: {fault}") from fault
     return 0 if is_accepted else analyser.BAD_PROOF

@@ -40,6 +40,20 @@ def _gap(gap):
     return f"rule {gap.rule} is ranked by no affine function over {_rules(gap.rules)}{without}"
 
 
+def tally(program, facts):
+    """How many rules have a time by the facts of a proof that was accepted, and what that says of all steps."""
+    found = [FACT.match(it) for it in facts]
+    times = {}
+    for it in found:
+        if it.group(1) == "time" and it.group(2) != "0":
+            times.setdefault(int(it.group(2)), it.group(4))
+    count = len(program.rules)
+    if len(times) < count:
+        return f"It states a time for {len(times)} of {count} rules, so it bounds no total of all steps."
+    parts = [times[it.number] for it in program.rules if times[it.number] != "0"]
+    return f"It states a time for each rule: all steps together are at most {' + '.join(parts) or '0'}."
+
+
 def places(program, node, stated):
     """What a node states, in order, as the beginnings of lines of facts."""
     if node.kind == "cite":

@@ -65,6 +65,14 @@ def text(lemmas, *gaps):
 
 
 class Proofs(unittest.TestCase):
+    def test_how_many_rules_have_a_time(self):
+        program = programs.read(COUNTER)
+        self.assertEqual(sentences.tally(program, ["time 0: 1", "time 2: A", "time 2: A + 1", "size 1.1: A"]),
+                         "It states a time for 1 of 4 rules, so it bounds no total of all steps.")
+        self.assertEqual(sentences.tally(program, ["time 1: 1", "time 2: A", "time 4: 0", "time 3: 2^A"]),
+                         "It states a time for each rule: all steps together are at most 1 + A + 2^A.")
+        self.assertIn("for 0 of 4 rules", sentences.tally(program, []))
+
     def test_each_kind_of_lemma_has_its_sentences(self):
         proof = proofs.read(text([it[0] for it in LEMMAS]))
         told = sentences.lines(programs.read(COUNTER), proof, [line for it in LEMMAS for line in it[1]])
