@@ -104,7 +104,9 @@ class Proofs(unittest.TestCase):
     def test_the_command(self):
         status, out, _ = shown("proof", examples.path("gcd"))
         lines = out.splitlines()
-        self.assertEqual((status, lines[-1]), (0, "koat's checker accepts this proof"))
+        self.assertEqual((status, lines[-2:]), (0, [
+            "koat's checker accepts this proof",
+            "It states a time for each rule: all steps together are at most 1 + A + B + 1."]))
         self.assertEqual([it for it in lines if it.startswith("lemma")][1], "lemma 2: rule 2 is used at most A times")
 
     def test_a_proof_that_is_not_accepted(self):
