@@ -34,7 +34,7 @@ def _shown(path, asked, version):
             return _card(path, answer.data, [_line("refused", answer.refusal.line, None)])
         rows = [_row("analyse", answer, False, asked, version)]
         other = analyser.analysed(answer.data, path, asked.pivots, asked.seconds, True)
-        if other.report.total_text != answer.report.total_text or other.report.facts:
+        if other.report.total_text != answer.report.total_text:
             rows.append(_row("facts", other, True, asked, version))
         return _card(path, answer.data, rows)
     except Stop as stop:
@@ -47,12 +47,13 @@ def _row(command, answer, with_facts, asked, version):
     if report.total is None:
         missing = ", ".join(str(it.rule) for it in report.times if it.why)
         return _line(command, f"no time for rule {missing}", name)
-    return _line(command, f"{report.total_text} steps, {growth.text(growth.growth(report.total))}", name)
+    steps = "step" if report.total_text == "1" else "steps"
+    return _line(command, f"{report.total_text} {steps}, {growth.text(growth.growth(report.total))}", name)
 
 
 def _line(command, said, name):
-    link = f' <a href="{html.escape(name)}">its page</a>' if name else ""
-    return f"<dt>{html.escape(command)}</dt><dd>{html.escape(said)}{link}</dd>"
+    told = html.escape(said)
+    return f"<dt>{html.escape(command)}</dt><dd>" + (f'<a href="{html.escape(name)}">{told}</a>' if name else told) + "</dd>"
 
 
 def _card(path, data, rows):
@@ -93,8 +94,9 @@ def index(shown, version):
 <body>
 <main>
 <h1>A gallery of programs</h1>
-<p><b>analyse</b> and <b>facts</b> are koat's commands; steps are bounded in the inputs' absolute values. A page says why
-each bound holds, and steps through a run.</p>
+<p><b>analyse</b> and <b>facts</b> are koat's commands; steps are bounded in the inputs' absolute values. Each answer
+leads to its page, which says why each bound holds and steps through a run; a second one is there where facts give
+another.</p>
 {parts}</main>
 <footer><p>{page.version_text(version)}</p></footer>
 </body>
