@@ -53,6 +53,7 @@ WORDS = [
     (["check", "--pivots", "5", "a", "b"], "`check` has no option `--pivots`"),
     (["ana\x1b[2Jlyse", "a"], "`ana?[2Jlyse` is no command: they are"),
     (["*"], "`*` is no command: they are"),
+    (["analyse", b"\xff.koat"], "a word isn't UTF-8, and the program takes no other: rename the file, or give it by -"),
     (["$(id)"], "`$(id)` is no command: they are"),
     (["%s%n%d%x"], "`%s%n%d%x` is no command: they are"),
     (["x" * 300], f"`{'x' * 80}` is no command: they are"),
@@ -88,7 +89,7 @@ class Words(unittest.TestCase):
 
     def test_words_that_are_a_command_line_get_none(self):
         taken = (["analyse", GCD], ["facts", GCD, "--pivots", "0"], ["prove", "--pivots=1000000", "--", GCD],
-                 ["check", GCD, RUN], ["replay", "--", GCD, RUN], ["generate", "0"], ["selfrun", "100"], ["analyse", "-"])
+                 ["check", GCD, RUN], ["replay", "--", GCD, RUN], ["generate", "0"], ["selfrun", "100"], ["analyse", "-"], ["analyse", "gr\u00fc\u00dfe.koat"])
         self.assertEqual([answered(it, 2)[2] for it in taken], [""] * len(taken))
 
 
