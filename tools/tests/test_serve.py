@@ -135,8 +135,8 @@ class Serving(unittest.TestCase):
     def test_many_requests_at_once(self):
         def ask(_):
             return self.answer(examples.text("first", ".koat"))[0]
-        with ThreadPoolExecutor(24) as workers:
-            statuses = list(workers.map(ask, range(24)))
+        with ThreadPoolExecutor(12) as workers:
+            statuses = list(workers.map(ask, range(12)))
         self.assertEqual(set(statuses) - {200, 503}, set())
         self.assertIn(200, statuses)
         idle = [socket.create_connection(("127.0.0.1", self.port), timeout=10) for _ in range(100)]
