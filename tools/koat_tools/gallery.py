@@ -9,7 +9,8 @@ from .analyser import Stop
 
 EXAMPLES = os.path.join(analyser.TOP, "examples")
 # What stands over the programs of a folder.
-TITLES = {EXAMPLES: "Programs, by name", os.path.join(EXAMPLES, "reasons"): "A program for each reason that a bound is missing"}
+TITLES = {EXAMPLES: "Programs, by name",
+          os.path.join(EXAMPLES, "reasons"): "A program for each reason that a bound is missing"}
 
 
 def run(asked, out):

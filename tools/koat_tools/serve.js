@@ -12,7 +12,11 @@ function characterOf(value, byte) {
   return new TextDecoder().decode(bytes).length;
 }
 
-const TOKEN = /(\b(?:GOAL|COMPLEXITY|STARTTERM|FUNCTIONSYMBOLS|VAR|RULES|Com_1|TRUE|true)\b)|([A-Za-z_$][\w$'.]*(?=\s*\())|([A-Za-z_$][\w$'.]*)|(\d+)|(->|-\{|\}>|:\|:|&&|\/\\|>=|<=|==|[<>=[\]])/y;
+const TOKEN = new RegExp([
+  /(\b(?:GOAL|COMPLEXITY|STARTTERM|FUNCTIONSYMBOLS|VAR|RULES|Com_1|TRUE|true)\b)/,
+  /([A-Za-z_$][\w$'.]*(?=\s*\())/, /([A-Za-z_$][\w$'.]*)/, /(\d+)/,
+  /(->|-\{|\}>|:\|:|&&|\/\\|>=|<=|==|[<>=[\]])/,
+].map((it) => it.source).join("|"), "y");
 const KINDS = [null, "word", "symbol", null, "number", "sign"];
 
 // Where a comment ends that begins at this bracket, or 0 where none begins there.

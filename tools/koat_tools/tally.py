@@ -46,7 +46,8 @@ def lines(all_told):
 STYLE = """:root { color-scheme: light dark; }
 body { font: 1rem/1.5 system-ui, sans-serif; max-width: 72rem; margin: 0 auto; padding: 1rem; }
 table { border-collapse: collapse; width: 100%; } th, td { text-align: left; padding: 0.2rem 0.6rem; vertical-align: top; }
-tr { border-bottom: 1px solid #8884; } tbody th { font-weight: 400; overflow-wrap: anywhere; } td { overflow-wrap: anywhere; } td.number { text-align: right; }
+tr { border-bottom: 1px solid #8884; }
+tbody th { font-weight: 400; overflow-wrap: anywhere; } td { overflow-wrap: anywhere; } td.number { text-align: right; }
 .bounded td:nth-child(2) { color: #1a7f3c; } .unknown td:nth-child(2), .refused td:nth-child(2) { color: #b0451b; }
 @media (prefers-color-scheme: dark) { .bounded td:nth-child(2) { color: #86d9a5; }
 .unknown td:nth-child(2), .refused td:nth-child(2) { color: #f7a57c; } }"""
