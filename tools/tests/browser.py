@@ -36,6 +36,7 @@ class Browsing(unittest.TestCase):
     def setUpClass(cls):
         if LACKING:
             raise unittest.SkipTest(LACKING)
+        from selenium.common.exceptions import WebDriverException
         from selenium.webdriver.chrome.service import Service
         cls.room = tempfile.TemporaryDirectory()
         cls.addClassCleanup(cls.room.cleanup)
@@ -45,7 +46,10 @@ class Browsing(unittest.TestCase):
                      f"--user-data-dir={cls.room.name}/user", "--disable-background-networking", "--no-first-run"):
             options.add_argument(word)
         options.set_capability("goog:loggingPrefs", {"browser": "ALL"})
-        cls.page = DRIVER.Chrome(service=Service(shutil.which("chromedriver")), options=options)
+        try:
+            cls.page = DRIVER.Chrome(service=Service(shutil.which("chromedriver")), options=options)
+        except (WebDriverException, OSError) as fault:
+            raise unittest.SkipTest(f"chromium doesn't start: {fault}") from fault
         cls.addClassCleanup(cls.page.quit)
         cls.page.set_page_load_timeout(60)
 
