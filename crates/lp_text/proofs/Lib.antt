@@ -1,0 +1,3 @@
+-- Texts of linear programs.
+pub mod LpParts
+pub mod LpTexts

@@ -1,0 +1,47 @@
+-- What the types of the code are as plain data, and what a result says.
+use Rattle.std.specs.Prelude.{ℕ, List, map, Result, Option, Some, None}
+use Rattle.text_grammar.specs.text_core.Readers.{Fault}
+use Rattle.text_grammar.specs.Results.{IsRight, Yields}
+use Rattle.lp_text.specs.declared.written.WrittenLp.{WrittenLp}
+use Rattle.lp_text.specs.declared.written.WrittenRow.{WrittenRow}
+use Rattle.lp_text.specs.declared.text.State as code
+use Rattle.lp_text.specs.declared.kind.LpKind.{LpKind}
+use Rattle.lp_text.specs.declared.kind.LpKind.TheVariants as kind
+use Rattle.lp_text.specs.declared.error.LpTextError.{LpTextError}
+use Rattle.lp_text.specs.declared.error.LpTextError.TheVariants.{Syntax, NumberTooLarge, Limit, Memory}
+use Rattle.lp_text.specs.Lps.{Row, Lp}
+use Rattle.lp_text.specs.Texts.{State, lps}
+use Rattle.lp_text.specs.Spelled.{IsTextWithin}
+
+-- a row as plain data
+abbrev pub row_of : WrittenRow → Row
+row_of r = record { numbers = r.numbers.items; right = r.right }
+
+-- a linear program as plain data
+abbrev pub lp_of : WrittenLp → Lp
+lp_of p = record {
+  columns = p.columns;
+  first = p.first.items;
+  second = p.second.items;
+  rows = map row_of p.rows.items;
+}
+
+-- what is remembered, as plain data
+abbrev pub own_of : code.State → State
+own_of s = record { lp = lp_of s.lp; section = s.section; numbers = s.numbers.items }
+
+-- the refusal that an error stands for; want of memory stands for none
+abbrev pub refusal_in : LpTextError → Option (Fault LpKind)
+refusal_in (Syntax at) = Some (record { kind = kind.Syntax; at = at })
+refusal_in (NumberTooLarge at) = Some (record { kind = kind.NumberTooLarge; at = at })
+refusal_in (Limit at) = Some (record { kind = kind.Limit; at = at })
+refusal_in Memory = None
+
+-- a result is right: the linear program within the limits of which the bytes are the text, or exactly their first fault,
+-- or memory ran out
+abbrev pub Answers : List ℕ → Result WrittenLp LpTextError → Type 0
+Answers bytes result = IsRight lp_of refusal_in lps (IsTextWithin bytes) bytes result
+
+-- a result is the linear program, unless memory ran out
+abbrev pub GivesBack : Lp → Result WrittenLp LpTextError → Type 0
+GivesBack p result = Yields lp_of refusal_in p result

@@ -1,0 +1,9 @@
+//! Kinds of refusals of texts of linear programs.
+
+/// Kinds of refusals, without their positions.
+#[derive(Clone, Copy, Debug, PartialEq, Eq)]
+pub enum LpKind {
+    Syntax,
+    NumberTooLarge,
+    Limit,
+}
