@@ -2,18 +2,18 @@
 use Rattle.std.proofs.Common.{◌≡◌, inl, inr, Bool, true, false, cond, List, [], ◌∷◌, Some, None, refl, sym, ap, ◌∙◌}
 use Rattle.std.specs.Bool.{Decides}
 use Rattle.cert_program.proofs.model.Membership.{no_is_not_yes}
-use Rattle.cert_program.specs.cert_rules.Reasons.{Reason, Check, for_each, IsFirstAmong}
-use Rattle.cert_decide.specs.Tests.{Test, first_failing}
+use Rattle.cert_program.specs.cert_rules.Reasons.{CheckOf, for_each, AllPass, IsFirstAmong}
+use Rattle.cert_decide.specs.Tests.{TestOf, first_failing}
 
 -- each test decides its check, and has its reason
-abbrev pub AllDecide : List Check → List Test → Type 0
+abbrev pub AllDecide : {R : Type 0} → List (CheckOf R) → List (TestOf R) → Type 0
 AllDecide [] [] = Unit {0}
 AllDecide [] (t ∷ ts) = ⊥
 AllDecide (c ∷ cs) [] = ⊥
 AllDecide (c ∷ cs) (t ∷ ts) = (c.reason ≡ t.reason) × (Decides t.passes c.holds × AllDecide cs ts)
 
 -- a reason that the tests give is the first among the checks
-pub first-sound : (cs : List Check) (ts : List Test) → AllDecide cs ts → (r : Reason) → first_failing ts ≡ Some r
+pub first-sound : {R : Type 0} (cs : List (CheckOf R)) (ts : List (TestOf R)) → AllDecide cs ts → (r : R) → first_failing ts ≡ Some r
     → IsFirstAmong cs r
 first-sound [] [] h r e = none_some e
   where
@@ -32,7 +32,7 @@ first-sound (c ∷ cs) (t ∷ ts) h r e = go t.passes refl (first-sound cs ts h.
         same l = cc
 
 -- the first reason among the checks is the one that the tests give
-pub first-complete : (cs : List Check) (ts : List Test) → AllDecide cs ts → (r : Reason) → IsFirstAmong cs r
+pub first-complete : {R : Type 0} (cs : List (CheckOf R)) (ts : List (TestOf R)) → AllDecide cs ts → (r : R) → IsFirstAmong cs r
     → first_failing ts ≡ Some r
 first-complete [] [] h r k = absurd k
 first-complete [] (t ∷ ts) h r k = absurd h
@@ -46,8 +46,33 @@ first-complete (c ∷ cs) (t ∷ ts) h r k = go t.passes refl (first-complete cs
     go false p later (inl l) = ap Some (sym h.0 ∙ l.1)
     go false p later (inr l) = absurd (no_is_not_yes t.passes p (h.1.0.1 l.0))
 
+-- where no test fails all checks pass
+pub none-passes : {R : Type 0} (cs : List (CheckOf R)) (ts : List (TestOf R)) → AllDecide cs ts → first_failing ts ≡ None
+    → AllPass cs
+none-passes [] [] h e = tt
+none-passes [] (t ∷ ts) h e = absurd h
+none-passes (c ∷ cs) [] h e = absurd h
+none-passes (c ∷ cs) (t ∷ ts) h e = go t.passes refl (none-passes cs ts h.1.1) e
+  where
+    go : (v : Bool) → t.passes ≡ v → (first_failing ts ≡ None → AllPass cs)
+        → cond v (first_failing ts) (Some t.reason) ≡ None → AllPass (c ∷ cs)
+    go true p later k = (h.1.0.0 p, later k)
+    go false p later k = absurd (some_none k)
+      where
+        some_none : Some t.reason ≡ None → ⊥
+        some_none l = cc
+
+-- and where all pass no test fails
+pub passes-none : {R : Type 0} (cs : List (CheckOf R)) (ts : List (TestOf R)) → AllDecide cs ts → AllPass cs
+    → first_failing ts ≡ None
+passes-none [] [] h k = refl
+passes-none [] (t ∷ ts) h k = absurd h
+passes-none (c ∷ cs) [] h k = absurd h
+passes-none (c ∷ cs) (t ∷ ts) h k =
+    ap (λ (v : Bool). cond v (first_failing ts) (Some t.reason)) (h.1.0.1 k.0) ∙ passes-none cs ts h.1.1 k.1
+
 -- a test for each element decides a check for each element
-module _ {X : Type 0} (f : X → Check) (g : X → Test) (cs : List Check) (ts : List Test) where
+module _ {X R : Type 0} (f : X → CheckOf R) (g : X → TestOf R) (cs : List (CheckOf R)) (ts : List (TestOf R)) where
   -- tests for each element, with the reasons of its checks, decide them, before further ones that decide
   pub each-decides : ((x : X) → (f x).reason ≡ (g x).reason) → ((x : X) → Decides (g x).passes (f x).holds)
       → AllDecide cs ts → (xs : List X) → AllDecide (for_each f xs cs) (for_each g xs ts)

@@ -3,15 +3,19 @@ use Rattle.std.specs.Prelude.{Bool, cond, List, [], ◌∷◌, Option, Some, Non
 use Rattle.cert_program.specs.cert_rules.Reasons.{Reason}
 
 -- a test, and the reason where it fails
-pub record Test : Type 0 where
-  pub reason : Reason
+pub record TestOf (R : Type 0) : Type 0 where
+  pub reason : R
   pub passes : Bool
 
+-- a test of a node
+abbrev pub Test : Type 0
+Test = TestOf Reason
+
 -- the test with this answer
-abbrev pub test : Reason → Bool → Test
+abbrev pub test : {R : Type 0} → R → Bool → TestOf R
 test reason passes = record { reason = reason; passes = passes }
 
 -- the reason of the first test that fails, where one does
-abbrev pub first_failing : List Test → Option Reason
+abbrev pub first_failing : {R : Type 0} → List (TestOf R) → Option R
 first_failing [] = None
 first_failing (t ∷ ts) = cond t.passes (first_failing ts) (Some t.reason)

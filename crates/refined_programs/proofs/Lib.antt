@@ -1,3 +1,4 @@
+pub mod AnnotatedLaws
 pub mod EndLaws
 mod RuleNumbers
 -- the lemmas of the crates below, which callers name through this one

@@ -6,10 +6,8 @@ use Rattle.its_model.specs.Views.{atom_of}
 use Rattle.refined_programs.specs.declared.ends.Goal as declared_goal
 use Rattle.refined_programs.specs.declared.ends.Goal.TheVariants as goals
 use Rattle.refined_programs.specs.declared.ends.End as declared_end
-use Rattle.refined_programs.specs.declared.section.Cases.{Cases}
-use Rattle.refined_programs.specs.declared.section.Cases.TheVariants.{To, Never, If'}
 use Rattle.refined_programs.specs.declared.section.Multipliers.{Multipliers}
-use Rattle.refined_programs.specs.Affine.{affine_of}
+use Rattle.refined_programs.specs.Annotated.{Cases, To, Never, If, form_term}
 
 -- where a path ends: at a copy, with multipliers for each of its facts, or nowhere, with multipliers
 pub data Goal : Type 0 where
@@ -27,10 +25,10 @@ lists_of by = map (λ m. m.numbers.items) by
 
 -- the ends of the paths behind these atoms, in order
 abbrev pub ends : List Atom → Cases → List End
-ends atoms (To copy by) = record { atoms = atoms; goal = AtCopy copy (lists_of by.items) } ∷ []
-ends atoms (Never by) = record { atoms = atoms; goal = Nowhere by.numbers.items } ∷ []
-ends atoms (If' test p yes_cases q no_cases) =
-    ends (atoms ++ passes (affine_of test) ∷ []) yes_cases ++ ends (atoms ++ fails (affine_of test) ∷ []) no_cases
+ends atoms (To copy by) = record { atoms = atoms; goal = AtCopy copy by } ∷ []
+ends atoms (Never by) = record { atoms = atoms; goal = Nowhere by } ∷ []
+ends atoms (If test yes_cases no_cases) =
+    ends (atoms ++ passes (form_term test) ∷ []) yes_cases ++ ends (atoms ++ fails (form_term test) ∷ []) no_cases
 
 -- the path to a copy, where an end is at one
 abbrev pub path_of : List Atom → Goal → List Path

@@ -1,5 +1,6 @@
 -- what the contracts of this crate, and of those above it, cite
 pub mod Affine
+pub mod Annotated
 pub mod Views
 pub mod Ends
 -- values that were worked out by hand

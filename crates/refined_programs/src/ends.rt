@@ -6,6 +6,7 @@ ghost use Rattle.poly_terms.specs.Views.{term_of};
 ghost use Rattle.its_model.specs.Views.{atom_of};
 ghost use Rattle.refined_programs.specs.Affine.{affine_of};
 ghost use Rattle.refined_programs.specs.Ends.{ends as ends_of, end_of, lists_of};
+ghost use Rattle.refined_programs.specs.Views.{annotated_cases};
 
 use crate::affine::Affine;
 use crate::section::{Cases, Multipliers};
@@ -108,7 +109,7 @@ pub fn push_ends(
     cases: &Cases,
 ) -> Result<(), Memory>
     ensures { OnOk result (map end_of ends.new.items
-        ≡ map end_of ends.old.items ++ ends_of (map atom_of atoms.items) cases.now) }
+        ≡ map end_of ends.old.items ++ ends_of (map atom_of atoms.items) (annotated_cases cases.now)) }
 {
     match cases {
         Cases::To { copy, by } => {

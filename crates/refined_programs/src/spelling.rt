@@ -6,7 +6,7 @@ ghost use Rattle.refinement.specs.Sections.{passes as atom_passes, facts_of, sym
 ghost use Rattle.refinement.specs.Sections.{rule_copies, spelled};
 ghost use Rattle.its_model.specs.Views.{name_of, symbol_of, atom_of, rule_of, program_of};
 ghost use Rattle.refined_programs.specs.Ends.{ends as ends_of, end_of, paths_of, path_of, goal_of};
-ghost use Rattle.refined_programs.specs.Views.{copy_of, branch_of, section_of};
+ghost use Rattle.refined_programs.specs.Views.{copy_of, branch_of, section_of, annotated_cases};
 
 use crate::ends::{End, Goal, passes, push_ends};
 use crate::section::{Branch, Section, SymbolCopy};
@@ -110,7 +110,8 @@ pub fn rule_at(p: &Program, number: u32) -> Option<&Rule>
 /// `Memory` where an allocation fails, and where a form has 2^32 coefficients or more.
 pub fn branch_ends(alloc: Global, section: &Section, branch: &Branch) -> Result<Vec<End>, Memory>
     ensures { IfOk result (λ found. map end_of found.items
-        ≡ ends_of (map atom_passes (facts_of (section_of section.now) branch.now.source)) branch.now.cases) }
+        ≡ ends_of (map atom_passes (facts_of (section_of section.now) branch.now.source))
+        (annotated_cases branch.now.cases)) }
 {
     let atoms = fact_atoms(alloc, section, branch.source)?;
     let mut ends = Vec::new(alloc);

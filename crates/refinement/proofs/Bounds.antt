@@ -1,4 +1,4 @@
--- Bounds carry over from a program that refines another.
+-- Bounds carry over from a program that simulates another.
 use Rattle.std.proofs.Common.{◌≡◌, ◌≢◌, ◌⊎◌, inl, inr, true, false, ◌==◌, ℕ, zero, suc, ◌+◌, ◌≤◌, List, [], ◌∷◌, ◌++◌}
 use Rattle.std.proofs.Common.{length, map, ℤ, nat_abs, Option, Some, refl, sym, ◌∙◌, ap, subst, arith}
 use Rattle.std.specs.List.{All}
@@ -14,7 +14,7 @@ use Rattle.model.specs.Runs.{Config, Step, IsStep, IsRun, count, last_rule, plac
 use Rattle.model.proofs.CostLaws.{spent_more, spent_same}
 use Rattle.model.proofs.RunLaws.{one_if_same-same, one_if_same-other}
 use Rattle.model.specs.Facts.{HoldsLength, HoldsTotal}
-use Rattle.refinement.specs.Refined.{Projection, config_below, step_below, HasRuleBelow}
+use Rattle.refinement.specs.Simulation.{Projection, config_below, step_below, HasRuleBelow}
 use Rattle.refinement.specs.Lifted.{AllRunsLift, AreCopies, sum_of, maximum_of, BoundsAreKept}
 use Rattle.refinement.proofs.Sums.{sum_over, sum-at_least, sum-with, sum-within, maximum-over}
 

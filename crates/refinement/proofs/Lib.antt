@@ -8,7 +8,7 @@ mod Rights
 pub mod Shown
 mod Weaker
 pub mod Keeping
-mod WorkedSections
+pub mod WorkedSections
 mod WorkedPrograms
 -- the lemmas of the crate below, which callers name through this one
 pub use Rattle.model.proofs as model

@@ -1,10 +1,10 @@
--- Each run lifts to a program that refines its program.
+-- Each run lifts to a program that simulates its program.
 use Rattle.std.proofs.Common.{◌≡◌, ℕ, List, [], ◌∷◌, ◌++◌, map, ℤ, Some, refl, sym, ◌∙◌, ap, subst}
 use Rattle.model.specs.Terms.{Term, value}
 use Rattle.model.specs.Programs.{Program, Rule, rule_at, arity_of, GuardHolds}
 use Rattle.model.specs.Runs.{Config, Step, Leads, IsStep, IsRun}
 use Rattle.model.proofs.RunLaws.{same_config, same_rule}
-use Rattle.refinement.specs.Refined.{Projection, config_below, step_below, IsEnabled, HasRuleBelow, IsRefined}
+use Rattle.refinement.specs.Simulation.{Projection, config_below, step_below, IsEnabled, HasRuleBelow, Simulates}
 use Rattle.refinement.specs.Lifted.{HasLift, AllRunsLift, AllRunsProject}
 
 -- a rule that leads on is enabled
@@ -40,7 +40,7 @@ next_below o r copy b c d free p t h same below leads =
     (ap (λ (us : List Term). map (λ u. value u (b.values ++ free)) us) updates
     ∙ (ap (λ (v : List ℤ). map (λ u. value u (v ++ free)) r.updates) values ∙ sym leads.values))
 
-module _ (p q : Program) (o : Projection) (HasFacts : Config → Type 0) (h : IsRefined p q o HasFacts) where
+module _ (p q : Program) (o : Projection) (HasFacts : Config → Type 0) (h : Simulates q p o HasFacts) where
   -- a lifted run lifts on by one step
   lift_step : (start : List ℤ) (earlier : List Step) (b : Config) (s : Step) (c : Config)
       → HasLift q o HasFacts start earlier b → IsStep p b s c → HasLift q o HasFacts start (s ∷ earlier) c

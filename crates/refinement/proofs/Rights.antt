@@ -1,4 +1,4 @@
--- What a right section spells refines the program.
+-- What a right section spells simulates the program.
 use Rattle.std.proofs.Common.{◌≡◌, ℕ, ◌+◌, List, ◌++◌, length, map, ℤ, pos, Option, Some}
 use Rattle.std.proofs.Common.{refl, sym, ◌∙◌, ap, subst, length-append}
 use Rattle.std.specs.Prelude.{◌≤ℤ◌, slice_get, option_map}
@@ -9,7 +9,7 @@ use Rattle.model.specs.Terms.{Term, value}
 use Rattle.model.specs.Programs.{Rule, Program, rule_at, arity_of, arity_in, AtomHolds, GuardHolds}
 use Rattle.model.specs.Runs.{Config, Leads}
 use Rattle.model.proofs.Cases.{some_same}
-use Rattle.refinement.specs.Refined.{config_below, IsEnabled, IsCopy, HasRuleBelow, HasEnabledCopy, IsRefined}
+use Rattle.refinement.specs.Simulation.{config_below, IsEnabled, IsCopy, HasRuleBelow, HasEnabledCopy, Simulates}
 use Rattle.refinement.specs.Sections.{Copy, Section, paths, passes, facts_in, facts_of, symbol_below, rule_along}
 use Rattle.refinement.specs.Sections.{symbol_by, spelled, projection_of, AreAtLeastZero, HasFactsOf}
 use Rattle.refinement.specs.Obligations.{ReadsFirst, guard_along, IsRightAt, AreCasesRight, IsBranchOf, IsBranchRight}
@@ -155,9 +155,9 @@ module _ (p : Program) (section : Section) (right : IsRight p section) where
             (at.facts (c.values ++ free) all l.guard);
       }
 
-  -- so it refines the program
-  pub refined : IsRefined p (spelled p section) (projection_of p section) (HasFactsOf section)
-  refined = record {
+  -- so it simulates the program
+  pub simulates : Simulates (spelled p section) p (projection_of p section) (HasFactsOf section)
+  simulates = record {
     start = starts;
     places = places;
     entry = refl;
@@ -174,9 +174,9 @@ module _ (p : Program) (section : Section) (right : IsRight p section) where
 
   pub spells_the_runs : SpellsTheRunsOf p section
   spells_the_runs =
-      let lifts = all_lift p (spelled p section) (projection_of p section) (HasFactsOf section) refined in
+      let lifts = all_lift p (spelled p section) (projection_of p section) (HasFactsOf section) simulates in
       record {
-        refined = refined;
+        simulates = simulates;
         lifts = lifts;
         projects = all_project p (spelled p section) (projection_of p section) starts places copies guards;
         bounds = bounds_are_kept p (spelled p section) (projection_of p section) copies (HasFactsOf section) lifts;

@@ -1,9 +1,9 @@
--- A program with weaker guards refines the program, without facts.
+-- A program with weaker guards simulates the program, without facts.
 use Rattle.std.proofs.Common.{◌≡◌, ℕ, List, ◌++◌, ℤ, Option, Some, None, refl, sym, ◌∙◌, subst}
 use Rattle.std.specs.Prelude.{⊤}
 use Rattle.model.specs.Programs.{Program, Rule, rule_at}
 use Rattle.model.specs.Runs.{Config}
-use Rattle.refinement.specs.Refined.{IsEnabled, HasRuleBelow, HasEnabledCopy, IsRefined}
+use Rattle.refinement.specs.Simulation.{IsEnabled, HasRuleBelow, HasEnabledCopy, Simulates}
 use Rattle.refinement.specs.Laws.{AreWeaker, HasWeakerGuards, same_numbers}
 
 -- a weaker rule is a copy of the rule with its number
@@ -40,8 +40,8 @@ enabled_above p q t r c free (Some weaker) e h enabled = record {
   };
 }
 
-pub weaker-refined : (p q : Program) → HasWeakerGuards p q → IsRefined p q same_numbers (λ c. ⊤)
-weaker-refined p q h = record {
+pub weaker-simulates : (p q : Program) → HasWeakerGuards p q → Simulates q p same_numbers (λ c. ⊤)
+weaker-simulates p q h = record {
   start = h.start;
   places = h.places;
   entry = refl;

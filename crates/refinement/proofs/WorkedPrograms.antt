@@ -1,4 +1,4 @@
--- The worked facts hold at symbols, and the worked programs refine others, or don't.
+-- The worked facts hold at symbols, and the worked programs simulate others, or don't.
 use Rattle.std.proofs.Common.{◌≡◌, ℕ, zero, suc, [], ◌∷◌, pos, Option, Some, None}
 use Rattle.std.proofs.Common.{refl, sym, ◌∙◌, ap, subst, arith}
 use Rattle.std.specs.Prelude.{slice_get}
@@ -10,10 +10,10 @@ use Rattle.model.specs.Runs.{IsRun}
 use Rattle.model.specs.Worked.{by_rule, one_value, two_values}
 use Rattle.model.specs.WorkedRuns.{entering, looping, countdown, entry_alone}
 use Rattle.model.proofs.Cases.{none_some, some_same}
-use Rattle.refinement.specs.Refined.{IsEnabled, HasEnabledCopy}
+use Rattle.refinement.specs.Simulation.{IsEnabled, HasEnabledCopy}
 use Rattle.refinement.specs.Sections.{Copy}
 use Rattle.refinement.specs.Laws.{FollowsFrom, AreWeaker, IsWeaker, same_numbers}
-use Rattle.refinement.specs.Worked.{FactsHoldAtSymbols, ProgramsRefine, less, entry_copy, loop_copy, entering_from_3}
+use Rattle.refinement.specs.Worked.{FactsHoldAtSymbols, ProgramsSimulate, less, entry_copy, loop_copy, entering_from_3}
 use Rattle.refinement.specs.Worked.{from_3, at_least, looping_from_1, longer_countdown}
 use Rattle.refinement.proofs.Keeping.{shown_sections_keep_bounds}
 use Rattle.refinement.proofs.WorkedSections.{at_least_3_shown}
@@ -127,8 +127,8 @@ enabled_at_1 =
 not_enabled_at_1 : HasEnabledCopy entry_alone same_numbers 2 (two_values 1 (pos 1) (pos 0)) [] → ⊥
 not_enabled_at_1 h = none_some h.rule (ap (rule_at entry_alone) (sym h.above) ∙ h.numbered)
 
-pub programs_refine : ProgramsRefine
-programs_refine = record {
+pub programs_simulate : ProgramsSimulate
+programs_simulate = record {
   itself = record { start = refl; places = refl; rules = λ t. same_rules (rule_at countdown t) };
   fewer_atoms = record { start = refl; places = refl; rules = longer_rules };
   more_atoms = λ h. not_enabled_at_10 (h.covered 2 looping_from_1 (two_values 1 (pos 10) (pos 0)) [] tt refl enabled_at_10);

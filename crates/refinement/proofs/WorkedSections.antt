@@ -12,10 +12,10 @@ use Rattle.model.proofs.Cases.{none_some, some_same}
 use Rattle.refinement.specs.Lifted.{AreCopies}
 use Rattle.refinement.specs.Sections.{Copy, To, Never, Branch, Section, passes, fails, spelled, projection_of}
 use Rattle.refinement.specs.Obligations.{NoneMeet, ReadsFirst, guard_along, guard_against, IsShownAt, AreCasesShown}
-use Rattle.refinement.specs.Obligations.{IsBranchShown, HasBranch, HasBranches, IsShown}
+use Rattle.refinement.specs.Obligations.{IsBranchOf, IsBranchShown, HasBranch, HasBranches, IsShown}
 use Rattle.refinement.specs.Worked.{SectionsSpell, ExpressionsAreMoved, SectionsAreShown, less, entry_copy, loop_copy}
 use Rattle.refinement.specs.Worked.{end_copy, enters_by_sign, loops_by, never_loops, split, split_by_sign, without_last}
-use Rattle.refinement.specs.Worked.{with_start_fact, entering_down, entering_from_3, from_3}
+use Rattle.refinement.specs.Worked.{with_start_fact, with_other_first, with_branch, entering_down, entering_from_3, from_3}
 use Rattle.refinement.specs.Worked.{at_least}
 
 -- the rules 1 and 2 of the spelled program are all copies of rule 1
@@ -121,12 +121,33 @@ first_reads : (n : ℕ) (values more : List ℤ) → length values ≡ suc n
 first_reads n [] more h = absurd (omega (arith, h))
 first_reads n (a ∷ values) more h = refl
 
--- the branches of the section by sign
+-- the branches of the section by sign are of rules that leave their copies' symbols
+pub fits_1 : IsBranchOf countdown split_by_sign enters_by_sign entry_copy entering
+fits_1 = record { there = refl; numbered = refl; leaves = refl; over_left = All-nil (ReadsFirst 2) }
+
+pub fits_2 : IsBranchOf countdown split_by_sign (loops_by (To 1)) (loop_copy (Variable 0)) looping
+fits_2 = record {
+  there = refl;
+  numbered = refl;
+  leaves = refl;
+  over_left = All-from_recursion (ReadsFirst 2) (Variable 0 ∷ []) (record { each = first_reads 1 }, tt);
+}
+
+pub fits_3 : IsBranchOf countdown split_by_sign never_loops end_copy looping
+fits_3 = record {
+  there = refl;
+  numbered = refl;
+  leaves = refl;
+  over_left = All-from_recursion (ReadsFirst 2) (less (Negation (Variable 0)) 1 ∷ [])
+      (record { each = λ values more h. ap (λ (z : ℤ). value (less (Negation (Variable 0)) 1) (z ∷ [])) (first_reads 1 values more h) }, tt);
+}
+
+-- and are shown
 branch_1 : IsBranchShown NoneMeet countdown split_by_sign enters_by_sign
 branch_1 = record {
   copy = entry_copy;
   rule = entering;
-  fits = record { there = refl; numbered = refl; leaves = refl; over_left = All-nil (ReadsFirst 2) };
+  fits = fits_1;
   cases = (
     record {
       copy = loop_copy (Variable 0);
@@ -149,12 +170,7 @@ branch_2 : IsBranchShown NoneMeet countdown split_by_sign (loops_by (To 1))
 branch_2 = record {
   copy = loop_copy (Variable 0);
   rule = looping;
-  fits = record {
-    there = refl;
-    numbered = refl;
-    leaves = refl;
-    over_left = All-from_recursion (ReadsFirst 2) (Variable 0 ∷ []) (record { each = first_reads 1 }, tt);
-  };
+  fits = fits_2;
   cases = record {
     copy = loop_copy (Variable 0);
     there = refl;
@@ -168,13 +184,7 @@ branch_3 : IsBranchShown NoneMeet countdown split_by_sign never_loops
 branch_3 = record {
   copy = end_copy;
   rule = looping;
-  fits = record {
-    there = refl;
-    numbered = refl;
-    leaves = refl;
-    over_left = All-from_recursion (ReadsFirst 2) (less (Negation (Variable 0)) 1 ∷ [])
-        (record { each = λ values more h. ap (λ (z : ℤ). value (less (Negation (Variable 0)) 1) (z ∷ [])) (first_reads 1 values more h) }, tt);
-  };
+  fits = fits_3;
   cases = no-loop;
 }
 
@@ -207,7 +217,7 @@ three_branches = record { each = go }
     go (suc (suc (suc k))) copy (suc zero) r there numbered leaves = absurd (none_some copy there)
     go (suc (suc (suc k))) copy (suc (suc zero)) r there numbered leaves = absurd (none_some copy there)
 
-by_sign_shown : IsShown countdown split_by_sign
+pub by_sign_shown : IsShown countdown split_by_sign
 by_sign_shown = record {
   first = record { copy = entry_copy; there = refl; start = refl; facts = refl };
   branches = All-from_recursion (IsBranchShown NoneMeet countdown split_by_sign) split_by_sign.branches
@@ -229,7 +239,7 @@ fails-at-one = All-from_recursion (AtomHolds one_zero)
     (guard_against looping (passes (less (Variable 0) 1) ∷ []) (less (Variable 0) 1))
     (omega (arith, ints), (omega (arith, ints), (omega (arith, ints), (omega (arith, ints), tt))))
 
-not_too_strong : IsShown countdown (split (less (Variable 0) 1) (To 1)) → ⊥
+pub not_too_strong : IsShown countdown (split (less (Variable 0) 1) (To 1)) → ⊥
 not_too_strong h =
     let fact : Term = less (Variable 0) 1 in
     let cases = shown-cases countdown (split fact (To 1)) (loops_by (To 1)) (loop_copy fact) looping refl refl
@@ -271,6 +281,40 @@ not_with_fact h =
     let start : Copy = record { name = 97 ∷ []; over = 0; facts = Variable 0 ∷ [] } in
     let same : Variable 0 ∷ [] ≡ [] = ap (λ (c : Copy). c.facts) (some_same start h.first.copy h.first.there) ∙ h.first.facts in
     omega (arith, ap (length {A = Term}) same)
+
+-- a branch of rule 1 at `b`, and one of rule 3, which there isn't
+not_other_source : IsShown countdown (with_branch 1) → ⊥
+not_other_source h =
+    let b : Branch = record { source = 1; rule = 1; cases = To 1 } in
+    let shown : IsBranchShown NoneMeet countdown (with_branch 1) b = h.branches 0 b (omega arith) in
+    let over = ap (λ (c : Copy). c.over) (some_same (loop_copy (Variable 0)) shown.copy shown.fits.there) in
+    let source = ap (λ (x : Rule). x.source) (some_same entering shown.rule shown.fits.numbered) in
+    omega (arith, over, source, shown.fits.leaves)
+
+not_no_rule : IsShown countdown (with_branch 3) → ⊥
+not_no_rule h =
+    let b : Branch = record { source = 1; rule = 3; cases = To 1 } in
+    let shown : IsBranchShown NoneMeet countdown (with_branch 3) b = h.branches 0 b (omega arith) in
+    none_some shown.rule shown.fits.numbered
+
+-- a fact that reads a third variable
+not_third_variable : IsShown countdown (split (Variable 2) (To 1)) → ⊥
+not_third_variable h =
+    let b : Branch = loops_by (To 1) in
+    let shown : IsBranchShown NoneMeet countdown (split (Variable 2) (To 1)) b = h.branches 1 b (omega arith) in
+    let same_copy : shown.copy ≡ loop_copy (Variable 2) =
+    sym (some_same (loop_copy (Variable 2)) shown.copy shown.fits.there) in
+    let same_rule : shown.rule ≡ looping = sym (some_same looping shown.rule shown.fits.numbered) in
+    let left : shown.rule.left ≡ 2 = ap (λ (x : Rule). x.left) same_rule in
+    let facts : All (ReadsFirst 2) (Variable 2 ∷ []) =
+    subst (λ (n : ℕ). All (ReadsFirst n) (Variable 2 ∷ [])) left
+    (subst (λ (c : Copy). All (ReadsFirst shown.rule.left) c.facts) same_copy shown.fits.over_left) in
+    omega (arith, ints, (facts 0 (Variable 2) (omega arith)).each (pos 0 ∷ pos 0 ∷ []) (pos 1 ∷ []) refl)
+
+not_other_first : IsShown countdown with_other_first → ⊥
+not_other_first h =
+    let first : Copy = record { name = 97 ∷ []; over = 1; facts = [] } in
+    omega (arith, ap (λ (c : Copy). c.over) (some_same first h.first.copy h.first.there), h.first.start)
 
 -- A is at least 3 behind the rule that says so
 behind_3 : NoneMeet entering_from_3 (guard_against entering_from_3 [] (less (Variable 0) 3))
@@ -333,6 +377,10 @@ sections_are_shown = record {
   never = not_never;
   other_symbol = not_other_symbol;
   no_copy = not_no_copy;
+  other_source = not_other_source;
+  no_rule = not_no_rule;
+  third_variable = not_third_variable;
+  other_first = not_other_first;
   missing_branch = not_missing;
   start_fact = not_with_fact;
   at_least_3 = at_least_3_shown;

@@ -1,22 +1,22 @@
--- What refined programs tell of the program: its runs, the bounds on them, and the facts at its symbols.
+-- What programs that simulate a program say of it: its runs, the bounds on them, and the facts at its symbols.
 use Rattle.std.specs.Prelude.{◌≡◌, ℕ, ◌≤ℤ◌, List, ℤ, pos, Option, Some, None, slice_get, ⊤}
 use Rattle.model.specs.Terms.{Term, value}
 use Rattle.model.specs.Programs.{Program, Rule, rule_at, arity_of, GuardHolds}
 use Rattle.model.specs.Runs.{Config, Step, IsRun}
-use Rattle.refinement.specs.Refined.{Projection, IsRefined}
+use Rattle.refinement.specs.Simulation.{Projection, Simulates}
 use Rattle.refinement.specs.Lifted.{AllRunsLift, AllRunsProject, BoundsAreKept}
 use Rattle.refinement.specs.Sections.{Copy, Section, spelled, projection_of, AreAtLeastZero, HasFactsOf}
 use Rattle.refinement.specs.Obligations.{IsRight, IsShown}
 
--- to a program that refines another each run of the other lifts, and its bounds carry over
-pub record RefinementKeepsBounds (HasFacts : Config → Type 0) : Type 0 where
-  pub lifts : (p q : Program) (o : Projection) → IsRefined p q o HasFacts → AllRunsLift p q o HasFacts
-  pub bounds : (p q : Program) (o : Projection) → IsRefined p q o HasFacts → BoundsAreKept p q o
+-- to a program that simulates another each run of the other lifts, and its bounds carry over
+pub record SimulationKeepsBounds (HasFacts : Config → Type 0) : Type 0 where
+  pub lifts : (p q : Program) (o : Projection) → Simulates q p o HasFacts → AllRunsLift p q o HasFacts
+  pub bounds : (p q : Program) (o : Projection) → Simulates q p o HasFacts → BoundsAreKept p q o
 
 -- the program that a section spells has the runs of the program, with the facts of copies along them, and its bounds
 -- carry over
 pub record SpellsTheRunsOf (p : Program) (section : Section) : Type 0 where
-  pub refined : IsRefined p (spelled p section) (projection_of p section) (HasFactsOf section)
+  pub simulates : Simulates (spelled p section) p (projection_of p section) (HasFactsOf section)
   pub lifts : AllRunsLift p (spelled p section) (projection_of p section) (HasFactsOf section)
   pub projects : AllRunsProject p (spelled p section) (projection_of p section)
   pub bounds : BoundsAreKept p (spelled p section) (projection_of p section)

@@ -1,5 +1,5 @@
 -- what the contracts of this crate, and of those above it, cite
-pub mod Refined
+pub mod Simulation
 pub mod Lifted
 pub mod Sections
 pub mod Obligations

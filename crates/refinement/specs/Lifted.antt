@@ -1,4 +1,4 @@
--- Runs of a program lifted to a program that refines it, and the bounds that so carry over.
+-- Runs of a program lifted to a program that simulates it, and the bounds that so carry over.
 use Rattle.std.specs.Prelude.{◌≡◌, ◌≢◌, ℕ, List, [], ◌∷◌, map, ℤ, Some}
 use Rattle.std.specs.List.{All, Contains}
 use Rattle.model.specs.Bounds.{Bound, SumOf, MaximumOf, Parts, NoParts, Part}
@@ -6,7 +6,7 @@ use Rattle.model.specs.Facts.{HoldsTime, HoldsSize, HoldsCost}
 use Rattle.model.specs.Programs.{Program, Rule, rule_at}
 use Rattle.model.specs.Runs.{Config, Step, IsRun}
 use Rattle.model.specs.Facts.{HoldsLength, HoldsTotal}
-use Rattle.refinement.specs.Refined.{Projection, config_below, step_below}
+use Rattle.refinement.specs.Simulation.{Projection, config_below, step_below}
 
 -- a run lifts to q: from the same start values a run of q has steps that project to its steps, one by one, and ends at
 -- a configuration that projects to its end, where the facts hold

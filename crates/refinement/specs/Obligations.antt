@@ -1,4 +1,4 @@
--- What has to hold of a section so that the program it spells refines the program: that certain guards are met by no
+-- What has to hold of a section so that the program it spells simulates the program: that certain guards are met by no
 -- values.
 use Rattle.std.specs.Prelude.{◌≡◌, ℕ, ◌+◌, List, [], ◌∷◌, ◌++◌, length, map, ℤ, pos, Some, slice_get, slice_index_or}
 use Rattle.std.specs.List.{All, Contains}

@@ -4,7 +4,7 @@ use Rattle.std.specs.List.{All}
 use Rattle.model.specs.Terms.{Term, Literal, value}
 use Rattle.model.specs.Programs.{Name, AtLeast, LessThan, Atom, Compare, Symbol, Rule, Program, rule_at, arity_of}
 use Rattle.model.specs.Runs.{Config}
-use Rattle.refinement.specs.Refined.{Projection}
+use Rattle.refinement.specs.Simulation.{Projection}
 
 -- a copy of a symbol: its name, the symbol, and the expressions over its places that are at least 0 there
 pub record Copy : Type 0 where

@@ -3,7 +3,7 @@ use Rattle.std.specs.Prelude.{◌≡◌, ℕ, [], ◌∷◌, pos, None, ⊤}
 use Rattle.model.specs.Terms.{Term, Literal, Variable, Negation, Addition, Subtraction}
 use Rattle.model.specs.Programs.{AtLeast, AtMost, LessThan, Compare, Rule, Program}
 use Rattle.model.specs.WorkedRuns.{entering, countdown, entry_alone, two_names}
-use Rattle.refinement.specs.Refined.{IsRefined}
+use Rattle.refinement.specs.Simulation.{Simulates}
 use Rattle.refinement.specs.Lifted.{AreCopies}
 use Rattle.refinement.specs.Sections.{Copy, Cases, To, Never, If, Branch, Section, passes, fails, paths, spelled}
 use Rattle.refinement.specs.Sections.{projection_of}
@@ -58,6 +58,20 @@ abbrev pub with_start_fact : Section
 with_start_fact = record {
   copies = record { name = 97 ∷ []; over = 0; facts = Variable 0 ∷ [] } ∷ loop_copy (Variable 0) ∷ end_copy ∷ [];
   branches = enters_by_sign ∷ loops_by (To 1) ∷ never_loops ∷ [];
+}
+
+-- the same with a first copy of l1
+abbrev pub with_other_first : Section
+with_other_first = record {
+  copies = record { name = 97 ∷ []; over = 1; facts = [] } ∷ loop_copy (Variable 0) ∷ end_copy ∷ [];
+  branches = enters_by_sign ∷ loops_by (To 1) ∷ never_loops ∷ [];
+}
+
+-- the section by sign with one more branch at `b`, of the rule with a number
+abbrev pub with_branch : ℕ → Section
+with_branch t = record {
+  copies = split_by_sign.copies;
+  branches = record { source = 1; rule = t; cases = To 1 } ∷ split_by_sign.branches;
 }
 
 -- by hand: entering with A at least 0, entering with A below 0, and looping with A at least 0
@@ -178,7 +192,12 @@ pub record SectionsAreShown : Type 0 where
   pub never : ¬ (IsShown countdown (split (Variable 0) Never))
   pub other_symbol : ¬ (IsShown countdown (split (Variable 0) (To 0)))
   pub no_copy : ¬ (IsShown countdown (split (Variable 0) (To 3)))
-  -- nor without a branch, or with a fact at the start
+  -- nor with a branch of a rule that leaves another symbol, or that there isn't, or with a fact over a third variable
+  pub other_source : ¬ (IsShown countdown (with_branch 1))
+  pub no_rule : ¬ (IsShown countdown (with_branch 3))
+  pub third_variable : ¬ (IsShown countdown (split (Variable 2) (To 1)))
+  -- nor with a first copy of another symbol than the start, without a branch, or with a fact at the start
+  pub other_first : ¬ (IsShown countdown with_other_first)
   pub missing_branch : ¬ (IsShown countdown without_last)
   pub start_fact : ¬ (IsShown countdown with_start_fact)
   -- A is at least 3 behind the rule that says so, and not at least 4
@@ -213,9 +232,9 @@ longer_countdown = record {
   rules = entering ∷ looping_from_1 ∷ [];
 }
 
--- a program refines itself, and one with fewer atoms refines it; one with more atoms or fewer rules doesn't
-pub record ProgramsRefine : Type 0 where
+-- a program simulates itself, and one with fewer atoms simulates it; one with more atoms or fewer rules doesn't
+pub record ProgramsSimulate : Type 0 where
   pub itself : HasWeakerGuards countdown countdown
   pub fewer_atoms : HasWeakerGuards countdown longer_countdown
-  pub more_atoms : ¬ (IsRefined longer_countdown countdown same_numbers (λ c. ⊤))
-  pub fewer_rules : ¬ (IsRefined countdown entry_alone same_numbers (λ c. ⊤))
+  pub more_atoms : ¬ (Simulates countdown longer_countdown same_numbers (λ c. ⊤))
+  pub fewer_rules : ¬ (Simulates entry_alone countdown same_numbers (λ c. ⊤))

@@ -19,7 +19,7 @@ use Rattle.refinement_rows.specs.Worked.{GuardsAreRefuted}
 use Rattle.refinement_rows.proofs.CertifiedLaws.{refuted-unmet}
 
 -- a row in A and B
-abbrev row : ℤ → ℤ → ℤ → Form
+abbrev pub row : ℤ → ℤ → ℤ → Form
 row a b k = record { coefs = a ∷ b ∷ []; constant = k }
 
 -- the loop where A is below 0, and behind it the fact A >= 0 denied
@@ -81,7 +81,7 @@ denied-prepared = record {
 }
 
 -- the first row and the third add up to -2
-below-shows : Refutes looping below (1 ∷ 0 ∷ 1 ∷ [])
+pub below-shows : Refutes looping below (1 ∷ 0 ∷ 1 ∷ [])
 below-shows = record {
   preparable = below-prepared;
   shows = subst (λ (rows : List Form). Implies rows (1 ∷ 0 ∷ 1 ∷ []) minus_one) (sym below-rows)
@@ -95,7 +95,7 @@ below-shows = record {
     zeros (suc (suc u)) = refl
 
 -- the first and the fourth to -1
-denied-shows : Refutes looping denied (1 ∷ 0 ∷ 0 ∷ 1 ∷ [])
+pub denied-shows : Refutes looping denied (1 ∷ 0 ∷ 0 ∷ 1 ∷ [])
 denied-shows = record {
   preparable = denied-prepared;
   shows = subst (λ (rows : List Form). Implies rows (1 ∷ 0 ∷ 0 ∷ 1 ∷ []) minus_one) (sym denied-rows)

@@ -1,8 +1,8 @@
 -- Guards that multipliers refute, and that they don't, as it was worked out by hand.
-use Rattle.std.specs.Prelude.{List, [], ◌∷◌}
+use Rattle.std.specs.Prelude.{[], ◌∷◌}
 use Rattle.refinement.specs.model.Terms.{Variable, Negation}
 use Rattle.refinement.specs.model.WorkedRuns.{looping, countdown}
-use Rattle.refinement.specs.Sections.{passes}
+use Rattle.refinement.specs.Sections.{passes, To}
 use Rattle.refinement.specs.Obligations.{guard_along, guard_against}
 use Rattle.refinement.specs.Worked.{less, split_by_sign, split}
 use Rattle.refinement_rows.specs.Certified.{Refutes, IsRefuted, IsCertified}
@@ -20,3 +20,9 @@ pub record GuardsAreRefuted : Type 0 where
   -- it isn't at least 1 there, whatever multipliers there are, and the loop itself isn't refuted
   pub too_strong : ¬ (IsRefuted looping (guard_against looping (passes (Variable 0) ∷ []) (less (Variable 0) 1)))
   pub loop : ¬ (IsRefuted looping (guard_along looping []))
+
+-- the section that splits the loop by the sign of A is certified; with a fact that is too strong by 1 it isn't, whatever
+-- multipliers there are
+pub record SectionsAreCertified : Type 0 where
+  pub by_sign : IsCertified countdown split_by_sign
+  pub too_strong : ¬ (IsCertified countdown (split (less (Variable 0) 1) (To 1)))

@@ -1,11 +1,12 @@
--- Accepted sections are certified, and faults are decided.
+-- Accepted sections are certified and spell valid programs, and first faults are unique.
 use Rattle.std.proofs.Common.{◌≡◌, inl, inr, List, [], ◌∷◌, sym, ◌∙◌}
-use Rattle.refined_programs.specs.Views.{section_of}
+use Rattle.refined_programs.specs.Annotated.{section_of}
 use Rattle.refinement_rows.proofs.CertifiedLaws.{certified_sections_keep_bounds}
 use Rattle.cert_rules.specs.Reasons.{CheckOf, AllPass, IsFirstAmong}
 use Rattle.section_checks.specs.Faults.{Fault, AllStagesPass, IsFirstInStages, stages}
-use Rattle.section_checks.specs.Laws.{AcceptedSectionsAreCertified, FaultsAreDecided}
+use Rattle.section_checks.specs.Laws.{AcceptedSectionsAreCertified, AcceptedSectionsSpellValid, FirstFaultsAreUnique}
 use Rattle.section_checks.proofs.Certifying.{certified}
+use Rattle.section_checks.proofs.Validity.{spelled-valid}
 
 -- where a check fails first, not all pass
 not-all : (checks : List (CheckOf Fault)) (x : Fault) → IsFirstAmong checks x → AllPass checks → ⊥
@@ -43,8 +44,11 @@ accepted_sections_are_certified = record {
       certified_sections_keep_bounds.facts p (section_of s) (certified p s valid accepted);
 }
 
-pub faults_are_decided : FaultsAreDecided
-faults_are_decided = record {
+pub accepted_sections_spell_valid : AcceptedSectionsSpellValid
+accepted_sections_spell_valid = record { valid = spelled-valid }
+
+pub first_faults_are_unique : FirstFaultsAreUnique
+first_faults_are_unique = record {
   excluded = λ p s fault first accepted. not-all-stages (stages p s) fault first accepted;
   one = λ p s fault other first second. one-in-stages (stages p s) fault other first second;
 }

@@ -7,8 +7,8 @@ use Rattle.std.proofs.lemmas.Bool.Decides.{eqb_tells}
 use Rattle.std.proofs.lemmas.List.Elements.{Contains-append_left, Contains-append_right, Contains-append_cases}
 use Rattle.refined_programs.specs.model.Programs.{Rule, Program, rule_at}
 use Rattle.refined_programs.proofs.refinement.model.Cases.{none_some, some_same}
-use Rattle.refined_programs.specs.declared.section.SymbolCopy.{SymbolCopy}
-use Rattle.refined_programs.specs.declared.section.Branch.{Branch}
+use Rattle.refined_programs.specs.Annotated as annotated
+use Rattle.refined_programs.specs.Annotated.{Branch}
 use Rattle.cert_rules.specs.Reasons.{AllPass}
 use Rattle.section_checks.specs.Faults.{Due, due_at, due, branch_checks}
 
@@ -58,7 +58,7 @@ has-due_at k symbol t (q ∷ rules) (suc i) r e leaves =
     (has-due_at k symbol (suc t) rules i r e leaves))
 
 -- so at each copy
-pub has-due : (p : Program) (k : ℕ) (copies : List SymbolCopy) (j : ℕ) (c : SymbolCopy) (i : ℕ) (r : Rule)
+pub has-due : (p : Program) (k : ℕ) (copies : List annotated.Copy) (j : ℕ) (c : annotated.Copy) (i : ℕ) (r : Rule)
     → slice_get copies j ≡ Some c → slice_get p.rules i ≡ Some r → r.source ≡ c.over
     → Contains (due p k copies) (record { source = k + j; rule = suc i })
 has-due p k [] j c i r e at leaves = absurd (none_some c e)
@@ -68,7 +68,7 @@ has-due p k (a ∷ copies) zero c i r e at leaves =
     subst (λ (n : ℕ). Contains (due p k (a ∷ copies)) (record { source = n; rule = suc i })) (omega arith)
     (Contains-append_left (due_at k a.over 1 p.rules) (due p (suc k) copies) (record { source = k; rule = suc i })
     (subst (λ (t : ℕ). Contains (due_at k a.over 1 p.rules) (record { source = k; rule = t })) number
-    (has-due_at k a.over 1 p.rules i r at (leaves ∙ ap (λ (x : SymbolCopy). x.over) (sym same)))))
+    (has-due_at k a.over 1 p.rules i r at (leaves ∙ ap (λ (x : annotated.Copy). x.over) (sym same)))))
 has-due p k (a ∷ copies) (suc j) c i r e at leaves =
     subst (λ (n : ℕ). Contains (due p k (a ∷ copies)) (record { source = n; rule = suc i })) (omega arith)
     (Contains-append_right (due_at k a.over 1 p.rules) (due p (suc k) copies) (record { source = suc k + j; rule = suc i })
@@ -109,16 +109,16 @@ due_at-is k symbol t (q ∷ rules) d h =
     go (inr other) rest = later (rest other)
 
 -- what is due: at a copy a rule that leaves the symbol below it
-pub record IsDue (p : Program) (k : ℕ) (copies : List SymbolCopy) (d : Due) : Type 0 where
+pub record IsDue (p : Program) (k : ℕ) (copies : List annotated.Copy) (d : Due) : Type 0 where
   pub position : ℕ
   pub source : d.source ≡ k + position
-  pub copy : SymbolCopy
+  pub copy : annotated.Copy
   pub there : slice_get copies position ≡ Some copy
   pub rule : Rule
   pub numbered : rule_at p d.rule ≡ Some rule
   pub leaves : rule.source ≡ copy.over
 
-pub due-is : (p : Program) (k : ℕ) (copies : List SymbolCopy) (d : Due) → Contains (due p k copies) d
+pub due-is : (p : Program) (k : ℕ) (copies : List annotated.Copy) (d : Due) → Contains (due p k copies) d
     → IsDue p k copies d
 due-is p k [] d (i, low, at) = absurd (omega (arith, low))
 due-is p k (a ∷ copies) d h =

@@ -6,10 +6,8 @@ use Rattle.refined_programs.specs.model.Programs.{Rule, Program, rule_at}
 use Rattle.refined_programs.specs.refinement.Sections.{Copy, passes, facts_of}
 use Rattle.refinement_rows.specs.linear_forms.Certificates.{Implies, minus_one}
 use Rattle.refinement_rows.specs.guard_prep.Prepared.{rows_of}
-use Rattle.refined_programs.specs.declared.section.Branch.{Branch}
-use Rattle.refined_programs.specs.declared.section.Section.{Section}
+use Rattle.refined_programs.specs.Annotated.{Branch, Section, section_of}
 use Rattle.refined_programs.specs.Ends.{End, ends}
-use Rattle.refined_programs.specs.Views.{section_of}
 use Rattle.cert_rules.specs.Reasons.{AllPass}
 use Rattle.section_checks.specs.Faults.{AllStagesPass, BranchEnd, ends_of_branch, ends_of, GoalFits, shape_checks}
 use Rattle.section_checks.specs.Faults.{Obligation, obligations_of, IsWithinLimits, limit_checks}

@@ -8,8 +8,9 @@ use Rattle.refined_programs.specs.model.Terms.{Term}
 use Rattle.refined_programs.specs.refinement.Obligations.{ReadsFirst}
 use Rattle.refined_programs.specs.poly_terms.Checked.{ReadsBelow}
 use Rattle.refined_programs.proofs.its_model.poly_terms.VariableLaws.{value-append_right}
-use Rattle.refined_programs.specs.declared.affine.Affine.{Affine}
-use Rattle.refined_programs.specs.Affine.{number_term, with_product, with_products, affine_of}
+use Rattle.refined_programs.specs.its_model.linear_forms.Forms.{Form}
+use Rattle.refined_programs.specs.Affine.{number_term, with_product, with_products}
+use Rattle.refined_programs.specs.Annotated.{form_term}
 use Rattle.section_checks.specs.Faults.{IsWide}
 
 -- a number reads nothing
@@ -34,14 +35,14 @@ products-read n i t (a ∷ coefs) low h =
     (product-reads n i t a (omega (arith, low)) h)
 
 -- so does a form
-pub form-reads : (n : ℕ) (a : Affine) → IsWide n a → ReadsFirst n (affine_of a)
+pub form-reads : (n : ℕ) (a : Form) → IsWide n a → ReadsFirst n (form_term a)
 form-reads n a wide = record {
-  each = λ values more len. value-append_right (affine_of a) values more
-      (products-read (length values) 0 (number_term a.constant) a.coefs.items (omega (arith, wide, len))
+  each = λ values more len. value-append_right (form_term a) values more
+      (products-read (length values) 0 (number_term a.constant) a.coefs (omega (arith, wide, len))
       (number-reads (length values) a.constant));
 }
 
-pub forms-read : (n : ℕ) (forms : List Affine) → AllByRecursion (IsWide n) forms
-    → AllByRecursion (λ a. ReadsFirst n (affine_of a)) forms
+pub forms-read : (n : ℕ) (forms : List Form) → AllByRecursion (IsWide n) forms
+    → AllByRecursion (λ a. ReadsFirst n (form_term a)) forms
 forms-read n [] h = tt
 forms-read n (a ∷ forms) h = (form-reads n a h.0, forms-read n forms h.1)

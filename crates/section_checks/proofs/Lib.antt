@@ -1,7 +1,9 @@
 mod DueLaws
 mod EndLaws
 mod FormLaws
-mod Certifying
+pub mod Certifying
+mod SpelledRules
+mod Validity
 pub mod Deciding
 -- the lemmas of the crates below, which callers name through this one
 pub use Rattle.refined_programs.proofs as refined_programs

@@ -1,4 +1,4 @@
--- What is wrong first with a section that is to refine a program: lists of checks, stage by stage.
+-- What is wrong first with a section of a program: lists of checks, stage by stage.
 use Rattle.std.specs.Prelude.{◌≡◌, ◌⊎◌, ℕ, suc, ◌+◌, ◌≤◌, ◌++◌, ◌||◌, List, [], ◌∷◌, map, length, nat_eq, Option}
 use Rattle.std.specs.Prelude.{Some, None, slice_get, if◌then◌else◌, Bool, false, ⊤, IsTrue}
 use Rattle.std.specs.List.{AllByRecursion}
@@ -8,14 +8,10 @@ use Rattle.refined_programs.specs.model.Programs.{Atom, Rule, Program, rule_at, 
 use Rattle.refined_programs.specs.refinement.Sections.{Copy, passes, facts_in, facts_of}
 use Rattle.refined_programs.specs.refinement.Obligations.{HasFirstCopy, guard_along, guard_against}
 use Rattle.refined_programs.specs.its_model.Valid.{IsValidAtom, cost_atoms}
-use Rattle.refined_programs.specs.declared.affine.Affine.{Affine}
-use Rattle.refined_programs.specs.declared.section.SymbolCopy.{SymbolCopy}
-use Rattle.refined_programs.specs.declared.section.Cases.{Cases}
-use Rattle.refined_programs.specs.declared.section.Cases.TheVariants.{To, Never, If'}
-use Rattle.refined_programs.specs.declared.section.Branch.{Branch}
-use Rattle.refined_programs.specs.declared.section.Section.{Section}
+use Rattle.refined_programs.specs.its_model.linear_forms.Forms.{Form}
+use Rattle.refined_programs.specs.Annotated as annotated
+use Rattle.refined_programs.specs.Annotated.{Cases, To, Never, If, Branch, Section, copy_of, section_of}
 use Rattle.refined_programs.specs.Ends.{Goal, AtCopy, Nowhere, End, ends}
-use Rattle.refined_programs.specs.Views.{copy_of, section_of}
 use Rattle.refinement_rows.specs.linear_forms.Certificates.{Implies, minus_one}
 use Rattle.refinement_rows.specs.guard_prep.Prepared.{rows_of}
 use Rattle.refinement_rows.specs.Certified.{with_guard}
@@ -53,14 +49,14 @@ numbered f k [] = []
 numbered f k (x ∷ xs) = f k x ∷ numbered f (suc k) xs
 
 -- a form has so many coefficients
-abbrev pub IsWide : ℕ → Affine → Type 0
-IsWide n a = length a.coefs.items ≡ n
+abbrev pub IsWide : ℕ → Form → Type 0
+IsWide n f = length f.coefs ≡ n
 
 -- each fact of a copy has a coefficient for each place of the symbol below
-abbrev pub fact_check : Program → ℕ → SymbolCopy → CheckOf Fault
-fact_check p k c = check (WrongFacts k) (AllByRecursion (IsWide (arity_of p c.over)) c.facts.items)
+abbrev pub fact_check : Program → ℕ → annotated.Copy → CheckOf Fault
+fact_check p k c = check (WrongFacts k) (AllByRecursion (IsWide (arity_of p c.over)) c.facts)
 
-abbrev pub fact_checks : Program → ℕ → List SymbolCopy → List (CheckOf Fault)
+abbrev pub fact_checks : Program → ℕ → List annotated.Copy → List (CheckOf Fault)
 fact_checks p k copies = numbered (fact_check p) k copies
 
 -- a branch that is due: of a rule at a copy
@@ -75,7 +71,7 @@ due_at k symbol t (r ∷ rules) =
     (if nat_eq r.source symbol then record { source = k; rule = t } ∷ [] else []) ++ due_at k symbol (suc t) rules
 
 -- the branches that are due at copies, the first of which has number k, in order
-abbrev pub due : Program → ℕ → List SymbolCopy → List Due
+abbrev pub due : Program → ℕ → List annotated.Copy → List Due
 due p k [] = []
 due p k (c ∷ copies) = due_at k c.over 1 p.rules ++ due p (suc k) copies
 
@@ -91,7 +87,7 @@ branch_checks k (b ∷ branches) (d ∷ ds) =
 abbrev pub AreTestsWide : ℕ → Cases → Type 0
 AreTestsWide n (To copy by) = ⊤
 AreTestsWide n (Never by) = ⊤
-AreTestsWide n (If' test p yes_cases q no_cases) = IsWide n test × AreTestsWide n yes_cases × AreTestsWide n no_cases
+AreTestsWide n (If test yes_cases no_cases) = IsWide n test × AreTestsWide n yes_cases × AreTestsWide n no_cases
 
 -- the number of a rule's variables, 0 where there is no rule
 abbrev pub variables_in : Option Rule → ℕ
@@ -238,13 +234,13 @@ certificate_stages copies n (e ∷ es) =
 abbrev pub stages : Program → Section → List (List (CheckOf Fault))
 stages p s =
     (check WrongStart (HasFirstCopy p (section_of s)) ∷ [])
-    ∷ fact_checks p 1 s.copies.items
-    ∷ branch_checks 1 s.branches.items (due p 0 s.copies.items)
-    ∷ test_checks p 1 s.branches.items
-    ∷ shape_checks (map copy_of s.copies.items) 1 (ends_of p s s.branches.items)
-    ∷ rules_checks (ends_of p s s.branches.items)
-    ∷ limit_checks (map copy_of s.copies.items) 1 (ends_of p s s.branches.items)
-    ∷ certificate_stages (map copy_of s.copies.items) 1 (ends_of p s s.branches.items)
+    ∷ fact_checks p 1 s.copies
+    ∷ branch_checks 1 s.branches (due p 0 s.copies)
+    ∷ test_checks p 1 s.branches
+    ∷ shape_checks (map copy_of s.copies) 1 (ends_of p s s.branches)
+    ∷ rules_checks (ends_of p s s.branches)
+    ∷ limit_checks (map copy_of s.copies) 1 (ends_of p s s.branches)
+    ∷ certificate_stages (map copy_of s.copies) 1 (ends_of p s s.branches)
 
 -- a section is accepted over a program: all checks pass
 abbrev pub IsAccepted : Program → Section → Type 0

@@ -1,10 +1,12 @@
--- What accepted sections tell, and what is wrong first.
-use Rattle.std.specs.Prelude.{◌≡◌}
+-- What accepted sections say of the program, and what is wrong first.
+use Rattle.std.specs.Prelude.{◌≡◌, map}
+use Rattle.std.specs.List.{AllByRecursion}
 use Rattle.refined_programs.specs.model.Programs.{Program}
 use Rattle.refined_programs.specs.its_model.Valid.{IsValid}
-use Rattle.refined_programs.specs.declared.section.Section.{Section}
+use Rattle.refined_programs.specs.its_model.text_core.Names.{IsName, AreDistinct}
+use Rattle.refined_programs.specs.refinement.Sections.{spelled}
 use Rattle.refined_programs.specs.refinement.Laws.{SpellsTheRunsOf, FactsOfCopiesHold}
-use Rattle.refined_programs.specs.Views.{section_of}
+use Rattle.refined_programs.specs.Annotated.{Section, section_of}
 use Rattle.refinement_rows.specs.Certified.{IsCertified}
 use Rattle.section_checks.specs.Faults.{Fault, IsAccepted, IsFirstFault}
 
@@ -15,8 +17,18 @@ pub record AcceptedSectionsAreCertified : Type 0 where
   pub runs : (p : Program) (s : Section) → IsValid p → IsAccepted p s → SpellsTheRunsOf p (section_of s)
   pub facts : (p : Program) (s : Section) → IsValid p → IsAccepted p s → FactsOfCopiesHold p (section_of s)
 
+-- the copies of a section have names, and no two have the same
+pub record HasDistinctNames (s : Section) : Type 0 where
+  pub names : AllByRecursion (λ c. IsName c.name) s.copies
+  pub distinct : AreDistinct (map (λ c. c.name) s.copies)
+
+-- over a valid program an accepted section whose copies have names that differ spells a valid program
+pub record AcceptedSectionsSpellValid : Type 0 where
+  pub valid : (p : Program) (s : Section) → IsValid p → HasDistinctNames s → IsAccepted p s
+      → IsValid (spelled p (section_of s))
+
 -- one fault at most is the first, and where there is one the section isn't accepted
-pub record FaultsAreDecided : Type 0 where
+pub record FirstFaultsAreUnique : Type 0 where
   pub excluded : (p : Program) (s : Section) (fault : Fault) → IsFirstFault p s fault → ¬ (IsAccepted p s)
   pub one : (p : Program) (s : Section) (fault other : Fault) → IsFirstFault p s fault → IsFirstFault p s other
       → fault ≡ other

@@ -1,5 +1,5 @@
 use Rattle.refinement.proofs.WorkedSections.{sections_spell, expressions_are_moved, sections_are_shown}
-use Rattle.refinement.proofs.WorkedPrograms.{facts_hold_at_symbols, programs_refine}
+use Rattle.refinement.proofs.WorkedPrograms.{facts_hold_at_symbols, programs_simulate}
 use Rattle.refinement.proofs.worked_values_hold.Goals as goal
 
 pub returns : goal.returns
@@ -8,5 +8,5 @@ returns c = record {
   moved = expressions_are_moved;
   shown = sections_are_shown;
   facts = facts_hold_at_symbols;
-  refined = programs_refine;
+  simulated = programs_simulate;
 }

@@ -1,5 +1,4 @@
--- A program that refines another: each of its runs projects to a run of the other, and each run of the other is the
--- projection of one.
+-- A program that simulates another: each run of the other is the projection of one of its runs. It may have more runs.
 use Rattle.std.specs.Prelude.{◌≡◌, ℕ, List, ◌++◌, length, ℤ, Some}
 use Rattle.model.specs.Programs.{Program, Rule, rule_at, arity_of, GuardHolds}
 use Rattle.model.specs.Runs.{Config, Step, Leads}
@@ -49,10 +48,10 @@ pub record HasEnabledCopy (q : Program) (o : Projection) (t : ℕ) (c : Config) 
   pub above : o.rule number ≡ t
   pub enabled : IsEnabled rule c free
 
--- the program q refines p, with facts that hold at the configurations of q: starts and rules of q project to those of
+-- the program q simulates p, with facts that hold at the configurations of q: starts and rules of q project to those of
 -- p; the facts hold at each start; where they hold, a rule of p that is enabled below has an enabled copy; and a copy
 -- leads on to where they hold, if the guard of the rule below holds too
-pub record IsRefined (p q : Program) (o : Projection) (HasFacts : Config → Type 0) : Type 0 where
+pub record Simulates (q p : Program) (o : Projection) (HasFacts : Config → Type 0) : Type 0 where
   pub start : o.symbol q.start ≡ p.start
   pub places : arity_of q q.start ≡ arity_of p p.start
   pub entry : o.rule 0 ≡ 0
