@@ -2,6 +2,13 @@
 pub mod RowTerms
 -- values that were worked out by hand
 pub mod Worked
+pub mod WorkedParts
+pub mod WorkedCounters
+pub mod WorkedLexicographic
+pub mod WorkedSides
+pub mod WorkedPhases
+pub mod WorkedTriangle
+pub mod Whole
 -- the crates below, which callers name through this one
 pub use Rattle.guard_prep.specs as guard_prep
 pub use Rattle.potential_nodes.specs as potential_nodes

@@ -4,6 +4,12 @@
 
 ghost use Rattle.potential_ground.specs.RowTerms.{RowsAreTrueGround};
 ghost use Rattle.potential_ground.specs.Worked.{GroundsAreWorkedOut};
+ghost use Rattle.potential_ground.specs.Whole.{AcceptedPotentialsHold};
+ghost use Rattle.potential_ground.specs.WorkedCounters.{ThreeCountersAreBounded};
+ghost use Rattle.potential_ground.specs.WorkedLexicographic.{LexicographicLoopsAreBounded};
+ghost use Rattle.potential_ground.specs.WorkedSides.{TwoSidesAreBounded};
+ghost use Rattle.potential_ground.specs.WorkedPhases.{PhaseChangesAreBounded};
+ghost use Rattle.potential_ground.specs.WorkedTriangle.{TrianglesAreBounded};
 
 /// A row as an expression has the row's value, and the rows of a valid program are true of each step of each run.
 pub fn rows_are_true_ground()
@@ -15,4 +21,26 @@ pub fn rows_are_true_ground()
 /// Rows and new values as expressions are what was worked out by hand.
 pub fn grounds_are_as_worked_out()
     ensures { GroundsAreWorkedOut }
+{}
+
+/// For a valid program and facts that hold of it: where no lemma behind these facts is refused over the program's prepared
+/// rows, the facts of all lemmas hold on all its runs.
+pub fn accepted_potentials_hold()
+    ensures { AcceptedPotentialsHold }
+{
+    rows_are_true_ground();
+    signed_bounds::squares_are_safe();
+    potential_nodes::plain_facts_hold();
+    potential_nodes::accepted_lemmas_hold();
+}
+
+/// Five programs with all lemmas that bound how often their rules occur, over their own rows: the lists are accepted, their
+/// last lemma states the total, and each list with one number changed is refused at the lemma that it breaks, for the
+/// reason, that was worked out by hand.
+pub fn lemmas_are_as_worked_out()
+    ensures counters { ThreeCountersAreBounded }
+    ensures lexicographic { LexicographicLoopsAreBounded }
+    ensures sides { TwoSidesAreBounded }
+    ensures phases { PhaseChangesAreBounded }
+    ensures triangles { TrianglesAreBounded }
 {}

@@ -14,6 +14,7 @@ pub mod CombinationLaws
 pub mod PlainPeakLaws
 pub mod PhaseNodeLaws
 pub mod AcceptanceLaws
+pub mod FactMeaningLaws
 pub mod WorkedLoop
 -- the lemmas of the crates below, which callers name through this one
 pub use Rattle.potentials.proofs.model

@@ -293,7 +293,7 @@ module _ (g : Ground) (facts : List SignedFact) (n : PhasesNode) (b : Signed) (g
   -- what stands under the root, as the bound has it and as the law has it
   under-is : (start : List ℤ)
       → 2 * (n.den * or_zero (polynomial_value (form_in (function_at (second_table g n) g.program.start)) start -ℤ pos n.den))
-      ≡ 2 * (n.den * (positive_part (polynomial_value (less_number (form_in (function_at (second_table g n) g.program.start)) n.den) start) * 1))
+      ≡ (2 * n.den) * (positive_part (polynomial_value (less_number (form_in (function_at (second_table g n) g.program.start)) n.den) start) * 1)
   under-is start =
       let x = polynomial_value (form_in (function_at (second_table g n) g.program.start)) start in
       let same = ap or_zero (less n.den x) ∙ sym (part-is (neg_ℤ (pos n.den) *ℤ pos 1 +ℤ x)) in
@@ -302,14 +302,14 @@ module _ (g : Ground) (facts : List SignedFact) (n : PhasesNode) (b : Signed) (g
       less : (k : ℕ) (x : ℤ) → x -ℤ pos k ≡ neg_ℤ (pos k) *ℤ pos 1 +ℤ x
       less k x = omega (arith, ints)
 
-      times : (u v : ℕ) → u ≡ v → 2 * (n.den * u) ≡ 2 * (n.den * (v * 1))
+      times : (u v : ℕ) → u ≡ v → 2 * (n.den * u) ≡ (2 * n.den) * (v * 1)
       times u v e = let more = ap (λ (k : ℕ). n.den * k) e in omega (arith, more)
 
   root-enough : (start : List ℤ)
       → IsAtLeastRoot (under_root g.program (phases_of g n) n.den start) (signed_val (phases_root g n) start)
   root-enough start = record {
     each = λ e low.
-        let under = 2 * (n.den * (positive_part (polynomial_value (less_number (form_in (function_at (second_table g n) g.program.start)) n.den) start) * 1)) in
+        let under = (2 * n.den) * (positive_part (polynomial_value (less_number (form_in (function_at (second_table g n) g.program.start)) n.den) start) * 1) in
         let is = under-is start in
         root_at_most e (whole_root under) under (omega (arith, low, is)) (whole_root-next under);
   }

@@ -15,7 +15,7 @@ use Rattle.std.proofs.lemmas.Bool.Decides.{eqb_tells}
 use Rattle.potentials.proofs.model.RunLaws.{one_if_same-same}
 
 -- 1 for each step by a rule adds up to at most how often it occurs
-once-counted : (p : Program) (t : ℕ) (start : List ℤ) (steps : List Step)
+pub once-counted : (p : Program) (t : ℕ) (start : List ℤ) (steps : List Step)
     → weighed p (charges (once_charge t ∷ [])) start steps ≤ count t steps
 once-counted p t start [] = omega arith
 once-counted p t start (s ∷ earlier) = go (eqb_tells t s.rule) (once-counted p t start earlier)

@@ -17,7 +17,7 @@ use Rattle.potential_nodes.specs.Certificates.{RowsHoldAt}
 use Rattle.potential_nodes.specs.Ground.{IsGroundOf, IsTrueGround}
 use Rattle.potential_nodes.specs.Worked.{loop, entering_loop, counting_up, loop_rows, loop_new_values, loop_ground, gap}
 use Rattle.potential_nodes.specs.Worked.{keep, table, pays_once, LoopsAreBounded}
-use Rattle.potential_nodes.specs.Acceptance.{SignedLemma}
+use Rattle.potential_nodes.specs.SignedNodes.{SignedLemma}
 use Rattle.potential_nodes.proofs.AcceptanceLaws.{accepted-nodes}
 
 -- the guard of rule 2: A < B

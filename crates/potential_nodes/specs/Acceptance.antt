@@ -1,29 +1,17 @@
 -- Lemmas one after the other: when each is accepted, and what it states.
-use Rattle.std.specs.Prelude.{◌≡◌, ℕ, suc, List, [], ◌∷◌, ◌++◌, Option, Some, None}
+use Rattle.std.specs.Prelude.{◌≡◌, ℕ, suc, ◌+◌, List, [], ◌∷◌, ◌++◌, length, Option, Some, None, ⊤}
 use Rattle.signed_bounds.specs.Bounds.{Signed}
 use Rattle.signed_bounds.specs.Safe.{IsSafe}
 use Rattle.potential_nodes.specs.Ground.{Ground, IsTrueGround}
 use Rattle.potential_nodes.specs.Facts.{SignedFact, SumFact, PeakFact, AllSignedHold, HoldsSigned}
-use Rattle.potential_nodes.specs.Checks.{Reason, Check, first_refused}
-use Rattle.potential_nodes.specs.Falls.{FallNode, charges_of, fall_checks}
-use Rattle.potential_nodes.specs.Peaks.{PeakNode, peak_checks}
-use Rattle.potential_nodes.specs.Combinations.{Combination, combination_checks, combination_fact}
-use Rattle.potential_nodes.specs.PlainPeaks.{RowNode, row_checks, SizedNode, sized_checks}
-use Rattle.potential_nodes.specs.PhaseNodes.{PhasesNode, phases_fall, phases_checks}
-
--- the kinds of nodes
-pub data SignedNode : Type 0 where
-  Fall : FallNode → SignedNode
-  Peak : PeakNode → SignedNode
-  Row : RowNode → SignedNode
-  Combined : Combination → SignedNode
-  Sized : SizedNode → SignedNode
-  InPhases : PhasesNode → SignedNode
-
--- a lemma: a node, and the bound that it states
-pub record SignedLemma : Type 0 where
-  pub node : SignedNode
-  pub bound : Signed
+use Rattle.potential_nodes.specs.Checks.{Reason, Check, check, BadShape, first_refused}
+use Rattle.potential_nodes.specs.Falls.{charges_of, fall_checks}
+use Rattle.potential_nodes.specs.Peaks.{peak_checks}
+use Rattle.potential_nodes.specs.Combinations.{combination_checks, combination_fact}
+use Rattle.potential_nodes.specs.PlainPeaks.{row_checks, sized_checks}
+use Rattle.potential_nodes.specs.PhaseNodes.{phases_fall, phases_checks}
+use Rattle.potential_nodes.specs.SignedNodes.{SignedNode, SignedLemma, Fall, Peak, Row, Combined, Sized, InPhases}
+use Rattle.potential_nodes.specs.Limits.{is_within_limits}
 
 -- what is checked of a node after lemmas with these facts, in the order of the reasons
 abbrev pub node_checks : Ground → List SignedFact → SignedNode → Signed → List Check
@@ -43,9 +31,13 @@ node_fact facts (Combined n) b = combination_fact facts n b
 node_fact facts (Sized n) b = PeakFact n.rule n.form b
 node_fact facts (InPhases n) b = SumFact (charges_of (phases_fall n)) b
 
+-- what is checked of a lemma: it is within the limits, and then its node
+abbrev pub lemma_checks : Ground → List SignedFact → SignedLemma → List Check
+lemma_checks g facts l = check BadShape (is_within_limits l.node l.bound) ∷ node_checks g facts l.node l.bound
+
 -- the first reason for which a lemma isn't accepted after lemmas with these facts; none where it is accepted
 abbrev pub refusal : Ground → List SignedFact → SignedLemma → Option Reason
-refusal g facts l = first_refused (node_checks g facts l.node l.bound)
+refusal g facts l = first_refused (lemma_checks g facts l)
 
 -- the fact of a lemma
 abbrev pub fact_of : List SignedFact → SignedLemma → SignedFact
@@ -70,6 +62,31 @@ abbrev pub first_refusal : Ground → List SignedFact → ℕ → List SignedLem
 first_refusal g facts n [] = None
 first_refusal g facts n (l ∷ lemmas) =
     refused_or n (refusal g facts l) (first_refusal g (facts ++ fact_of facts l ∷ []) (suc n) lemmas)
+
+-- each lemma of a list is accepted behind the facts of those before it
+abbrev pub AreAccepted : Ground → List SignedFact → List SignedLemma → Type 0
+AreAccepted g facts [] = ⊤
+AreAccepted g facts (l ∷ lemmas) = (refusal g facts l ≡ None) × AreAccepted g (facts ++ fact_of facts l ∷ []) lemmas
+
+-- a lemma of a list is refused behind the facts of those before it, which are all accepted; the lemmas have the numbers
+-- from n on
+pub record IsFirstRefusal (g : Ground) (facts : List SignedFact) (n : ℕ) (lemmas : List SignedLemma) (r : Refusal) : Type 0 where
+  pub before : List SignedLemma
+  pub refused : SignedLemma
+  pub after : List SignedLemma
+  pub listed : lemmas ≡ before ++ refused ∷ after
+  pub number : r.number ≡ n + length before
+  pub accepted : AreAccepted g facts before
+  pub reason : refusal g (facts_after facts before) refused ≡ Some r.reason
+
+-- no lemma is refused exactly where each is accepted, and the refusal of a list is that of its first lemma that isn't
+pub record FirstRefusalsAreFirst : Type 0 where
+  pub accepts : (g : Ground) (facts : List SignedFact) (n : ℕ) (lemmas : List SignedLemma)
+      → first_refusal g facts n lemmas ≡ None → AreAccepted g facts lemmas
+  pub accepted : (g : Ground) (facts : List SignedFact) (n : ℕ) (lemmas : List SignedLemma)
+      → AreAccepted g facts lemmas → first_refusal g facts n lemmas ≡ None
+  pub refuses : (g : Ground) (facts : List SignedFact) (n : ℕ) (lemmas : List SignedLemma) (r : Refusal)
+      → first_refusal g facts n lemmas ≡ Some r → IsFirstRefusal g facts n lemmas r
 
 -- an accepted lemma states what holds on all runs
 abbrev pub AcceptedNodesHold : Type 0

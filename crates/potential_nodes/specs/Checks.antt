@@ -2,8 +2,8 @@
 use Rattle.std.specs.Prelude.{◌≡◌, ℕ, Bool, true, false, if◌then◌else◌, List, [], ◌∷◌, ◌++◌, Option, Some, None}
 use Rattle.std.specs.List.{AllByRecursion}
 
--- why a node isn't accepted: its shape; a rule without a move that may occur; the certificate of a move, of a floor or
--- of an amount; a gain without a bound; a stated bound that may be too low
+-- why a node isn't accepted: its shape; a rule without a move that may occur; the certificate of a move, of a floor (or
+-- of a form that is at most a number) or of an amount; a gain without a bound; a stated bound that may be too low
 pub data Reason : Type 0 where
   BadShape : Reason
   MissingTime : ℕ → Reason

@@ -12,7 +12,7 @@ use Rattle.potential_nodes.specs.Facts.{same_polynomial}
 use Rattle.potential_nodes.specs.Facts.{sum_bound, peak_bound, once_charge}
 use Rattle.potential_nodes.specs.Checks.{Check, check, BadShape, LowBound}
 
--- how facts are composed, each lemma by its number: how often a rule occurs times a peak; the lesser of two bounds on
+-- how facts are composed, each by its number: how often a rule occurs times a peak; the lesser of two bounds on
 -- one sum or one peak; two sums together; and charges that are among those of a sum
 pub data Combination : Type 0 where
   Times : ℕ → Polynomial → ℕ → ℕ → Combination
@@ -86,7 +86,7 @@ abbrev pub is_within_fact : Ground → Option SignedFact → Signed → Bool
 is_within_fact g None b = false
 is_within_fact g (Some fact) b = within g.is_safe 1 (bound_of fact) b
 
--- what is checked of composed facts: the lemmas state what is composed, and the bound is high enough
+-- what is checked of composed facts: the facts are there that are composed, and the bound is high enough
 abbrev pub combination_checks : Ground → List SignedFact → Combination → Signed → List Check
 combination_checks g facts n b =
     check BadShape (is_there (composed facts n)) ∷ check LowBound (is_within_fact g (composed facts n) b) ∷ []

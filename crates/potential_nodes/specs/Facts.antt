@@ -18,7 +18,7 @@ pub data SignedFact : Type 0 where
   SizeFact : ℕ → ℕ → Signed → SignedFact
 
 -- after every run whose last step is by the rule, the absolute value at the place is at most what the bound says; for
--- the virtual entry, this concerns the runs without a step
+-- the virtual entry this concerns the runs without a step
 pub record HoldsSignedSize (p : Program) (rule place : ℕ) (bound : List ℤ → ℕ) : Type 0 where
   pub each : (start : List ℤ) (steps : List Step) (c : Config) → IsRun p start steps c → last_rule steps ≡ rule
       → nat_abs (place_value c place) ≤ bound start
@@ -66,7 +66,7 @@ peak_bound_in rule form (Some (PeakFact rule' form' b)) =
     if (rule == rule') && same_polynomial form form' then Some b else None
 peak_bound_in rule form _ = None
 
--- what the lemma with a number says of a sum of charges, and of a form at the steps of a rule
+-- what the fact with a number says of a sum of charges, and of a form at the steps of a rule
 abbrev pub sum_bound : List SignedFact → List Charge → ℕ → Option Signed
 sum_bound facts goal n = sum_bound_in goal (numbered facts n)
 

@@ -62,7 +62,7 @@ abbrev pub payment_shape : Ground → PotentialTable → Payment → Check
 payment_shape g tab y = check BadShape
     (has_function tab (source_in (rule_at g.program y.rule)) && reads_below (g.variables y.rule) y.amount)
 
--- the bound that a lemma gives for the sum of a move's gain, where one is cited
+-- the bound that a fact gives for the sum of a move's gain, where one is cited
 abbrev pub sum_cited_by : List SignedFact → Move → Option ℕ → Option Signed
 sum_cited_by facts m None = None
 sum_cited_by facts m (Some n) = sum_bound facts (move_charge m ∷ []) n
@@ -70,7 +70,7 @@ sum_cited_by facts m (Some n) = sum_bound facts (move_charge m ∷ []) n
 abbrev pub sum_cited : List SignedFact → Move → Option Signed
 sum_cited facts m = sum_cited_by facts m m.cited
 
--- a lemma that a move cites states the sum of its gain
+-- a fact that a move cites is of the sum of its gain
 abbrev pub cites_sum_by : List SignedFact → Move → Option ℕ → Bool
 cites_sum_by facts m None = true
 cites_sum_by facts m (Some n) = is_there (sum_bound facts (move_charge m ∷ []) n)
@@ -78,7 +78,7 @@ cites_sum_by facts m (Some n) = is_there (sum_bound facts (move_charge m ∷ [])
 abbrev pub sum_shape : List SignedFact → Move → Check
 sum_shape facts m = check BadShape (cites_sum_by facts m m.cited)
 
--- the gain of a move is never over 0, or a lemma is cited for it
+-- the gain of a move is never over 0, or a fact is cited for it
 abbrev pub gain_check : Ground → Move → Check
 gain_check g m = check (BadGain m.rule) (is_there m.cited || g.is_safe (Negation (form_term m.gain)))
 

@@ -12,7 +12,10 @@ pub mod Peaks
 pub mod Combinations
 pub mod PlainPeaks
 pub mod PhaseNodes
+pub mod SignedNodes
+pub mod Limits
 pub mod Acceptance
+pub mod FactMeanings
 pub mod Laws
 -- values that were worked out by hand
 pub mod Worked

@@ -18,7 +18,7 @@ abbrev pub numbered : {A : Type 0} → List A → ℕ → Option A
 numbered xs zero = None
 numbered xs (suc n) = slice_get xs n
 
--- whether each number is above all before it, and above the bound where one is given
+-- whether a number is below each of others, and whether each number is above all before it
 abbrev pub is_below_all : ℕ → List ℕ → Bool
 is_below_all n [] = true
 is_below_all n (m ∷ ms) = nat_lt n m && is_below_all n ms

@@ -32,7 +32,7 @@ abbrev pub covered_shape : Ground → PeakNode → Check
 covered_shape g n = check BadShape
     (has_function n.potential (source_in (rule_at g.program n.rule)) && reads_below (g.variables n.rule) n.form)
 
--- the bound that a lemma gives for the peak of a move's gain, where one is cited
+-- the bound that a fact gives for the peak of a move's gain, where one is cited
 abbrev pub peak_cited_by : List SignedFact → Move → Option ℕ → Option Signed
 peak_cited_by facts m None = None
 peak_cited_by facts m (Some n) = peak_bound facts m.rule m.gain n
@@ -40,7 +40,7 @@ peak_cited_by facts m (Some n) = peak_bound facts m.rule m.gain n
 abbrev pub peak_cited : List SignedFact → Move → Option Signed
 peak_cited facts m = peak_cited_by facts m m.cited
 
--- a lemma that a move cites states the peak of its gain
+-- a fact that a move cites is of the peak of its gain
 abbrev pub cites_peak_by : List SignedFact → Move → Option ℕ → Bool
 cites_peak_by facts m None = true
 cites_peak_by facts m (Some n) = is_there (peak_bound facts m.rule m.gain n)

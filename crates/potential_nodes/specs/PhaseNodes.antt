@@ -1,5 +1,5 @@
 -- Two phases: when a node of this kind is accepted, and what it states.
-use Rattle.std.specs.Prelude.{ℕ, Bool, true, ◌&&◌, if◌then◌else◌, List, [], ◌∷◌, ◌++◌, map, pos, neg_ℤ}
+use Rattle.std.specs.Prelude.{ℕ, ◌*◌, Bool, true, ◌&&◌, if◌then◌else◌, List, [], ◌∷◌, ◌++◌, map, pos, neg_ℤ}
 use Rattle.std.specs.Prelude.{None}
 use Rattle.potentials.specs.model.Polynomials.{Polynomial, polynomial_value}
 use Rattle.potentials.specs.Phases.{Phases}
@@ -92,8 +92,8 @@ less_number q k = record { coef = neg_ℤ (pos k); vars = [] } ∷ q
 -- the bound of a node, den times: den, twice the first function at the start, and the root of 2 * den times the second
 -- one there less den
 abbrev pub phases_root : Ground → PhasesNode → Signed
-phases_root g n = Root (ProductOf (Part (Constant 2) (Part (Constant n.den)
-    (Part (PositivePart (less_number (form_in (function_at (second_table g n) g.program.start)) n.den)) NoParts))))
+phases_root g n = Root (ProductOf (Part (Constant (2 * n.den))
+    (Part (PositivePart (less_number (form_in (function_at (second_table g n) g.program.start)) n.den)) NoParts)))
 
 abbrev pub phases_signed : Ground → PhasesNode → Signed
 phases_signed g n = SumOf (Part (Constant n.den) (Part (ProductOf (Part (Constant 2)

@@ -33,7 +33,7 @@ row_checks g n b =
     (Subtraction (Literal (pos n.number)) (form_term n.form)))
     ∷ check LowBound (within g.is_safe 1 (Constant n.number) b) ∷ []
 
--- a form of a rule with sizes of its places: the numbers of lemmas that state the sizes
+-- a form of a rule with sizes of its places: the numbers of the facts that state the sizes
 pub record SizedNode : Type 0 where
   pub rule : ℕ
   pub form : Polynomial
@@ -44,7 +44,7 @@ abbrev pub left_in : Option Rule → ℕ
 left_in None = 0
 left_in (Some r) = r.left
 
--- the size of a place after a rule that a fact states, where it does; and the first one of some lemmas
+-- the size of a place after a rule that a fact states, where it does; and the first one of some facts
 abbrev pub size_in : ℕ → ℕ → Option SignedFact → Option Signed
 size_in e place (Some (SizeFact e' place' b)) = if (e == e') && (place == place') then Some b else None
 size_in e place _ = None

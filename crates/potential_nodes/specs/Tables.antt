@@ -21,7 +21,7 @@ pub record SymbolFunction : Type 0 where
   pub form : Polynomial
 
 -- the move of a rule to a symbol with a function: whether it keeps the function of its source or sets it anew, what it
--- gains at most, the number of the lemma that bounds the gain where one is needed, and the certificate
+-- gains at most, the number of the fact that bounds the gain where one is needed, and the certificate
 pub record Move : Type 0 where
   pub rule : ℕ
   pub keeps : Bool
@@ -152,11 +152,6 @@ missing_checks g tab never = missing_from tab never 1 g.program.rules
 abbrev pub move_check : Ground → PotentialTable → (ℕ → Polynomial) → Move → Check
 move_check g tab amounts m =
     check (BadMove m.rule) (shows g.is_safe (g.rows m.rule) m.certificate (move_goal g tab amounts m))
-
--- what is checked of a table, where each rule takes its amount
-abbrev pub table_checks : Ground → PotentialTable → (ℕ → Polynomial) → (ℕ → Bool) → List Check
-table_checks g tab amounts never =
-    table_shape g tab ++ (missing_checks g tab never ++ map (move_check g tab amounts) tab.moves)
 
 -- the level at the start as a bound
 abbrev pub start_bound_in : Option SymbolFunction → Signed

@@ -15,7 +15,8 @@ use Rattle.potential_nodes.specs.Checks.{Reason, BadShape, MissingTime, BadMove,
 use Rattle.potential_nodes.specs.Tables.{SymbolFunction, Move, PotentialTable}
 use Rattle.potential_nodes.specs.Combinations.{Times, Least, Add, Among}
 use Rattle.potential_nodes.specs.PhaseNodes.{PhasesNode, phases_signed}
-use Rattle.potential_nodes.specs.Acceptance.{SignedNode, Fall, Peak, Row, Combined, Sized, InPhases, refusal}
+use Rattle.potential_nodes.specs.SignedNodes.{SignedNode, Fall, Peak, Row, Combined, Sized, InPhases}
+use Rattle.potential_nodes.specs.Acceptance.{refusal}
 
 -- the rules l0(A, B) -> l1(A, B), and l1(A, B) -> l1(A + 1, B) where A < B
 abbrev pub entering_loop : Rule
@@ -123,8 +124,9 @@ pays_once tab = Fall (record {
 abbrev pub refused : List SignedFact → SignedNode → Signed → Option Reason
 refused facts n b = refusal loop_ground facts (record { node = n; bound = b })
 
--- B - A at both symbols pays, with the bound [B - A]; not with a lower bound, with no move of rule 1, with a function
--- that is lower by 1, with A, with den 0, or with a gain of A that no lemma bounds
+-- B - A at both symbols pays, with the bound [B - A]; not with a lower bound, with no move of rule 1 unless it never
+-- occurs, with a function that is lower by 1, with A, with den 0, with moves in another order, or with a gain of 1 that no
+-- fact bounds
 pub record FallsAreWorkedOut : Type 0 where
   pub accepted : refused [] (pays_once (table 1 (gap (pos 0)) (keep 1 [] ∷ keep 2 [] ∷ [])))
       (PositivePart (gap (pos 0))) ≡ None

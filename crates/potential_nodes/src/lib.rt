@@ -6,7 +6,8 @@
 ghost use Rattle.potential_nodes.specs.Certificates.{CertificatesOfProductsHold};
 ghost use Rattle.potential_nodes.specs.Checks.{RefusalsAreFailures};
 ghost use Rattle.potential_nodes.specs.PlainFacts.{PlainFactsHold};
-ghost use Rattle.potential_nodes.specs.Acceptance.{AcceptedNodesHold, AcceptedLemmasHold};
+ghost use Rattle.potential_nodes.specs.Acceptance.{AcceptedNodesHold, AcceptedLemmasHold, FirstRefusalsAreFirst};
+ghost use Rattle.potential_nodes.specs.FactMeanings.{FactsBoundRuns};
 ghost use Rattle.potential_nodes.specs.Laws.{FallsAreSound, PeaksAreSound};
 ghost use Rattle.potential_nodes.specs.Worked.{CertificatesAreWorkedOut, FallsAreWorkedOut, PeaksAreWorkedOut};
 ghost use Rattle.potential_nodes.specs.Worked.{CombinationsAreWorkedOut, PhaseNodesAreWorkedOut, LoopsAreBounded};
@@ -19,6 +20,18 @@ pub fn certificates_of_products_hold()
 /// No check of a list is refused exactly where all hold, and a refusal has the reason of the first that fails.
 pub fn refusals_are_failures()
     ensures { RefusalsAreFailures }
+{}
+
+/// No lemma of a list is refused exactly where each is accepted behind the facts of those before it, and the refusal of
+/// a list has the number and the reason of the first lemma that isn't.
+pub fn refusals_are_first()
+    ensures { FirstRefusalsAreFirst }
+{}
+
+/// What signed facts say of runs: how often a rule occurs, how long a run is, what the steps of a rule spend, and how
+/// large the value at a place is behind a step, from above, from below and by its absolute value.
+pub fn facts_bound_runs()
+    ensures { FactsBoundRuns }
 {}
 
 /// A fact over the absolute values of the start arguments holds as a signed one.
@@ -65,8 +78,8 @@ pub fn nodes_are_as_worked_out()
     ensures phases { PhaseNodesAreWorkedOut }
 {}
 
-/// The whole way on a loop that counts A up to B: what is known of its steps is true, the lemma is accepted, and its
-/// rule occurs at most `[B - A]` times, and not always once less.
+/// The whole way on a loop that counts A up to B: what is known of its steps is true, and the charge 1 of its rule adds
+/// up to at most `[B - A]` in each run, and not always to 1 less.
 pub fn loops_are_bounded()
     ensures { LoopsAreBounded }
 {

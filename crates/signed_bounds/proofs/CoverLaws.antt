@@ -3,15 +3,17 @@ use Rattle.std.proofs.Common.{◌≡◌, ℕ, ◌+◌, ◌-◌, ◌*◌, ◌<◌
 use Rattle.std.proofs.Common.{Option, Some, None, max, refl, ap, subst, ◌∙◌, arith}
 use Rattle.std.specs.Prelude.{ℤ, ◌==◌, nat_le, if◌then◌else◌, option_map}
 use Rattle.std.proofs.Math.Nat.{mul-le-mul_left, mul-le-mul_right, le_trans}
-use Rattle.std.proofs.lemmas.Bool.{or_cases, cases_lt, leb-true, eqb-true}
+use Rattle.std.proofs.lemmas.Bool.{and_parts, or_cases, cases_lt, leb-true, eqb-true}
 use Rattle.poly_terms.specs.model.Terms.{Term}
-use Rattle.signed_bounds.specs.Bounds.{Signed, Constant, PositivePart}
+use Rattle.poly_terms.specs.model.Polynomials.{Polynomial, polynomial_value}
+use Rattle.signed_bounds.specs.Bounds.{Signed, Constant, PositivePart, positive_part}
 use Rattle.signed_bounds.specs.Bounds.{SignedParts, NoParts, Part, signed_val, signed_maximum}
 use Rattle.signed_bounds.specs.Safe.{IsSafe}
-use Rattle.signed_bounds.specs.Products.{Product, factors_val, products_val}
+use Rattle.signed_bounds.specs.Products.{Product, factors_val, products_val, is_comparable}
 use Rattle.signed_bounds.specs.Fits.{is_equal, factor_fits, maximum_parts}
 use Rattle.signed_bounds.specs.Covers.{without_first, or_else, without_equal, without_fitting, are_matched}
 use Rattle.signed_bounds.specs.Covers.{factors_equal, factors_fit, missing_times, used_up, missing_products, all_used_up}
+use Rattle.signed_bounds.specs.Covers.{whole_polynomial, fits_polynomial, fits_maximum}
 use Rattle.signed_bounds.specs.Covers.{is_below_constant, fits_whole, emptied, used_whole, without_product, dominated}
 use Rattle.signed_bounds.specs.Covers.{covers}
 use Rattle.signed_bounds.proofs.Choices.{contradiction, none_is_no_value, option_map-Some}
@@ -120,6 +122,20 @@ is_below_constant-le n m (Part b bs) e x =
     let h : signed_maximum bs x ≤ max (signed_val b x) (signed_maximum bs x) = omega arith in
     le_trans (is_below_constant-le n m bs e x) (mul-le-mul_left m h)
 
+-- the positive part of a polynomial, and 1 where there is none
+abbrev part_at : List ℤ → Option Polynomial → ℕ
+part_at x None = 1
+part_at x (Some q) = positive_part (polynomial_value q x)
+
+-- the product of factors that are one polynomial is its positive part
+whole_polynomial-value : (fs : List Signed) (p : Polynomial) → whole_polynomial fs ≡ Some p → (x : List ℤ)
+    → factors_val fs x ≡ positive_part (polynomial_value p x)
+whole_polynomial-value [] p e x =
+    ap (part_at x) e
+whole_polynomial-value (PositivePart q ∷ []) p e x =
+    omega (arith, ap (part_at x) e)
+whole_polynomial-value _ p e x = none_is_no_value e
+
 module _ (is_safe : Term → Bool) (safe : IsSafe is_safe) where
   -- a bound times the factors without an equal one are at most all factors
   pub without_equal-le : (a : Signed) (bs rest : List Signed) → without_equal is_safe a bs ≡ Some rest
@@ -147,16 +163,37 @@ module _ (is_safe : Term → Bool) (safe : IsSafe is_safe) where
       → factors_val fs x ≤ factors_val gs x
   factors_fit-le = are_matched-le (without_fitting is_safe) without_fitting-le
 
-  -- a product that fits another as a whole is at most it
-  pub fits_whole-le : (n : ℕ) (fs : List Signed) (m : ℕ) (gs : List Signed) → fits_whole is_safe n fs m gs ≡ true
+  -- n times one polynomial that fits m times another is at most it
+  fits_polynomial-le : (n m : ℕ) (f g : Option Polynomial) (u v : ℕ) (x : List ℤ)
+      → ((p : Polynomial) → f ≡ Some p → u ≡ positive_part (polynomial_value p x))
+      → ((p : Polynomial) → g ≡ Some p → v ≡ positive_part (polynomial_value p x))
+      → fits_polynomial is_safe n f m g ≡ true → n * u ≤ m * v
+  fits_polynomial-le n m (Some f) (Some h) u v x is_u is_v e =
+      let k = weighted-le is_safe safe n m f h e x in
+      omega (arith, ap (λ (w : ℕ). n * w) (is_u f refl), ap (λ (w : ℕ). m * w) (is_v h refl))
+  fits_polynomial-le n m _ _ u v x is_u is_v e = contradiction e
+
+  -- a number that fits a maximum is at most it
+  fits_maximum-le : (n : ℕ) (fs : List Signed) (m : ℕ) (gs : List Signed) → fits_maximum n fs m gs ≡ true
       → (x : List ℤ) → n * factors_val fs x ≤ m * factors_val gs x
-  fits_whole-le n (PositivePart f ∷ []) m (PositivePart h ∷ []) e x =
-      let k = weighted-le is_safe safe n m f h e x in omega arith
-  fits_whole-le n [] m (b ∷ []) e x =
+  fits_maximum-le n [] m (b ∷ []) e x =
       let k = is_below_constant-le n m (maximum_parts b) e x in
       let l = mul-le-mul_left m (maximum_parts-le is_safe safe b x) in
       omega arith
-  fits_whole-le n _ m _ e x = contradiction e
+  fits_maximum-le n _ m _ e x = contradiction e
+
+  -- a product that fits another as a whole is at most it
+  pub fits_whole-le : (n : ℕ) (fs : List Signed) (m : ℕ) (gs : List Signed) → fits_whole is_safe n fs m gs ≡ true
+      → (x : List ℤ) → n * factors_val fs x ≤ m * factors_val gs x
+  fits_whole-le n fs m gs e x =
+      go (or_cases (fits_polynomial is_safe n (whole_polynomial fs) m (whole_polynomial gs)) (fits_maximum n fs m gs) e)
+    where
+      go : (fits_polynomial is_safe n (whole_polynomial fs) m (whole_polynomial gs) ≡ true)
+          ⊎ (fits_maximum n fs m gs ≡ true)
+          → n * factors_val fs x ≤ m * factors_val gs x
+      go (inl k) = fits_polynomial-le n m (whole_polynomial fs) (whole_polynomial gs) (factors_val fs x)
+          (factors_val gs x) x (λ p h. whole_polynomial-value fs p h x) (λ p h. whole_polynomial-value gs p h x) k
+      go (inr k) = fits_maximum-le n fs m gs k x
 
   -- a product and the products once one that it fits as a whole is used up are at most all products
   pub used_whole-le : (p : Product) (qs rest : List Product) → used_whole is_safe p qs ≡ Some rest
@@ -232,8 +269,7 @@ module _ (is_safe : Term → Bool) (safe : IsSafe is_safe) where
   pub covers-le : (ps qs : List Product) → covers is_safe ps qs ≡ true → (x : List ℤ)
       → products_val ps x ≤ products_val qs x
   covers-le ps qs e x =
-      omega (
-        arith,
-        dominated-le (missing_products (factors_equal is_safe) ps qs) (all_used_up (factors_equal is_safe) ps qs) e x,
-        all_used_up-le ps qs x,
-      )
+      let missing = missing_products (factors_equal is_safe) ps qs in
+      let left = all_used_up (factors_equal is_safe) ps qs in
+      let both = and_parts (is_comparable ps qs) (dominated is_safe missing left) e in
+      omega (arith, dominated-le missing left both.1 x, all_used_up-le ps qs x)

@@ -5,6 +5,7 @@ pub mod ProductValues
 pub mod FitLaws
 pub mod CoverLaws
 pub mod WithinLaws
+pub mod ReflexiveLaws
 pub mod InputValues
 pub mod Squares
 mod WorkedValues

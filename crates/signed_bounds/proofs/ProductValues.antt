@@ -1,9 +1,13 @@
 -- The value of a bound is the sum of the products that it is multiplied out into.
-use Rattle.std.proofs.Common.{◌≡◌, ℕ, ◌+◌, ◌*◌, List, [], ◌∷◌, ◌++◌, map, ap, ap₂, arith, refl, ◌∙◌}
-use Rattle.std.specs.Prelude.{ℤ}
+use Rattle.std.proofs.Common.{◌≡◌, ℕ, ◌+◌, ◌*◌, List, [], ◌∷◌, ◌++◌, map, ap, ap₂, arith, refl, sym, ◌∙◌}
+use Rattle.std.specs.Prelude.{ℤ, pos, ◌+ℤ◌, ◌*ℤ◌}
+use Rattle.std.proofs.lemmas.Int.{ints}
+use Rattle.poly_terms.specs.model.Polynomials.{Monomial, Polynomial, product_value}
 use Rattle.signed_bounds.specs.Bounds.{Signed, Constant, PositivePart, SumOf, ProductOf, MaximumOf, MinimumOf, Quotient}
 use Rattle.signed_bounds.specs.Bounds.{Root, PowerOf, SignedParts, NoParts, Part, signed_val, signed_sum, signed_product}
+use Rattle.signed_bounds.specs.Bounds.{positive_part}
 use Rattle.signed_bounds.specs.Products.{Product, factors_val, products_val, joined, multiplied, scaled}
+use Rattle.signed_bounds.specs.Products.{constant_part_of, part_or_number, part_product}
 use Rattle.signed_bounds.specs.Products.{number, products_of, products_of_sum, multiplied_by_parts}
 
 -- the factors of two lists multiply
@@ -59,11 +63,35 @@ once v = omega arith
 mul_assoc : (u v w : ℕ) → (u * v) * w ≡ u * (v * w)
 mul_assoc u v w = omega arith
 
+-- a number as a product without factors has its value
+number_value : (v : ℕ) → v * 1 + 0 ≡ v
+number_value v = omega arith
+
+-- an integer, as a monomial without variables alone
+single_value : (z : ℤ) → z ≡ (z *ℤ pos 1) +ℤ pos 0
+single_value z = omega (arith, ints)
+
+-- the positive part of one monomial as a product has its value
+monomial_part-value : (m : Monomial) (vars : List ℕ) → m.vars ≡ vars → (x : List ℤ)
+    → products_val (part_or_number (m ∷ []) (constant_part_of m.coef vars) ∷ []) x
+    ≡ signed_val (PositivePart (m ∷ [])) x
+monomial_part-value m [] e x =
+    number_value (positive_part m.coef)
+    ∙ ap positive_part (single_value m.coef)
+    ∙ sym (ap (λ (vars : List ℕ). positive_part ((m.coef *ℤ product_value vars x) +ℤ pos 0)) e)
+monomial_part-value m (v ∷ vars) e x = factor_value (signed_val (PositivePart (m ∷ [])) x)
+
+-- the positive part of a polynomial as a product has its value
+part_product-value : (p : Polynomial) (x : List ℤ) → products_val (part_product p ∷ []) x ≡ signed_val (PositivePart p) x
+part_product-value [] x = refl
+part_product-value (m ∷ []) x = monomial_part-value m m.vars refl x
+part_product-value (m ∷ n ∷ ms) x = factor_value (signed_val (PositivePart (m ∷ n ∷ ms)) x)
+
 mutual
   -- the products of a bound add up to its value
   pub products_of-value : (b : Signed) (x : List ℤ) → products_val (products_of b) x ≡ signed_val b x
   products_of-value (Constant c) x = omega arith
-  products_of-value (PositivePart p) x = factor_value (signed_val (PositivePart p) x)
+  products_of-value (PositivePart p) x = part_product-value p x
   products_of-value (SumOf bs) x = products_of_sum-value bs x
   products_of-value (ProductOf bs) x =
       multiplied_by_parts-value bs (number 1 ∷ []) x ∙ once (signed_product bs x)

@@ -12,7 +12,8 @@ use Rattle.signed_bounds.specs.Safe.{IsSafe}
 use Rattle.signed_bounds.specs.Products.{Product, factors_val, products_val, number, scaled, products_of, is_multipliable}
 use Rattle.signed_bounds.specs.Covers.{covers}
 use Rattle.signed_bounds.specs.Within.{numerator, once_less, is_covered_with_numerator, is_covered_by_quotient}
-use Rattle.signed_bounds.specs.Within.{is_covered_rounded, within, WithinHolds}
+use Rattle.signed_bounds.specs.Limits.{quotient_limit}
+use Rattle.signed_bounds.specs.Within.{is_covered_rounded, quotient_count, is_covered_by_some, within, WithinHolds}
 use Rattle.signed_bounds.proofs.Choices.{contradiction, none_is_no_value}
 use Rattle.signed_bounds.proofs.ProductValues.{products_val-append, products_val-scaled, products_of-value}
 use Rattle.signed_bounds.proofs.CoverLaws.{covers-le}
@@ -113,12 +114,12 @@ module _ (is_safe : Term → Bool) (safe : IsSafe is_safe) where
   within-le den a b positive e x n h =
       let limited = is_multipliable 1 a && is_multipliable den b in
       let direct = is_covered_rounded is_safe den (products_of a) (products_of b) in
-      let quotient = is_covered_by_quotient is_safe den (products_of a) [] (products_of b) in
+      let quotient = is_covered_by_some is_safe den (products_of a) (products_of b) in
       let both = and_parts limited (direct || quotient) e in
       go (or_cases direct quotient both.1)
     where
       go : (is_covered_rounded is_safe den (products_of a) (products_of b) ≡ true)
-          ⊎ (is_covered_by_quotient is_safe den (products_of a) [] (products_of b) ≡ true) → n ≤ signed_val b x
+          ⊎ (is_covered_by_some is_safe den (products_of a) (products_of b) ≡ true) → n ≤ signed_val b x
       go (inl k) =
           let most = covers-le is_safe safe (products_of a) (number (den - 1) ∷ scaled den (products_of b)) k x in
           rounded den n (signed_val b x) positive
@@ -130,7 +131,13 @@ module _ (is_safe : Term → Bool) (safe : IsSafe is_safe) where
           ))
       go (inr k) =
           let l : den * n ≤ products_val (products_of a) x = omega (arith, products_of-value a x) in
-          omega (arith, covered_by_quotient-le den (products_of a) [] (products_of b) positive k x n l, products_of-value b x)
+          let some = (and_parts (nat_le (quotient_count den (products_of b)) quotient_limit)
+          (is_covered_by_quotient is_safe den (products_of a) [] (products_of b)) k).1 in
+          omega (
+            arith,
+            covered_by_quotient-le den (products_of a) [] (products_of b) positive some x n l,
+            products_of-value b x,
+          )
 
 -- the law
 pub within_holds : WithinHolds

@@ -1,7 +1,8 @@
 -- The worked values, each by computing.
 use Rattle.std.proofs.Common.{refl}
 use Rattle.signed_bounds.specs.Worked.{BoundsHaveTheirValues, InputsAreAbsoluteValues, MeasuresAreWorkedOut, SquaresAreFound}
-use Rattle.signed_bounds.specs.Worked.{ProductsAreMultipliedOut, SumsAreCompared, QuotientsAreCompared, ShapesAreCompared}
+use Rattle.signed_bounds.specs.Worked.{ProductsAreMultipliedOut, ConstantPartsAreNumbers, SumsAreCompared}
+use Rattle.signed_bounds.specs.Worked.{QuotientsAreCompared, ShapesAreCompared, LimitsOfComparisons}
 
 -- values of bounds
 pub values : BoundsHaveTheirValues
@@ -36,7 +37,7 @@ inputs = record {
   negative_second = refl;
 }
 
--- nodes and levels
+-- nodes, levels and constants
 pub measures : MeasuresAreWorkedOut
 measures = record {
   polynomial = refl;
@@ -48,6 +49,10 @@ measures = record {
   nodes_beyond = refl;
   levels_at_most = refl;
   levels_beyond = refl;
+  largest = refl;
+  large_constant = refl;
+  large_divisor = refl;
+  large = refl;
 }
 
 -- sums of squares
@@ -77,6 +82,27 @@ products = record {
   twice = refl;
 }
 
+-- positive parts of constants
+pub constant_parts : ConstantPartsAreNumbers
+constant_parts = record {
+  three = refl;
+  negative = refl;
+  empty = refl;
+  sum = refl;
+  variable = refl;
+  one = refl;
+  by_one = refl;
+  two_ones = refl;
+  zero_in_zero = refl;
+  two_in_one = refl;
+  largest = refl;
+  twice_large = refl;
+  in_polynomial = refl;
+  above_polynomial = refl;
+  polynomial = refl;
+  above = refl;
+}
+
 -- sums that are compared
 pub sums : SumsAreCompared
 sums = record {
@@ -94,6 +120,8 @@ sums = record {
   whole = refl;
   in_parts = refl;
   not_whole = refl;
+  used_once = refl;
+  used_whole = refl;
   largest = refl;
   past_limit = refl;
 }
@@ -112,6 +140,7 @@ quotients = record {
   itself = refl;
   other_divisor = refl;
   with_other_divisor = refl;
+  rounded_twice = refl;
   second_quotient = refl;
 }
 
@@ -129,4 +158,25 @@ shapes = record {
   power = refl;
   lesser_base = refl;
   base_0 = refl;
+  root_of_sum = refl;
+  root_of_other_order = refl;
+  root_of_product = refl;
+  not_root_of_product = refl;
+  maximum = refl;
+  not_maximum = refl;
+  root_of_quotient = refl;
+  root_of_other_quotient = refl;
+  fewer_parts = refl;
+  more_parts = refl;
+}
+
+-- what is too large to be compared
+pub limits : LimitsOfComparisons
+limits = record {
+  size = refl;
+  largest = refl;
+  larger = refl;
+  too_large = refl;
+  sixteen = refl;
+  seventeen = refl;
 }

@@ -1,9 +1,10 @@
 -- When one sum of products is at most another, product by product.
-use Rattle.std.specs.Prelude.{ℕ, ◌-◌, ◌*◌, Bool, true, false, ◌||◌, ◌==◌, nat_le, if◌then◌else◌, List, [], ◌∷◌}
-use Rattle.std.specs.Prelude.{Option, Some, None, option_map}
+use Rattle.std.specs.Prelude.{ℕ, ◌-◌, ◌*◌, Bool, true, false, ◌&&◌, ◌||◌, ◌==◌, nat_le, if◌then◌else◌, List, [], ◌∷◌}
+use Rattle.std.specs.Prelude.{Option, Some, None, option_map, pos}
+use Rattle.poly_terms.specs.model.Polynomials.{Polynomial}
 use Rattle.poly_terms.specs.model.Terms.{Term}
 use Rattle.signed_bounds.specs.Bounds.{Signed, Constant, PositivePart, SignedParts, NoParts, Part}
-use Rattle.signed_bounds.specs.Products.{Product}
+use Rattle.signed_bounds.specs.Products.{Product, is_comparable}
 use Rattle.signed_bounds.specs.Fits.{is_equal, factor_fits, maximum_parts, weighted_difference}
 
 -- the factors without the first one that passes a test; none where none passes
@@ -73,12 +74,31 @@ is_below_constant n m NoParts = false
 is_below_constant n m (Part (Constant c) bs) = nat_le n (m * c) || is_below_constant n m bs
 is_below_constant n m (Part b bs) = is_below_constant n m bs
 
--- whether n times the first factors are at most m times the second as a whole: a polynomial each, or a number and a
--- maximum with a constant that is large enough
+-- the polynomial 1
+abbrev pub one_polynomial : Polynomial
+one_polynomial = record { coef = pos 1; vars = [] } ∷ []
+
+-- the polynomial whose positive part the product of the factors is, where they are none or one
+abbrev pub whole_polynomial : List Signed → Option Polynomial
+whole_polynomial [] = Some one_polynomial
+whole_polynomial (PositivePart p ∷ []) = Some p
+whole_polynomial _ = None
+
+-- whether n times the first polynomial is at most m times the second, where both are there
+abbrev pub fits_polynomial : (Term → Bool) → ℕ → Option Polynomial → ℕ → Option Polynomial → Bool
+fits_polynomial is_safe n (Some f) m (Some h) = is_safe (weighted_difference n f m h)
+fits_polynomial is_safe n _ m _ = false
+
+-- whether the number n is at most m times a maximum, by a constant among its parts
+abbrev pub fits_maximum : ℕ → List Signed → ℕ → List Signed → Bool
+fits_maximum n [] m (b ∷ []) = is_below_constant n m (maximum_parts b)
+fits_maximum n _ m _ = false
+
+-- whether n times the first factors are at most m times the second as a whole: a number or a polynomial each, or a
+-- number and a maximum with a constant that is large enough
 abbrev pub fits_whole : (Term → Bool) → ℕ → List Signed → ℕ → List Signed → Bool
-fits_whole is_safe n (PositivePart f ∷ []) m (PositivePart h ∷ []) = is_safe (weighted_difference n f m h)
-fits_whole is_safe n [] m (b ∷ []) = is_below_constant n m (maximum_parts b)
-fits_whole is_safe n _ m _ = false
+fits_whole is_safe n fs m gs =
+    fits_polynomial is_safe n (whole_polynomial fs) m (whole_polynomial gs) || fits_maximum n fs m gs
 
 -- a product that is used up
 abbrev pub emptied : Product → Product
@@ -107,8 +127,9 @@ dominated is_safe (p ∷ ps) qs =
     elim (without_product is_safe p qs) [ None ↦ false | Some rest ↦ dominated is_safe ps rest ]
 
 -- whether the first sum is at most the second, product by product: equal products are used up first, and what is left
--- is dominated
+-- is dominated; sums that are too large together aren't compared
 abbrev pub covers : (Term → Bool) → List Product → List Product → Bool
-covers is_safe ps qs = dominated is_safe
+covers is_safe ps qs =
+    is_comparable ps qs && dominated is_safe
     (missing_products (factors_equal is_safe) ps qs)
     (all_used_up (factors_equal is_safe) ps qs)

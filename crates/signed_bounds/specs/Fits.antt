@@ -5,17 +5,17 @@ use Rattle.poly_terms.specs.model.Polynomials.{Polynomial}
 use Rattle.signed_bounds.specs.Bounds.{Signed, Constant, PositivePart, SumOf, ProductOf, MaximumOf, MinimumOf, Quotient}
 use Rattle.signed_bounds.specs.Bounds.{Root, PowerOf, SignedParts, NoParts, Part, signed_val}
 
--- the product of variables ds an expression
+-- the product of variables as an expression
 abbrev pub product_term : List ℕ → Term
 product_term [] = Literal (pos 1)
 product_term (v ∷ vs) = Multiplication (Variable v) (product_term vs)
 
--- a polynomial ds an expression
+-- a polynomial as an expression
 abbrev pub polynomial_term : Polynomial → Term
 polynomial_term [] = Literal (pos 0)
 polynomial_term (m ∷ ms) = Addition (Multiplication (Literal m.coef) (product_term m.vars)) (polynomial_term ms)
 
--- m times the second polynomial less n times the first, ds an expression
+-- m times the second polynomial less n times the first, as an expression
 abbrev pub weighted_difference : ℕ → Polynomial → ℕ → Polynomial → Term
 weighted_difference n f m h = Subtraction
     (Multiplication (Literal (pos m)) (polynomial_term h))

@@ -10,6 +10,7 @@ pub mod Products
 pub mod Fits
 pub mod Covers
 pub mod Within
+pub mod Reflexive
 -- values that were worked out by hand
 pub mod Worked
 -- the crates below, which callers name through this one

@@ -16,3 +16,11 @@ depth_limit = 200
 -- the maximum number of products that a comparison multiplies a bound out into
 abbrev pub product_limit : ℕ
 product_limit = 4096
+
+-- the maximum number of pairs of factors that a comparison of two sums of products looks at
+abbrev pub comparison_limit : ℕ
+comparison_limit = 131072
+
+-- the maximum number of quotients by the common denominator that a comparison takes apart
+abbrev pub quotient_limit : ℕ
+quotient_limit = 16

@@ -1,9 +1,9 @@
 -- How large a signed bound is.
-use Rattle.std.specs.Prelude.{ℕ, ◌+◌, max, nat_lt, ◌||◌, Bool, [], ◌∷◌, length}
+use Rattle.std.specs.Prelude.{ℕ, ◌+◌, max, nat_lt, ◌||◌, Bool, false, [], ◌∷◌, length}
 use Rattle.poly_terms.specs.model.Polynomials.{Polynomial}
 use Rattle.signed_bounds.specs.Bounds.{Signed, Constant, PositivePart, SumOf, ProductOf, MaximumOf, MinimumOf, Quotient}
 use Rattle.signed_bounds.specs.Bounds.{Root, PowerOf, SignedParts, NoParts, Part}
-use Rattle.signed_bounds.specs.Limits.{node_limit, depth_limit}
+use Rattle.signed_bounds.specs.Limits.{constant_limit, node_limit, depth_limit}
 
 -- the number of nodes of a polynomial: its monomials and their factors
 abbrev pub polynomial_nodes : Polynomial → ℕ
@@ -47,3 +47,24 @@ abbrev mutual
 -- a bound is large: it has more than 4,096 nodes, or more than 200 levels
 abbrev pub is_large : Signed → Bool
 is_large b = nat_lt node_limit (node_count b) || nat_lt depth_limit (depth_of b)
+
+-- some constant or divisor is over 2^127 - 1
+abbrev mutual
+  pub has_large_constant : Signed → Bool
+  has_large_constant (Constant c) = nat_lt constant_limit c
+  has_large_constant (PositivePart p) = false
+  has_large_constant (SumOf bs) = some_have_large_constant bs
+  has_large_constant (ProductOf bs) = some_have_large_constant bs
+  has_large_constant (MaximumOf bs) = some_have_large_constant bs
+  has_large_constant (MinimumOf b bs) = has_large_constant b || some_have_large_constant bs
+  has_large_constant (Quotient b d) = nat_lt constant_limit d || has_large_constant b
+  has_large_constant (Root b) = has_large_constant b
+  has_large_constant (PowerOf c e) = has_large_constant e
+
+  pub some_have_large_constant : SignedParts → Bool
+  some_have_large_constant NoParts = false
+  some_have_large_constant (Part b bs) = has_large_constant b || some_have_large_constant bs
+
+-- a bound exceeds the limits: it is large, or has a constant or a divisor over 2^127 - 1
+abbrev pub exceeds_limits : Signed → Bool
+exceeds_limits b = is_large b || has_large_constant b

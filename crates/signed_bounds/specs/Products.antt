@@ -1,8 +1,10 @@
 -- Bounds as sums of products.
-use Rattle.std.specs.Prelude.{ℕ, ◌+◌, ◌*◌, max, Bool, ◌&&◌, nat_le, List, [], ◌∷◌, ◌++◌, map, ℤ}
+use Rattle.std.specs.Prelude.{ℕ, ◌+◌, ◌*◌, max, Bool, ◌&&◌, nat_le, List, [], ◌∷◌, ◌++◌, length, map, ℤ}
+use Rattle.std.specs.Prelude.{Option, Some, None}
+use Rattle.poly_terms.specs.model.Polynomials.{Polynomial}
 use Rattle.signed_bounds.specs.Bounds.{Signed, Constant, PositivePart, SumOf, ProductOf, MaximumOf, MinimumOf, Quotient}
-use Rattle.signed_bounds.specs.Bounds.{Root, PowerOf, SignedParts, NoParts, Part, signed_val}
-use Rattle.signed_bounds.specs.Limits.{constant_limit, product_limit}
+use Rattle.signed_bounds.specs.Bounds.{Root, PowerOf, SignedParts, NoParts, Part, signed_val, positive_part}
+use Rattle.signed_bounds.specs.Limits.{constant_limit, product_limit, comparison_limit}
 
 -- a product of bounds, taken a number of times
 pub record Product : Type 0 where
@@ -32,6 +34,25 @@ number n = record { times = n; factors = [] }
 abbrev pub factor : Signed → Product
 factor b = record { times = 1; factors = b ∷ [] }
 
+-- the positive part of an integer times variables, where there is no variable
+abbrev pub constant_part_of : ℤ → List ℕ → Option ℕ
+constant_part_of z [] = Some (positive_part z)
+constant_part_of z (v ∷ vs) = None
+
+-- the positive part of a polynomial that is written as a number: without monomials, or with one that has no variables
+abbrev pub constant_part : Polynomial → Option ℕ
+constant_part [] = Some 0
+constant_part (m ∷ []) = constant_part_of m.coef m.vars
+constant_part (m ∷ n ∷ ms) = None
+
+-- the positive part of a polynomial as a product: a number where the polynomial is written as one, else a factor
+abbrev pub part_or_number : Polynomial → Option ℕ → Product
+part_or_number p None = factor (PositivePart p)
+part_or_number p (Some n) = number n
+
+abbrev pub part_product : Polynomial → Product
+part_product p = part_or_number p (constant_part p)
+
 -- the product of two products
 abbrev pub joined : Product → Product → Product
 joined p q = record { times = p.times * q.times; factors = p.factors ++ q.factors }
@@ -46,12 +67,12 @@ abbrev pub scaled : ℕ → List Product → List Product
 scaled n [] = []
 scaled n (p ∷ ps) = record { times = n * p.times; factors = p.factors } ∷ scaled n ps
 
--- a bound as a sum of products: sums and products are multiplied out, constants are numbers, and everything else is a
--- factor
+-- a bound as a sum of products: sums and products are multiplied out, constants and positive parts of constants are
+-- numbers, and everything else is a factor
 abbrev mutual
   pub products_of : Signed → List Product
   products_of (Constant c) = number c ∷ []
-  products_of (PositivePart p) = factor (PositivePart p) ∷ []
+  products_of (PositivePart p) = part_product p ∷ []
   products_of (SumOf bs) = products_of_sum bs
   products_of (ProductOf bs) = multiplied_by_parts bs (number 1 ∷ [])
   products_of (MaximumOf bs) = factor (MaximumOf bs) ∷ []
@@ -90,11 +111,16 @@ abbrev mutual
   product_count_of_product NoParts = 1
   product_count_of_product (Part b bs) = product_count b * product_count_of_product bs
 
+-- a number, where 0 and no number count as 1
+abbrev pub at_least_1 : Option ℕ → ℕ
+at_least_1 None = 1
+at_least_1 (Some n) = max 1 n
+
 -- the sum of the numbers of those products, where the number 0 and an empty sum count as 1
 abbrev mutual
   pub number_sum : Signed → ℕ
   number_sum (Constant c) = max 1 c
-  number_sum (PositivePart p) = 1
+  number_sum (PositivePart p) = at_least_1 (constant_part p)
   number_sum (SumOf bs) = max 1 (number_sum_of_sum bs)
   number_sum (ProductOf bs) = number_sum_of_product bs
   number_sum (MaximumOf bs) = 1
@@ -115,3 +141,12 @@ abbrev mutual
 -- 2^127 - 1 also n times
 abbrev pub is_multipliable : ℕ → Signed → Bool
 is_multipliable n b = nat_le (product_count b) product_limit && nat_le (n * number_sum b) constant_limit
+
+-- the size of a sum of products: 1 for each product and for each factor
+abbrev pub factor_total : List Product → ℕ
+factor_total [] = 0
+factor_total (p ∷ ps) = (1 + length p.factors) + factor_total ps
+
+-- whether two sums of products are compared: their sizes multiplied are at most 131,072
+abbrev pub is_comparable : List Product → List Product → Bool
+is_comparable ps qs = nat_le (factor_total ps * factor_total qs) comparison_limit

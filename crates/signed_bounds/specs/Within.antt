@@ -1,8 +1,9 @@
 -- Whether a number that is at most a bound, den times, is at most a stated bound.
-use Rattle.std.specs.Prelude.{◌≡◌, ℕ, ◌*◌, ◌-◌, ◌≤◌, Bool, true, false, ◌&&◌, ◌||◌, ◌==◌, nat_le, List, [], ◌∷◌, ◌++◌, ℤ}
+use Rattle.std.specs.Prelude.{◌≡◌, ℕ, ◌+◌, ◌*◌, ◌-◌, ◌≤◌, Bool, true, false, ◌&&◌, ◌||◌, ◌==◌, nat_le, List, [], ◌∷◌, ◌++◌, ℤ}
 use Rattle.std.specs.Prelude.{Option, Some, None, if◌then◌else◌}
 use Rattle.poly_terms.specs.model.Terms.{Term}
 use Rattle.signed_bounds.specs.Bounds.{Signed, Quotient, signed_val}
+use Rattle.signed_bounds.specs.Limits.{quotient_limit}
 use Rattle.signed_bounds.specs.Products.{Product, number, scaled, products_of, is_multipliable}
 use Rattle.signed_bounds.specs.Covers.{covers}
 use Rattle.signed_bounds.specs.Safe.{IsSafe}
@@ -11,6 +12,12 @@ use Rattle.signed_bounds.specs.Safe.{IsSafe}
 abbrev pub numerator : ℕ → ℕ → List Signed → Option Signed
 numerator den n (Quotient b d ∷ []) = if nat_le 1 n && (d == den) then Some b else None
 numerator den n _ = None
+
+-- the number of products that are a quotient by den alone, taken at least once
+abbrev pub quotient_count : ℕ → List Product → ℕ
+quotient_count den [] = 0
+quotient_count den (q ∷ qs) =
+    (elim (numerator den q.times q.factors) [ None ↦ 0 | Some b ↦ 1 ]) + quotient_count den qs
 
 -- a product taken once less
 abbrev pub once_less : Product → Product
@@ -34,12 +41,17 @@ is_covered_by_quotient is_safe den ps before (q ∷ qs) =
 abbrev pub is_covered_rounded : (Term → Bool) → ℕ → List Product → List Product → Bool
 is_covered_rounded is_safe den ps qs = covers is_safe ps (number (den - 1) ∷ scaled den qs)
 
+-- whether so it is by one of the quotients, where there are at most 16
+abbrev pub is_covered_by_some : (Term → Bool) → ℕ → List Product → List Product → Bool
+is_covered_by_some is_safe den ps qs =
+    nat_le (quotient_count den qs) quotient_limit && is_covered_by_quotient is_safe den ps [] qs
+
 -- whether each number that is at most the first bound, den times, is at most the second by a comparison of products
 abbrev pub within : (Term → Bool) → ℕ → Signed → Signed → Bool
 within is_safe den a b =
     (is_multipliable 1 a && is_multipliable den b)
     && (is_covered_rounded is_safe den (products_of a) (products_of b)
-    || is_covered_by_quotient is_safe den (products_of a) [] (products_of b))
+    || is_covered_by_some is_safe den (products_of a) (products_of b))
 
 -- where a bound is within another one, each number that is at most the first, den times, is at most the second, at all
 -- start values

@@ -1,15 +1,15 @@
 -- Values of the definitions that were worked out by hand.
-use Rattle.std.specs.Prelude.{◌≡◌, ℕ, zero, suc, ◌+◌, Bool, true, false, List, [], ◌∷◌, ℤ, pos, negsuc}
+use Rattle.std.specs.Prelude.{◌≡◌, ℕ, zero, suc, ◌+◌, ◌^◌, Bool, true, false, List, [], ◌∷◌, ℤ, pos, negsuc}
 use Rattle.poly_terms.specs.model.Bounds as plain
 use Rattle.poly_terms.specs.model.Polynomials.{Monomial}
 use Rattle.poly_terms.specs.model.Terms.{Literal, Variable, Addition, Subtraction, Multiplication, Exponentiation}
 use Rattle.signed_bounds.specs.Bounds.{Signed, Constant, PositivePart, SumOf, ProductOf, MaximumOf, MinimumOf, Quotient}
 use Rattle.signed_bounds.specs.Bounds.{Root, PowerOf, SignedParts, NoParts, Part, signed_val}
-use Rattle.signed_bounds.specs.Measure.{node_count, depth_of, is_large}
+use Rattle.signed_bounds.specs.Measure.{node_count, depth_of, is_large, exceeds_limits}
 use Rattle.signed_bounds.specs.Inputs.{signed_of_bound}
 use Rattle.signed_bounds.specs.Safe.{expands_to_squares}
 use Rattle.signed_bounds.specs.Limits.{constant_limit}
-use Rattle.signed_bounds.specs.Products.{number, products_of, is_multipliable}
+use Rattle.signed_bounds.specs.Products.{number, products_of, is_multipliable, factor_total, is_comparable}
 use Rattle.signed_bounds.specs.Within.{within}
 
 -- a part alone, and two parts
@@ -78,7 +78,7 @@ pub record InputsAreAbsoluteValues : Type 0 where
   pub negative_first : signed_val (signed_of_bound exponential) (negsuc 2 ∷ pos 4 ∷ []) ≡ 48
   pub negative_second : signed_val (signed_of_bound exponential) (pos 3 ∷ negsuc 3 ∷ []) ≡ 48
 
--- so many copies of x
+-- so many copies of the constant 0
 abbrev pub copies : ℕ → SignedParts
 copies zero = NoParts
 copies (suc n) = Part (Constant 0) (copies n)
@@ -100,6 +100,11 @@ pub record MeasuresAreWorkedOut : Type 0 where
   pub nodes_beyond : is_large (SumOf (copies 4096)) ≡ true
   pub levels_at_most : is_large (tower 199) ≡ false
   pub levels_beyond : is_large (tower 200) ≡ true
+  -- 2^127 - 1 is a constant and a divisor, and the next number is neither
+  pub largest : exceeds_limits (Quotient (Constant constant_limit) constant_limit) ≡ false
+  pub large_constant : exceeds_limits (MinimumOf x (one_part (Root (Constant (constant_limit + 1))))) ≡ true
+  pub large_divisor : exceeds_limits (PowerOf 2 (Quotient x (constant_limit + 1))) ≡ true
+  pub large : exceeds_limits (SumOf (copies 4096)) ≡ true
 
 -- which expressions expand to sums of squares
 pub record SquaresAreFound : Type 0 where
@@ -142,6 +147,35 @@ pub record ProductsAreMultipliedOut : Type 0 where
 abbrev pub is_within : ℕ → Signed → Signed → Bool
 is_within den a b = within expands_to_squares den a b
 
+-- the positive part of an integer without variables
+abbrev pub constant_part_signed : ℤ → Signed
+constant_part_signed z = PositivePart (times z [] ∷ [])
+
+-- the positive part of a constant is a number
+pub record ConstantPartsAreNumbers : Type 0 where
+  -- [3] is 3, [-3] and [] are 0, and [x + 1] and [x] are factors
+  pub three : products_of (constant_part_signed (pos 3)) ≡ number 3 ∷ []
+  pub negative : products_of (constant_part_signed (negsuc 2)) ≡ number 0 ∷ []
+  pub empty : products_of (PositivePart []) ≡ number 0 ∷ []
+  pub sum : products_of x_and_1 ≡ record { times = 1; factors = x_and_1 ∷ [] } ∷ []
+  pub variable : products_of x ≡ record { times = 1; factors = x ∷ [] } ∷ []
+  -- [1] is within 1 and 1 within [1]; [1] + [1] is within 2, [0] within 0, and [2] isn't within 1
+  pub one : is_within 1 (constant_part_signed (pos 1)) (Constant 1) ≡ true
+  pub by_one : is_within 1 (Constant 1) (constant_part_signed (pos 1)) ≡ true
+  pub two_ones : is_within 1 (SumOf (two_parts (constant_part_signed (pos 1)) (constant_part_signed (pos 1))))
+      (Constant 2) ≡ true
+  pub zero_in_zero : is_within 1 (constant_part_signed (pos 0)) (Constant 0) ≡ true
+  pub two_in_one : is_within 1 (constant_part_signed (pos 2)) (Constant 1) ≡ false
+  -- 2^127 - 1 is within the limit, taken once, and 2^126 isn't when it is taken twice
+  pub largest : is_multipliable 1 (constant_part_signed (pos constant_limit)) ≡ true
+  pub twice_large : is_multipliable 2 (constant_part_signed (pos (2 ^ 126))) ≡ false
+  -- 3 is within [x*x + 3], and 4 isn't; [3 - x*x] is within 3, and not within 2
+  pub in_polynomial : is_within 1 (Constant 3) (PositivePart (times (pos 3) [] ∷ times (pos 1) (0 ∷ 0 ∷ []) ∷ [])) ≡ true
+  pub above_polynomial : is_within 1 (Constant 4) (PositivePart (times (pos 3) [] ∷ times (pos 1) (0 ∷ 0 ∷ []) ∷ []))
+      ≡ false
+  pub polynomial : is_within 1 (PositivePart (times (pos 3) [] ∷ times (negsuc 0) (0 ∷ 0 ∷ []) ∷ [])) (Constant 3) ≡ true
+  pub above : is_within 1 (PositivePart (times (pos 3) [] ∷ times (negsuc 0) (0 ∷ 0 ∷ []) ∷ [])) (Constant 2) ≡ false
+
 -- sums, products and numbers
 pub record SumsAreCompared : Type 0 where
   -- [x] + 1 is within 1 + [x], and not within [x]; [x] isn't within [y]
@@ -173,6 +207,10 @@ pub record SumsAreCompared : Type 0 where
   pub whole : is_within 1 (ProductOf (two_parts (Constant 2) x)) twice_x ≡ true
   pub in_parts : is_within 1 twice_x (ProductOf (two_parts (Constant 2) x)) ≡ true
   pub not_whole : is_within 1 twice_x_and_2 (ProductOf (two_parts (Constant 2) x)) ≡ false
+  -- [x] + [x - 5] isn't within [x + 1], nor 2*[x] + 2*[x] within [2*x]: what is used up is used up
+  pub used_once : is_within 1 (SumOf (two_parts x x_less_5)) x_and_1 ≡ false
+  pub used_whole : is_within 1 (SumOf (two_parts (ProductOf (two_parts (Constant 2) x)) (ProductOf (two_parts (Constant 2) x))))
+      twice_x ≡ false
   -- 2^127 - 1 is within itself, while 2^127 is past the limit
   pub largest : is_within 1 (Constant constant_limit) (Constant constant_limit) ≡ true
   pub past_limit : is_within 1 (Constant (constant_limit + 1)) (Constant (constant_limit + 1)) ≡ false
@@ -195,6 +233,8 @@ pub record QuotientsAreCompared : Type 0 where
   pub itself : is_within 3 parabola (Quotient parabola 3) ≡ true
   pub other_divisor : is_within 3 parabola (Quotient parabola 4) ≡ false
   pub with_other_divisor : is_within 1 (Quotient parabola 3) (Quotient parabola 4) ≡ false
+  -- [x] + [x], halved, isn't within 2*([x]/2)
+  pub rounded_twice : is_within 2 (SumOf (two_parts x x)) (ProductOf (two_parts (Constant 2) (Quotient x 2))) ≡ false
   -- the second quotient serves where the first doesn't
   pub second_quotient : is_within 2 parabola (SumOf (two_parts (Quotient y 2) (Quotient parabola 2))) ≡ true
 
@@ -218,3 +258,40 @@ pub record ShapesAreCompared : Type 0 where
   pub power : is_within 1 (PowerOf 2 x) (PowerOf 3 x_and_1) ≡ true
   pub lesser_base : is_within 1 (PowerOf 3 x) (PowerOf 2 x_and_1) ≡ false
   pub base_0 : is_within 1 (PowerOf 0 x) (PowerOf 0 x) ≡ false
+  -- root([x] + 1) is within root([x + 1] + 2), and not within root(1 + [x]): inside a root sums go part by part
+  pub root_of_sum : is_within 1 (Root (SumOf (two_parts x (Constant 1)))) (Root (SumOf (two_parts x_and_1 (Constant 2))))
+      ≡ true
+  pub root_of_other_order : is_within 1 (Root (SumOf (two_parts x (Constant 1))))
+      (Root (SumOf (two_parts (Constant 1) x))) ≡ false
+  -- root([x]*2) is within root([x + 1]*3), and not the other way round
+  pub root_of_product : is_within 1 (Root (ProductOf (two_parts x (Constant 2))))
+      (Root (ProductOf (two_parts x_and_1 (Constant 3)))) ≡ true
+  pub not_root_of_product : is_within 1 (Root (ProductOf (two_parts x_and_1 (Constant 3))))
+      (Root (ProductOf (two_parts x (Constant 2)))) ≡ false
+  -- max([x], 2) is within max([x + 1], 3), and not the other way round
+  pub maximum : is_within 1 (MaximumOf (two_parts x (Constant 2))) (MaximumOf (two_parts x_and_1 (Constant 3))) ≡ true
+  pub not_maximum : is_within 1 (MaximumOf (two_parts x_and_1 (Constant 3))) (MaximumOf (two_parts x (Constant 2))) ≡ false
+  -- the root of [x]/2 is within that of [x + 1]/2, and not within that of [x + 1]/3
+  pub root_of_quotient : is_within 1 (Root (Quotient x 2)) (Root (Quotient x_and_1 2)) ≡ true
+  pub root_of_other_quotient : is_within 1 (Root (Quotient x 2)) (Root (Quotient x_and_1 3)) ≡ false
+  -- min([x]) isn't within min([x], [y]), nor min([x], [y]) within min([x]) by its shape
+  pub fewer_parts : is_within 1 (MinimumOf x NoParts) (MinimumOf x (one_part y)) ≡ false
+  pub more_parts : is_within 1 (MinimumOf x (one_part y)) (MinimumOf x NoParts) ≡ false
+
+-- n parts that are the same
+abbrev pub repeated : Signed → ℕ → SignedParts
+repeated b zero = NoParts
+repeated b (suc n) = Part b (repeated b n)
+
+-- what is compared, and what is too large to be
+pub record LimitsOfComparisons : Type 0 where
+  -- [x] + [x] has the size 4: two products of one factor each
+  pub size : factor_total (products_of (SumOf (two_parts x x))) ≡ 4
+  -- sums of size 256 and 512 are compared, and of 258 and 512 they aren't
+  pub largest : is_comparable (products_of (SumOf (repeated x 128))) (products_of (SumOf (repeated x 256))) ≡ true
+  pub larger : is_comparable (products_of (SumOf (repeated x 129))) (products_of (SumOf (repeated x 256))) ≡ false
+  -- so 200 times [x] isn't found within 400 times [x]
+  pub too_large : is_within 1 (SumOf (repeated x 200)) (SumOf (repeated x 400)) ≡ false
+  -- of 16 quotients each is taken apart, and of 17 none
+  pub sixteen : is_within 2 x (SumOf (Part (Quotient x 2) (repeated (Quotient y 2) 15))) ≡ true
+  pub seventeen : is_within 2 x (SumOf (Part (Quotient x 2) (repeated (Quotient y 2) 16))) ≡ false

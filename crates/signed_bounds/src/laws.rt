@@ -3,6 +3,7 @@
 ghost use Rattle.signed_bounds.specs.Inputs.{SignedBoundsKeepValues};
 ghost use Rattle.signed_bounds.specs.Safe.{SquaresAreSafe};
 ghost use Rattle.signed_bounds.specs.Within.{WithinHolds};
+ghost use Rattle.signed_bounds.specs.Reflexive.{BoundsAreWithinThemselves};
 
 /// The law that a bound over absolute values keeps its value as a signed bound. Its contract is the law; it does
 /// nothing.
@@ -20,4 +21,10 @@ pub fn squares_are_safe()
 /// contract is the law; it does nothing.
 pub fn within_holds()
     ensures { WithinHolds }
+{}
+
+/// The law that a bound is within itself, and within its quotient by a number, that often, where it fits itself and
+/// isn't too large to be compared. Its contract is the law; it does nothing.
+pub fn bounds_are_within_themselves()
+    ensures { BoundsAreWithinThemselves }
 {}

@@ -8,8 +8,13 @@ mod measured;
 mod signed;
 mod worked;
 
-pub use laws::{signed_bounds_keep_values, squares_are_safe, within_holds};
-pub use limits::{CONSTANT_LIMIT, DEPTH_LIMIT, NODE_LIMIT, PRODUCT_LIMIT, limits_are_as_defined};
+pub use laws::{
+    bounds_are_within_themselves, signed_bounds_keep_values, squares_are_safe, within_holds,
+};
+pub use limits::{
+    COMPARISON_LIMIT, CONSTANT_LIMIT, DEPTH_LIMIT, NODE_LIMIT, PRODUCT_LIMIT, QUOTIENT_LIMIT,
+    limits_are_as_defined,
+};
 pub use poly_terms::Memory;
 pub use signed::Signed;
 pub use worked::{bounds_are_as_worked_out, comparisons_are_as_worked_out};

@@ -2,6 +2,7 @@
 
 ghost use Rattle.std.specs.Prelude.{◌≡◌};
 ghost use Rattle.signed_bounds.specs.Limits.{constant_limit, node_limit, depth_limit, product_limit};
+ghost use Rattle.signed_bounds.specs.Limits.{comparison_limit, quotient_limit};
 
 /// The maximum constant of a bound, and the maximum number that a comparison computes: 2^127-1.
 pub const CONSTANT_LIMIT: u128 = 0x7fff_ffff_ffff_ffff_ffff_ffff_ffff_ffff;
@@ -15,10 +16,18 @@ pub const DEPTH_LIMIT: u32 = 200;
 /// The maximum number of products that a comparison multiplies a bound out into.
 pub const PRODUCT_LIMIT: u64 = 4096;
 
+/// The maximum number of pairs of factors that a comparison of two sums of products looks at.
+pub const COMPARISON_LIMIT: u64 = 131_072;
+
+/// The maximum number of quotients by the common denominator that a comparison takes apart.
+pub const QUOTIENT_LIMIT: usize = 16;
+
 /// The law that the constants of the code are the limits of the definitions. It does nothing.
 pub fn limits_are_as_defined()
     ensures constants { CONSTANT_LIMIT ≡ constant_limit }
     ensures nodes { NODE_LIMIT ≡ node_limit }
     ensures depth { DEPTH_LIMIT ≡ depth_limit }
     ensures products { PRODUCT_LIMIT ≡ product_limit }
+    ensures comparisons { COMPARISON_LIMIT ≡ comparison_limit }
+    ensures quotients { QUOTIENT_LIMIT ≡ quotient_limit }
 {}

@@ -4,9 +4,10 @@ ghost use Rattle.std.specs.Prelude.{◌≡◌, ◌+◌, ◌-◌, ◌^◌, min, l
 ghost use Rattle.poly_terms.specs.Views.{monomials_of};
 ghost use Rattle.signed_bounds.specs.Views.{signed_of, signeds_of, parts_of};
 ghost use Rattle.signed_bounds.specs.Measure.{node_count, node_count_of_all, polynomial_nodes, depth_of, maximum_depth};
-ghost use Rattle.signed_bounds.specs.Measure.{is_large as is_large_bound};
+ghost use Rattle.signed_bounds.specs.Measure.{is_large as is_large_bound, exceeds_limits as is_beyond};
+ghost use Rattle.signed_bounds.specs.Measure.{has_large_constant as has_large, some_have_large_constant as some_have};
 
-use crate::limits::{DEPTH_LIMIT, NODE_LIMIT};
+use crate::limits::{CONSTANT_LIMIT, DEPTH_LIMIT, NODE_LIMIT};
 use crate::signed::Signed;
 use poly_terms::Monomial;
 
@@ -28,6 +29,13 @@ impl Signed {
     {
         let (nodes, depth) = self.measure();
         nodes > NODE_LIMIT || depth > DEPTH_LIMIT
+    }
+
+    /// Whether this bound is large, or has a constant or a divisor over `CONSTANT_LIMIT`.
+    pub fn exceeds_limits(&self) -> bool
+        ensures { result ≡ is_beyond (signed_of self.now) }
+    {
+        self.is_large() || has_large_constant(self)
     }
 }
 
@@ -107,4 +115,33 @@ fn most_levels_in(parts: &[Signed]) -> u32
         most = most.max(levels_in(part));
     }
     most
+}
+
+// Whether some constant or divisor is over the limit.
+#[cycle(constants)]
+fn has_large_constant(bound: &Signed) -> bool
+    ensures { result ≡ has_large (signed_of bound.now) }
+{
+    match bound {
+        Signed::Const(c) => *c > CONSTANT_LIMIT,
+        Signed::Part(_) => false,
+        Signed::Sum(parts) | Signed::Prod(parts) | Signed::Max(parts) => {
+            some_have_large_constant(parts)
+        }
+        Signed::Min(first, parts) => has_large_constant(first) || some_have_large_constant(parts),
+        Signed::Quotient(part, divisor) => *divisor > CONSTANT_LIMIT || has_large_constant(part),
+        Signed::Root(part) | Signed::Power(_, part) => has_large_constant(part),
+    }
+}
+
+#[cycle(constants)]
+fn some_have_large_constant(parts: &[Signed]) -> bool
+    ensures { result ≡ some_have (parts_of (signeds_of parts.now)) }
+{
+    for part in parts {
+        if has_large_constant(part) {
+            return true;
+        }
+    }
+    false
 }

@@ -2,7 +2,8 @@
 
 ghost use Rattle.signed_bounds.specs.Worked.{BoundsHaveTheirValues, InputsAreAbsoluteValues, MeasuresAreWorkedOut};
 ghost use Rattle.signed_bounds.specs.Worked.{SquaresAreFound, ProductsAreMultipliedOut, SumsAreCompared};
-ghost use Rattle.signed_bounds.specs.Worked.{QuotientsAreCompared, ShapesAreCompared};
+ghost use Rattle.signed_bounds.specs.Worked.{QuotientsAreCompared, ShapesAreCompared, ConstantPartsAreNumbers};
+ghost use Rattle.signed_bounds.specs.Worked.{LimitsOfComparisons};
 
 /// The definitions give bounds the values and the measure that were worked out by hand. Its contract is these values;
 /// it does nothing.
@@ -16,7 +17,9 @@ pub fn bounds_are_as_worked_out()
 pub fn comparisons_are_as_worked_out()
     ensures squares { SquaresAreFound }
     ensures products { ProductsAreMultipliedOut }
+    ensures constant_parts { ConstantPartsAreNumbers }
     ensures sums { SumsAreCompared }
     ensures quotients { QuotientsAreCompared }
     ensures shapes { ShapesAreCompared }
+    ensures limits { LimitsOfComparisons }
 {}

@@ -2,6 +2,7 @@
 //! multiplied out into, decided exactly as the definitions of signed bounds say.
 #![tactic(auto)]
 
+mod constants;
 mod fitting;
 mod parts;
 mod sizes;
