@@ -1,6 +1,8 @@
 -- Words are read in one way.
-use Rattle.std.proofs.Common.{◌≡◌, ◌≢◌, ℕ, cond, List, [], ◌∷◌, ◌++◌, Option, Some, None, refl, sym, ◌∙◌, ap, codes}
+use Rattle.std.proofs.Common.{◌≡◌, ◌≢◌, ℕ, suc, Bool, true, false, cond, List, [], ◌∷◌, ◌++◌, Option, Some, None, refl}
+use Rattle.std.proofs.Common.{sym, ◌∙◌, ap, codes, arith}
 use Rattle.std.specs.Prelude.{nat_eq}
+use Rattle.std.specs.List.{Contains}
 use Rattle.std.specs.Cmp.Lexicographic.{pointwise}
 use Rattle.std.specs.Str.Parse.{digits_value}
 use Rattle.command_line.specs.declared.command.Command.{Command}
@@ -54,7 +56,21 @@ named_first (commands.OfPair Replay) = refl
 named_first (commands.OfNumber Generate) = refl
 named_first (commands.OfNumber Selfrun) = refl
 
--- so a word is that of one command
+-- a command that is found in a list is in it
+found_listed : (word : Word) (cs : List Command) (c : Command) → first_named word cs ≡ Some c → Contains cs c
+found_listed word [] c e = cc
+found_listed word (d ∷ cs) c e = go (pointwise nat_eq word (word_of d)) e (found_listed word cs c)
+  where
+    go : (b : Bool) → cond b (Some d) (first_named word cs) ≡ Some c → (first_named word cs ≡ Some c → Contains cs c)
+        → Contains (d ∷ cs) c
+    go true e rest = let same : d ≡ c = cc in (0, omega arith, same)
+    go false e rest = let at = rest e in (suc at.0, omega (arith, at.1), at.2)
+
+-- so each command is listed
+pub command_listed : (c : Command) → Contains all_commands c
+command_listed c = found_listed (word_of c) all_commands c (named_first c)
+
+-- a word is that of one command
 pub one_command : (c d : Command) → word_of c ≡ word_of d → c ≡ d
 one_command c d e =
     let same : Some c ≡ Some d = sym (named_first c) ∙ (ap (λ (w : Word). first_named w all_commands) e ∙ named_first d) in
