@@ -17,7 +17,7 @@ use Rattle.outcome.specs.Reports.{Report, is_timed}
 use Rattle.outcome.specs.Views.{report_of}
 use Rattle.time_bounds.specs.Analysis.{IsAnalysis}
 use Rattle.command_line.specs.Lines.{Word}
-use Rattle.command_line.specs.Requests.{Request, Analyse, Prove, Facts}
+use Rattle.command_line.specs.Requests.{Request, OfProgram, Analyse, Prove, Facts}
 use Rattle.location_facts.specs.declared.fact.LocFact.{LocFact}
 use Rattle.location_facts.specs.Strengthening.{strengthened}
 use Rattle.koat_cli.specs.declared.status.Status.{Status}
@@ -234,13 +234,13 @@ are_answered laws A B apart request Out timing answers = record {
 pub held_files_answered : Determined → HeldFilesAreAnswered
 held_files_answered laws = record {
   analyses = λ pivots.
-      are_answered laws (λ p. FindsAllTimes p pivots) (λ p. MissesTimes p pivots) (λ p. timing_apart laws p pivots) (Analyse pivots)
+      are_answered laws (λ p. FindsAllTimes p pivots) (λ p. MissesTimes p pivots) (λ p. timing_apart laws p pivots) (OfProgram Analyse pivots)
       (λ p. IsReportOf p pivots) (λ p s x h. timing_of p pivots s h.report h.found.found h.ends) (λ seen f s x h. h);
   proofs = λ pivots.
-      are_answered laws (λ p. FindsAllTimes p pivots) (λ p. MissesTimes p pivots) (λ p. timing_apart laws p pivots) (Prove pivots)
+      are_answered laws (λ p. FindsAllTimes p pivots) (λ p. MissesTimes p pivots) (λ p. timing_apart laws p pivots) (OfProgram Prove pivots)
       (λ p. IsProofOf p pivots)
       (λ p s x h. timing_of p pivots s (report_of h.outcome) h.proved.found.found h.ends) (λ seen f s x h. h);
   with_facts = λ pivots.
-      are_answered laws (λ p. FindsAllWithFacts p pivots) (λ p. MissesWithFacts p pivots) (λ p. facts_apart laws p pivots) (Facts pivots)
+      are_answered laws (λ p. FindsAllWithFacts p pivots) (λ p. MissesWithFacts p pivots) (λ p. facts_apart laws p pivots) (OfProgram Facts pivots)
       (λ p. IsFactsReportOf p pivots) (λ p s x h. facts_timing p pivots s x h) (λ seen f s x h. h);
 }

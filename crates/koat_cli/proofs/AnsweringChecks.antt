@@ -1,6 +1,6 @@
 -- How calls end that ask for the check of a proof, both files being held.
 use Rattle.std.proofs.Common.{◌≡◌, ◌≢◌, ◌⊎◌, ℕ, List, refl, sym, subst, inl, inr}
-use Rattle.command_line.specs.Requests.{Check}
+use Rattle.command_line.specs.Requests.{OfPair, Check}
 use Rattle.model.specs.Programs.{Program}
 use Rattle.cert_types.specs.cert_rules.Gaps.{ProofFile}
 use Rattle.cert_types.specs.cert_program.Laws.{AcceptsFileFor}
@@ -38,7 +38,7 @@ check_says p f s x (Accepts a) = inl (a.ends, a.accepted.accepted.accepted)
 check_says p f s x (Refuses a) = inr (a.ends, refused_not_accepted p f x a.refused)
 
 -- a check asks so of two files
-pub checking : IsCommand Check proofs IsCheckOf AcceptsFileFor IsNotAccepted No ProofRefused
+pub checking : IsCommand (OfPair Check) proofs IsCheckOf AcceptsFileFor IsNotAccepted No ProofRefused
 checking = record {
   decided = proof_texts_decided;
   apart = λ p f accepted not_so. not_so accepted;
@@ -56,12 +56,12 @@ status_is_one A B C D s (IsNoText is a) = subst IsStatusOfCheck (sym is) tt
 status_is_one A B C D s (IsRefused is a) = subst IsStatusOfCheck (sym is) tt
 
 module _ (laws : Determined) (bytes proof_bytes : List ℕ) (call : Call) (put : Put)
-    (h : AsksOfTwo call put Check bytes proof_bytes) where
+    (h : AsksOfTwo call put (OfPair Check) bytes proof_bytes) where
   -- so a status that isn't that of a fault or of running out of memory is one of them
   few_tell : (s : Status) → Ends s call put → s ≢ Memory → IsStatusOfCheck s
   few_tell s ends memory =
       status_is_one _ _ _ _ s
-      (tells Check proofs IsCheckOf AcceptsFileFor IsNotAccepted No ProofRefused checking laws bytes proof_bytes call put h s ends memory)
+      (tells (OfPair Check) proofs IsCheckOf AcceptsFileFor IsNotAccepted No ProofRefused checking laws bytes proof_bytes call put h s ends memory)
 
   -- and the call ends with one of five
   few : (s : Status) → Ends s call put → IsStatusOfCheck s
@@ -88,9 +88,9 @@ checks_answered laws = record {
 }
   where
     exactly : (call : Call) (put : Put) (bytes proof_bytes : List ℕ) (s : Status)
-        → AsksOfTwo call put Check bytes proof_bytes → Ends s call put → s ≢ Memory → AreExact No ProofRefused
+        → AsksOfTwo call put (OfPair Check) bytes proof_bytes → Ends s call put → s ≢ Memory → AreExact No ProofRefused
         (SpellsOne bytes (λ p. HasText (proofs p) proof_bytes (AcceptsFileFor p)))
         (SpellsOne bytes (λ p. HasText (proofs p) proof_bytes (IsNotAccepted p)))
         (SpellsOne bytes (λ p. HasNoText (proofs p) proof_bytes)) (SpellsNone bytes) s
     exactly call put bytes proof_bytes s h ends memory =
-        answered Check proofs IsCheckOf AcceptsFileFor IsNotAccepted No ProofRefused checking laws bytes proof_bytes call put h s ends memory
+        answered (OfPair Check) proofs IsCheckOf AcceptsFileFor IsNotAccepted No ProofRefused checking laws bytes proof_bytes call put h s ends memory

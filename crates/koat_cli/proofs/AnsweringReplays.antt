@@ -1,6 +1,6 @@
 -- How calls end that ask for the replay of a run, both files being held.
 use Rattle.std.proofs.Common.{◌≡◌, ◌≢◌, ◌⊎◌, ℕ, List, refl, sym, subst, inl, inr}
-use Rattle.command_line.specs.Requests.{Replay}
+use Rattle.command_line.specs.Requests.{OfPair, Replay}
 use Rattle.model.specs.Programs.{Program}
 use Rattle.run_replay.specs.ReplayAnswers.{last_first}
 use Rattle.run_replay.specs.Runs.{Run}
@@ -38,7 +38,7 @@ replay_says p r s x (Tallied a) = inl (a.ends, a.in_range)
 replay_says p r s x (NoRun a) = inr (a.ends, (a.bad, a.first))
 
 -- a replay asks so of two files
-pub replaying : Determined → IsCommand Replay runs IsReplayOf IsInRange HasBadStep NotARun RunRefused
+pub replaying : Determined → IsCommand (OfPair Replay) runs IsReplayOf IsInRange HasBadStep NotARun RunRefused
 replaying laws = record {
   decided = λ bytes p spelled. run_texts_decided p;
   apart = λ p r good bad. laws.replays.none_bad p r.start (last_first r) bad.0 good bad.1;
@@ -55,12 +55,12 @@ status_is_one A B C D s (IsBad is a) = subst IsStatusOfReplay (sym is) tt
 status_is_one A B C D s (IsNoText is a) = subst IsStatusOfReplay (sym is) tt
 status_is_one A B C D s (IsRefused is a) = subst IsStatusOfReplay (sym is) tt
 
-module _ (laws : Determined) (bytes run_bytes : List ℕ) (call : Call) (put : Put) (h : AsksOfTwo call put Replay bytes run_bytes) where
+module _ (laws : Determined) (bytes run_bytes : List ℕ) (call : Call) (put : Put) (h : AsksOfTwo call put (OfPair Replay) bytes run_bytes) where
   -- so a status that isn't that of a fault or of running out of memory is one of them
   few_tell : (s : Status) → Ends s call put → s ≢ Memory → IsStatusOfReplay s
   few_tell s ends memory =
       status_is_one _ _ _ _ s
-      (tells Replay runs IsReplayOf IsInRange HasBadStep NotARun RunRefused (replaying laws) laws bytes run_bytes call put h s ends memory)
+      (tells (OfPair Replay) runs IsReplayOf IsInRange HasBadStep NotARun RunRefused (replaying laws) laws bytes run_bytes call put h s ends memory)
 
   -- and the call ends with one of five
   few : (s : Status) → Ends s call put → IsStatusOfReplay s
@@ -86,10 +86,10 @@ replays_answered laws = record {
   program_refused = λ call put bytes run_bytes s h ends memory. (exactly call put bytes run_bytes s h ends memory).program;
 }
   where
-    exactly : (call : Call) (put : Put) (bytes run_bytes : List ℕ) (s : Status) → AsksOfTwo call put Replay bytes run_bytes
+    exactly : (call : Call) (put : Put) (bytes run_bytes : List ℕ) (s : Status) → AsksOfTwo call put (OfPair Replay) bytes run_bytes
         → Ends s call put → s ≢ Memory → AreExact NotARun RunRefused
         (SpellsOne bytes (λ p. HasText (runs p) run_bytes (IsInRange p)))
         (SpellsOne bytes (λ p. HasText (runs p) run_bytes (HasBadStep p)))
         (SpellsOne bytes (λ p. HasNoText (runs p) run_bytes)) (SpellsNone bytes) s
     exactly call put bytes run_bytes s h ends memory =
-        answered Replay runs IsReplayOf IsInRange HasBadStep NotARun RunRefused (replaying laws) laws bytes run_bytes call put h s ends memory
+        answered (OfPair Replay) runs IsReplayOf IsInRange HasBadStep NotARun RunRefused (replaying laws) laws bytes run_bytes call put h s ends memory

@@ -3,7 +3,7 @@ use Rattle.std.proofs.Common.{◌≡◌, ◌⊎◌, inl, inr, ℕ, List, refl, s
 use Rattle.outside_io.specs.Fetching.{MayFail}
 use Rattle.model.specs.Programs.{Program}
 use Rattle.command_line.specs.Lines.{Word}
-use Rattle.command_line.specs.Requests.{Check}
+use Rattle.command_line.specs.Requests.{OfPair, Check}
 use Rattle.check_text.specs.Verdicts.{IsAcceptance, IsRefusal}
 use Rattle.cert_types.specs.cert_rules.Gaps.{ProofFile}
 use Rattle.koat_cli.specs.declared.status.Status.{Status}
@@ -25,7 +25,7 @@ module _ (seen : Seen) (f q : Word) where
   Tells Done x = (p : Program) × ((proof : ProofFile) × GiveProof seen f q p proof × IsAcceptance p proof x)
   Tells Unknown x = ⊥
   Tells Usage x = ⊥
-  Tells ReadFault x = (file : Word) × ((file ≡ f) ⊎ (file ≡ q)) × ((file ≡ f) ⊎ FirstGave seen (Check f q))
+  Tells ReadFault x = (file : Word) × ((file ≡ f) ⊎ (file ≡ q)) × ((file ≡ f) ⊎ FirstGave seen (OfPair Check f q))
       × MayFail seen.held file seen.faults_before seen.faults_after
   Tells WriteFault x = ⊥
   Tells Memory x = ⊥

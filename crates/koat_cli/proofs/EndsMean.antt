@@ -2,7 +2,7 @@
 use Rattle.std.proofs.Common.{◌≡◌, ◌≢◌, ℕ, List, sym, ◌∙◌}
 use Rattle.std.proofs.Common.{subst}
 use Rattle.std.specs.Io.KnownBytes.{Appends}
-use Rattle.command_line.specs.Requests.{Analyse, Prove, Check, Replay, Facts}
+use Rattle.command_line.specs.Requests.{OfProgram, OfPair, Analyse, Prove, Facts, Check, Replay}
 use Rattle.run_replay.specs.ReplayLaws.{ReplaysAreDecided}
 use Rattle.koat_cli.specs.declared.status.Status.{Status}
 use Rattle.koat_cli.specs.declared.status.Status.TheVariants.{Done, Unknown, Usage, ReadFault, WriteFault, Memory}
@@ -52,42 +52,42 @@ ends_mean law s call put ends = record {
       let whole = done_whole s e in
       let wrote = ends.wrote whole.0 whole.1 in
       done_wrote call put n f wrote.text
-      (answer_of call (Analyse n f) Done wrote.text asked (subst (λ (t : Status). Says call t wrote.text) e wrote.says)) wrote.appended;
+      (answer_of call (OfProgram Analyse n f) Done wrote.text asked (subst (λ (t : Status). Says call t wrote.text) e wrote.says)) wrote.appended;
   unknown = λ n f asked e.
       let whole = unknown_whole s e in
       let wrote = ends.wrote whole.0 whole.1 in
       unknown_wrote call put n f wrote.text
-      (answer_of call (Analyse n f) Unknown wrote.text asked (subst (λ (t : Status). Says call t wrote.text) e wrote.says)) wrote.appended;
+      (answer_of call (OfProgram Analyse n f) Unknown wrote.text asked (subst (λ (t : Status). Says call t wrote.text) e wrote.says)) wrote.appended;
   done_with_facts = λ n f asked e.
       let whole = done_whole s e in
       let wrote = ends.wrote whole.0 whole.1 in
       facts_done call put n f wrote.text
-      (answer_of call (Facts n f) Done wrote.text asked (subst (λ (t : Status). Says call t wrote.text) e wrote.says)) wrote.appended;
+      (answer_of call (OfProgram Facts n f) Done wrote.text asked (subst (λ (t : Status). Says call t wrote.text) e wrote.says)) wrote.appended;
   unknown_with_facts = λ n f asked e.
       let whole = unknown_whole s e in
       let wrote = ends.wrote whole.0 whole.1 in
       facts_unknown call put n f wrote.text
-      (answer_of call (Facts n f) Unknown wrote.text asked (subst (λ (t : Status). Says call t wrote.text) e wrote.says)) wrote.appended;
+      (answer_of call (OfProgram Facts n f) Unknown wrote.text asked (subst (λ (t : Status). Says call t wrote.text) e wrote.says)) wrote.appended;
   proved = λ n f asked e.
       let whole = done_whole s e in
       let wrote = ends.wrote whole.0 whole.1 in
       proof_done call put n f wrote.text
-      (answer_of call (Prove n f) Done wrote.text asked (subst (λ (t : Status). Says call t wrote.text) e wrote.says)) wrote.appended;
+      (answer_of call (OfProgram Prove n f) Done wrote.text asked (subst (λ (t : Status). Says call t wrote.text) e wrote.says)) wrote.appended;
   proved_in_part = λ n f asked e.
       let whole = unknown_whole s e in
       let wrote = ends.wrote whole.0 whole.1 in
       proof_in_part call put n f wrote.text
-      (answer_of call (Prove n f) Unknown wrote.text asked (subst (λ (t : Status). Says call t wrote.text) e wrote.says)) wrote.appended;
+      (answer_of call (OfProgram Prove n f) Unknown wrote.text asked (subst (λ (t : Status). Says call t wrote.text) e wrote.says)) wrote.appended;
   checked = λ f q asked e.
       let whole = done_whole s e in
       let wrote = ends.wrote whole.0 whole.1 in
       acceptance_wrote call put f q wrote.text
-      (answer_of call (Check f q) Done wrote.text asked (subst (λ (t : Status). Says call t wrote.text) e wrote.says)) wrote.appended;
+      (answer_of call (OfPair Check f q) Done wrote.text asked (subst (λ (t : Status). Says call t wrote.text) e wrote.says)) wrote.appended;
   replayed = λ f q asked e.
       let whole = done_whole s e in
       let wrote = ends.wrote whole.0 whole.1 in
       tally_wrote law call put f q wrote.text
-      (answer_of call (Replay f q) Done wrote.text asked (subst (λ (t : Status). Says call t wrote.text) e wrote.says)) wrote.appended;
+      (answer_of call (OfPair Replay f q) Done wrote.text asked (subst (λ (t : Status). Says call t wrote.text) e wrote.says)) wrote.appended;
   unknown_of = λ e.
       let whole = unknown_whole s e in
       let wrote = ends.wrote whole.0 whole.1 in

@@ -17,7 +17,8 @@ use Rattle.its_reader.specs.its_text.Answers.{verdict}
 use Rattle.its_reader.specs.its_text.Verdicts.{VerdictsAreSpelled}
 use Rattle.its_writer.specs.Generated.{generated}
 use Rattle.command_line.specs.Lines.{Word}
-use Rattle.command_line.specs.Requests.{Request, Analyse, Prove, Check, Replay, Generate, Selfrun, Facts, Asks}
+use Rattle.command_line.specs.Requests.{Request, OfProgram, OfPair, OfNumber, Analyse, Prove, Facts, Check, Replay}
+use Rattle.command_line.specs.Requests.{Generate, Selfrun, Asks}
 use Rattle.command_line.specs.Requests.{default_pivots}
 use Rattle.location_facts.specs.declared.fact.LocFact.{LocFact}
 use Rattle.location_facts.specs.Laws.{KeptFactsAreOne}
@@ -208,13 +209,13 @@ one_replay laws p r s t x y (NoRun a) (NoRun b) =
 -- a request for which no file is fetched has one answer
 one_without : Determined → (seen : Seen) (r : Request) (s t : Status) (x y : List ℕ) → ¬ (FetchesFile r) → Answers seen r s x
     → Answers seen r t y → (s ≡ t) × (x ≡ y)
-one_without laws seen (Analyse n f) s t x y none a b = absurd (none tt)
-one_without laws seen (Prove n f) s t x y none a b = absurd (none tt)
-one_without laws seen (Check f q) s t x y none a b = absurd (none tt)
-one_without laws seen (Replay f q) s t x y none a b = absurd (none tt)
-one_without laws seen (Generate n) s t x y none a b = (a.ends ∙ sym b.ends, a.result_is ∙ sym b.result_is)
-one_without laws seen (Selfrun n) s t x y none a b = one_summary laws (generated n) s t x y a b
-one_without laws seen (Facts n f) s t x y none a b = absurd (none tt)
+one_without laws seen (OfProgram Analyse n f) s t x y none a b = absurd (none tt)
+one_without laws seen (OfProgram Prove n f) s t x y none a b = absurd (none tt)
+one_without laws seen (OfPair Check f q) s t x y none a b = absurd (none tt)
+one_without laws seen (OfPair Replay f q) s t x y none a b = absurd (none tt)
+one_without laws seen (OfNumber Generate n) s t x y none a b = (a.ends ∙ sym b.ends, a.result_is ∙ sym b.result_is)
+one_without laws seen (OfNumber Selfrun n) s t x y none a b = one_summary laws (generated n) s t x y a b
+one_without laws seen (OfProgram Facts n f) s t x y none a b = absurd (none tt)
 
 -- what is answered by the program of a first file is answered by one that some bytes spell
 by_spelled : (Out : Program → Status → List ℕ → Type 0) (seen : Seen) (f : Word) (s : Status) (x : List ℕ)
@@ -232,13 +233,13 @@ one_answer : Determined → (seen : Seen) (files : Files) → seen.held ≡ Some
     → (s ≡ ReadFault → (f : Word) → MayFail seen.held f seen.faults_before seen.faults_after → Lacks seen.held f)
     → (t ≡ ReadFault → (f : Word) → MayFail seen.held f seen.faults_before seen.faults_after → Lacks seen.held f)
     → Answers seen r s x → Answers seen r t y → (s ≡ t) × (x ≡ y)
-one_answer laws seen files e (Analyse n f) s t x y ls lt a b =
+one_answer laws seen files e (OfProgram Analyse n f) s t x y ls lt a b =
     one_answer_each (λ p. IsReportOf p n) s t x y (λ p. one_report laws p n s t x y) (file_of (get files f))
     (file_tells (λ p. IsReportOf p n) s x laws seen files f e (λ h. ls h f) a) (file_tells (λ p. IsReportOf p n) t y laws seen files f e (λ h. lt h f) b)
-one_answer laws seen files e (Prove n f) s t x y ls lt a b =
+one_answer laws seen files e (OfProgram Prove n f) s t x y ls lt a b =
     one_answer_each (λ p. IsProofOf p n) s t x y (λ p. one_proof laws p n s t x y) (file_of (get files f))
     (file_tells (λ p. IsProofOf p n) s x laws seen files f e (λ h. ls h f) a) (file_tells (λ p. IsProofOf p n) t y laws seen files f e (λ h. lt h f) b)
-one_answer laws seen files e (Check f q) s t x y ls lt a b =
+one_answer laws seen files e (OfPair Check f q) s t x y ls lt a b =
     let check : Program → Status → List ℕ → Type 0 = λ p. OnText (proofs p) seen q (IsCheckOf p) in
     let out : Program → Status → List ℕ → Type 0 = λ p r z. ((b : List ℕ) × SpellsWithin b p) × check p r z in
     one_answer_each out s t x y
@@ -246,15 +247,15 @@ one_answer laws seen files e (Check f q) s t x y ls lt a b =
     (λ h. lt h q) (λ f. one_check p f s t x y) c.1 d.1) (file_of (get files f))
     (first_tells out s x laws seen files f e (λ h. ls h f) (by_spelled check seen f s x a))
     (first_tells out t y laws seen files f e (λ h. lt h f) (by_spelled check seen f t y b))
-one_answer laws seen files e (Replay f q) s t x y ls lt a b =
+one_answer laws seen files e (OfPair Replay f q) s t x y ls lt a b =
     let out : Program → Status → List ℕ → Type 0 = λ p. OnText (runs p) seen q (IsReplayOf p) in
     one_answer_each out s t x y
     (λ p. one_of_text (runs p) (run_texts_decided p) (IsReplayOf p) s t x y seen files q e (λ h. ls h q) (λ h. lt h q)
     (λ r. one_replay laws p r s t x y)) (file_of (get files f))
     (first_tells out s x laws seen files f e (λ h. ls h f) a) (first_tells out t y laws seen files f e (λ h. lt h f) b)
-one_answer laws seen files e (Generate n) s t x y ls lt a b = one_without laws seen (Generate n) s t x y (λ no. no) a b
-one_answer laws seen files e (Selfrun n) s t x y ls lt a b = one_without laws seen (Selfrun n) s t x y (λ no. no) a b
-one_answer laws seen files e (Facts n f) s t x y ls lt a b =
+one_answer laws seen files e (OfNumber Generate n) s t x y ls lt a b = one_without laws seen (OfNumber Generate n) s t x y (λ no. no) a b
+one_answer laws seen files e (OfNumber Selfrun n) s t x y ls lt a b = one_without laws seen (OfNumber Selfrun n) s t x y (λ no. no) a b
+one_answer laws seen files e (OfProgram Facts n f) s t x y ls lt a b =
     one_answer_each (λ p. IsFactsReportOf p n) s t x y (λ p. one_facts_report laws p n s t x y) (file_of (get files f))
     (file_tells (λ p. IsFactsReportOf p n) s x laws seen files f e (λ h. ls h f) a)
     (file_tells (λ p. IsFactsReportOf p n) t y laws seen files f e (λ h. lt h f) b)

@@ -11,7 +11,7 @@ use Rattle.model.specs.Programs.{Program}
 use Rattle.its_model.specs.text_core.Reading.{Answer, Stands, Refused}
 use Rattle.its_reader.specs.its_text.Kinds.{Kind}
 use Rattle.command_line.specs.Lines.{Word}
-use Rattle.command_line.specs.Requests.{Request, Check, Replay}
+use Rattle.command_line.specs.Requests.{Request, OfPair, Check, Replay}
 use Rattle.cert_types.specs.cert_program.Laws.{AcceptsFileFor}
 use Rattle.koat_cli.specs.declared.status.Status.{Status}
 use Rattle.koat_cli.specs.declared.status.Status.TheVariants.{Done, ReadFault, Memory, ProgramRefused}
@@ -234,6 +234,6 @@ tells_missing request kind Out Good Bad bad refused command laws = record {
 -- the law
 pub missing_files_reported : Determined → MissingFilesAreReported
 missing_files_reported laws = record {
-  checks = tells_missing Check proofs IsCheckOf AcceptsFileFor IsNotAccepted No ProofRefused checking laws;
-  replays = tells_missing Replay runs IsReplayOf IsInRange HasBadStep NotARun RunRefused (replaying laws) laws;
+  checks = tells_missing (OfPair Check) proofs IsCheckOf AcceptsFileFor IsNotAccepted No ProofRefused checking laws;
+  replays = tells_missing (OfPair Replay) runs IsReplayOf IsInRange HasBadStep NotARun RunRefused (replaying laws) laws;
 }

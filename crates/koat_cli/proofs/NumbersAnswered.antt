@@ -1,7 +1,7 @@
 -- How calls end that ask for nothing, or for something by a number.
 use Rattle.std.proofs.Common.{◌≡◌, ◌⊎◌, ◌↔◌, ℕ, List, refl, subst, inl, inr}
 use Rattle.its_writer.specs.Generated.{generated}
-use Rattle.command_line.specs.Requests.{Generate, Selfrun, Asks, default_pivots}
+use Rattle.command_line.specs.Requests.{OfNumber, Generate, Selfrun, Asks, default_pivots}
 use Rattle.outcome.specs.Views.{report_of}
 use Rattle.koat_cli.specs.declared.status.Status.{Status}
 use Rattle.koat_cli.specs.declared.status.Status.TheVariants.{Done, Unknown, Usage}
@@ -30,18 +30,18 @@ usage call put s h =
     )
 
 -- a generated program is written with `Done`
-program : (call : Call) (put : Put) (n : ℕ) (s : Status) → Asks call.words (Generate n) → EndsWell s call put → s ≡ Done
+program : (call : Call) (put : Put) (n : ℕ) (s : Status) → Asks call.words (OfNumber Generate n) → EndsWell s call put → s ≡ Done
 program call put n s asked h =
     let w = wrote call put s h in
-    let answer = answer_of call (Generate n) s w.text asked w.says in
+    let answer = answer_of call (OfNumber Generate n) s w.text asked w.says in
     answer.ends
 
 -- figures are written with the status that says whether every rule has a time
-timing : (call : Call) (put : Put) (n : ℕ) (s : Status) → Asks call.words (Selfrun n) → EndsWell s call put
+timing : (call : Call) (put : Put) (n : ℕ) (s : Status) → Asks call.words (OfNumber Selfrun n) → EndsWell s call put
     → TimingOf (generated n) default_pivots s
 timing call put n s asked h =
     let w = wrote call put s h in
-    let answer = answer_of call (Selfrun n) s w.text asked w.says in
+    let answer = answer_of call (OfNumber Selfrun n) s w.text asked w.says in
     timing_of (generated n) default_pivots s (report_of answer.outcome) answer.found.found answer.ends
 
 few : (n : ℕ) (s : Status) → TimingOf (generated n) default_pivots s → (s ≡ Done) ⊎ (s ≡ Unknown)

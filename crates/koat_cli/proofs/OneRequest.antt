@@ -5,7 +5,8 @@ use Rattle.std.specs.List.{list_all}
 use Rattle.std.specs.Io.KnownBytes.{Appends}
 use Rattle.outside_io.specs.Fetching.{MayFail}
 use Rattle.command_line.specs.Lines.{Word}
-use Rattle.command_line.specs.Requests.{Request, Analyse, Prove, Check, Replay, Generate, Selfrun, Facts, Asks}
+use Rattle.command_line.specs.Requests.{Request, OfProgram, OfPair, OfNumber, Analyse, Prove, Facts, Check, Replay}
+use Rattle.command_line.specs.Requests.{Generate, Selfrun, Asks}
 use Rattle.command_line.proofs.OneWay.{read_in_one_way}
 use Rattle.outcome.specs.Reports.{Report, is_timed}
 use Rattle.outcome.specs.Views.{report_of}
@@ -84,16 +85,16 @@ never_refused r e = go (list_all is_timed r.times) e
 
 -- a request isn't answered with the usage text
 pub never_usage_of : (seen : Seen) (r : Request) (x : List ℕ) → ¬ (Answers seen r Usage x)
-never_usage_of seen (Analyse n f) x (Without h) = no_usage seen f x h
-never_usage_of seen (Analyse n f) x (Of h) = never_usage h.said.report h.said.ends
-never_usage_of seen (Prove n f) x (Without h) = no_usage seen f x h
-never_usage_of seen (Prove n f) x (Of h) = never_usage (report_of h.said.outcome) h.said.ends
-never_usage_of seen (Check f q) x h = check_tells seen f q Usage x h
-never_usage_of seen (Replay f q) x h = replay_tells seen f q Usage x h
-never_usage_of seen (Generate n) x h = let e : Usage ≡ Done = h.ends in cc
-never_usage_of seen (Selfrun n) x h = never_usage (report_of h.outcome) h.ends
-never_usage_of seen (Facts n f) x (Without h) = no_usage seen f x h
-never_usage_of seen (Facts n f) x (Of h) = never_usage h.said.report h.said.ends
+never_usage_of seen (OfProgram Analyse n f) x (Without h) = no_usage seen f x h
+never_usage_of seen (OfProgram Analyse n f) x (Of h) = never_usage h.said.report h.said.ends
+never_usage_of seen (OfProgram Prove n f) x (Without h) = no_usage seen f x h
+never_usage_of seen (OfProgram Prove n f) x (Of h) = never_usage (report_of h.said.outcome) h.said.ends
+never_usage_of seen (OfPair Check f q) x h = check_tells seen f q Usage x h
+never_usage_of seen (OfPair Replay f q) x h = replay_tells seen f q Usage x h
+never_usage_of seen (OfNumber Generate n) x h = let e : Usage ≡ Done = h.ends in cc
+never_usage_of seen (OfNumber Selfrun n) x h = never_usage (report_of h.outcome) h.ends
+never_usage_of seen (OfProgram Facts n f) x (Without h) = no_usage seen f x h
+never_usage_of seen (OfProgram Facts n f) x (Of h) = never_usage h.said.report h.said.ends
 
 -- where a call answers with the status of the usage text, there is no request
 pub usage_for_nothing : (call : Call) (x : List ℕ) → Says call Usage x → AsksForNothing call.words
@@ -106,13 +107,13 @@ usage_says call x (ToRequest r asked h) = absurd (never_usage_of call.shelf r x 
 
 -- a time that is unknown is one of a program that is analysed
 unknown_asks : (seen : Seen) (r : Request) (x : List ℕ) → Answers seen r Unknown x → TellsOfTimes r
-unknown_asks seen (Analyse n f) x h = tt
-unknown_asks seen (Prove n f) x h = tt
-unknown_asks seen (Check f q) x h = check_tells seen f q Unknown x h
-unknown_asks seen (Replay f q) x h = replay_tells seen f q Unknown x h
-unknown_asks seen (Generate n) x h = let e : Unknown ≡ Done = h.ends in let no_way : ⊥ = cc in no_way
-unknown_asks seen (Selfrun n) x h = tt
-unknown_asks seen (Facts n f) x h = tt
+unknown_asks seen (OfProgram Analyse n f) x h = tt
+unknown_asks seen (OfProgram Prove n f) x h = tt
+unknown_asks seen (OfPair Check f q) x h = check_tells seen f q Unknown x h
+unknown_asks seen (OfPair Replay f q) x h = replay_tells seen f q Unknown x h
+unknown_asks seen (OfNumber Generate n) x h = let e : Unknown ≡ Done = h.ends in let no_way : ⊥ = cc in no_way
+unknown_asks seen (OfNumber Selfrun n) x h = tt
+unknown_asks seen (OfProgram Facts n f) x h = tt
 
 pub unknown_said : (call : Call) (x : List ℕ) → Says call Unknown x → (r : Request) × Asks call.words r × TellsOfTimes r
 unknown_said call x (ToNothing none h) = absurd (let e : Unknown ≡ Usage = h.ends in let no_way : ⊥ = cc in no_way)
@@ -127,47 +128,47 @@ no_other_fault seen file x (Refused h) = absurd (let e : ReadFault ≡ ProgramRe
 
 fault_of : (call : Call) (r : Request) (x : List ℕ) → Asks call.words r → Answers call.shelf r ReadFault x
     → (file : Word) × MayMiss call file
-fault_of call (Analyse n f) x asked (Without h) = (
+fault_of call (OfProgram Analyse n f) x asked (Without h) = (
   f,
   record {
-    request = Analyse n f;
+    request = OfProgram Analyse n f;
     asked = asked;
     named = inl refl;
     fetched = inl refl;
     fault = no_other_fault call.shelf f x h;
   },
 )
-fault_of call (Analyse n f) x asked (Of h) = absurd (never_read_fault h.said.report h.said.ends)
-fault_of call (Prove n f) x asked (Without h) = (
+fault_of call (OfProgram Analyse n f) x asked (Of h) = absurd (never_read_fault h.said.report h.said.ends)
+fault_of call (OfProgram Prove n f) x asked (Without h) = (
   f,
   record {
-    request = Prove n f;
+    request = OfProgram Prove n f;
     asked = asked;
     named = inl refl;
     fetched = inl refl;
     fault = no_other_fault call.shelf f x h;
   },
 )
-fault_of call (Prove n f) x asked (Of h) = absurd (never_read_fault (report_of h.said.outcome) h.said.ends)
-fault_of call (Check f q) x asked h =
+fault_of call (OfProgram Prove n f) x asked (Of h) = absurd (never_read_fault (report_of h.said.outcome) h.said.ends)
+fault_of call (OfPair Check f q) x asked h =
     let result_is : CheckTells call.shelf f q ReadFault x = check_tells call.shelf f q ReadFault x h in
-    (result_is.0, record { request = Check f q; asked = asked; named = result_is.1; fetched = result_is.2; fault = result_is.3 })
-fault_of call (Replay f q) x asked h =
+    (result_is.0, record { request = OfPair Check f q; asked = asked; named = result_is.1; fetched = result_is.2; fault = result_is.3 })
+fault_of call (OfPair Replay f q) x asked h =
     let result_is : Tells call.shelf f q ReadFault x = replay_tells call.shelf f q ReadFault x h in
-    (result_is.0, record { request = Replay f q; asked = asked; named = result_is.1; fetched = result_is.2; fault = result_is.3 })
-fault_of call (Generate n) x asked h = absurd (let e : ReadFault ≡ Done = h.ends in let no_way : ⊥ = cc in no_way)
-fault_of call (Selfrun n) x asked h = absurd (never_read_fault (report_of h.outcome) h.ends)
-fault_of call (Facts n f) x asked (Without h) = (
+    (result_is.0, record { request = OfPair Replay f q; asked = asked; named = result_is.1; fetched = result_is.2; fault = result_is.3 })
+fault_of call (OfNumber Generate n) x asked h = absurd (let e : ReadFault ≡ Done = h.ends in let no_way : ⊥ = cc in no_way)
+fault_of call (OfNumber Selfrun n) x asked h = absurd (never_read_fault (report_of h.outcome) h.ends)
+fault_of call (OfProgram Facts n f) x asked (Without h) = (
   f,
   record {
-    request = Facts n f;
+    request = OfProgram Facts n f;
     asked = asked;
     named = inl refl;
     fetched = inl refl;
     fault = no_other_fault call.shelf f x h;
   },
 )
-fault_of call (Facts n f) x asked (Of h) = absurd (never_read_fault h.said.report h.said.ends)
+fault_of call (OfProgram Facts n f) x asked (Of h) = absurd (never_read_fault h.said.report h.said.ends)
 
 pub fault_said : (call : Call) (x : List ℕ) → Says call ReadFault x → (file : Word) × MayMiss call file
 fault_said call x (ToNothing none h) = absurd (let e : ReadFault ≡ Usage = h.ends in let no_way : ⊥ = cc in no_way)
@@ -177,30 +178,30 @@ fault_said call x (ToRequest r asked h) = fault_of call r x asked h
 refused_of : (call : Call) (put : Put) (r : Request) (x : List ℕ) → Asks call.words r → Answers call.shelf r ProgramRefused x
     → Appends put.written_before put.written_after x
     → (request : Request) × ((file : Word) × Asks call.words request × IsFirstFile request file × WroteRefusal call put file)
-refused_of call put (Analyse n f) x asked (Without (Unread h)) a = absurd (let e : ProgramRefused ≡ ReadFault = h.ends in let no_way : ⊥ = cc in no_way)
-refused_of call put (Analyse n f) x asked (Without (TooLong h)) a =
-    (Analyse n f, (f, asked, refl, record { text = x; refused = inl h; appended = a }))
-refused_of call put (Analyse n f) x asked (Without (Refused h)) a =
-    (Analyse n f, (f, asked, refl, record { text = x; refused = inr h; appended = a }))
-refused_of call put (Analyse n f) x asked (Of h) a = absurd (never_refused h.said.report h.said.ends)
-refused_of call put (Prove n f) x asked (Without (Unread h)) a = absurd (let e : ProgramRefused ≡ ReadFault = h.ends in let no_way : ⊥ = cc in no_way)
-refused_of call put (Prove n f) x asked (Without (TooLong h)) a =
-    (Prove n f, (f, asked, refl, record { text = x; refused = inl h; appended = a }))
-refused_of call put (Prove n f) x asked (Without (Refused h)) a =
-    (Prove n f, (f, asked, refl, record { text = x; refused = inr h; appended = a }))
-refused_of call put (Prove n f) x asked (Of h) a = absurd (never_refused (report_of h.said.outcome) h.said.ends)
-refused_of call put (Check f q) x asked h a =
-    (Check f q, (f, asked, refl, record { text = x; refused = check_tells call.shelf f q ProgramRefused x h; appended = a }))
-refused_of call put (Replay f q) x asked h a =
-    (Replay f q, (f, asked, refl, record { text = x; refused = replay_tells call.shelf f q ProgramRefused x h; appended = a }))
-refused_of call put (Generate n) x asked h a = absurd (let e : ProgramRefused ≡ Done = h.ends in let no_way : ⊥ = cc in no_way)
-refused_of call put (Selfrun n) x asked h a = absurd (never_refused (report_of h.outcome) h.ends)
-refused_of call put (Facts n f) x asked (Without (Unread h)) a = absurd (let e : ProgramRefused ≡ ReadFault = h.ends in let no_way : ⊥ = cc in no_way)
-refused_of call put (Facts n f) x asked (Without (TooLong h)) a =
-    (Facts n f, (f, asked, refl, record { text = x; refused = inl h; appended = a }))
-refused_of call put (Facts n f) x asked (Without (Refused h)) a =
-    (Facts n f, (f, asked, refl, record { text = x; refused = inr h; appended = a }))
-refused_of call put (Facts n f) x asked (Of h) a = absurd (never_refused h.said.report h.said.ends)
+refused_of call put (OfProgram Analyse n f) x asked (Without (Unread h)) a = absurd (let e : ProgramRefused ≡ ReadFault = h.ends in let no_way : ⊥ = cc in no_way)
+refused_of call put (OfProgram Analyse n f) x asked (Without (TooLong h)) a =
+    (OfProgram Analyse n f, (f, asked, refl, record { text = x; refused = inl h; appended = a }))
+refused_of call put (OfProgram Analyse n f) x asked (Without (Refused h)) a =
+    (OfProgram Analyse n f, (f, asked, refl, record { text = x; refused = inr h; appended = a }))
+refused_of call put (OfProgram Analyse n f) x asked (Of h) a = absurd (never_refused h.said.report h.said.ends)
+refused_of call put (OfProgram Prove n f) x asked (Without (Unread h)) a = absurd (let e : ProgramRefused ≡ ReadFault = h.ends in let no_way : ⊥ = cc in no_way)
+refused_of call put (OfProgram Prove n f) x asked (Without (TooLong h)) a =
+    (OfProgram Prove n f, (f, asked, refl, record { text = x; refused = inl h; appended = a }))
+refused_of call put (OfProgram Prove n f) x asked (Without (Refused h)) a =
+    (OfProgram Prove n f, (f, asked, refl, record { text = x; refused = inr h; appended = a }))
+refused_of call put (OfProgram Prove n f) x asked (Of h) a = absurd (never_refused (report_of h.said.outcome) h.said.ends)
+refused_of call put (OfPair Check f q) x asked h a =
+    (OfPair Check f q, (f, asked, refl, record { text = x; refused = check_tells call.shelf f q ProgramRefused x h; appended = a }))
+refused_of call put (OfPair Replay f q) x asked h a =
+    (OfPair Replay f q, (f, asked, refl, record { text = x; refused = replay_tells call.shelf f q ProgramRefused x h; appended = a }))
+refused_of call put (OfNumber Generate n) x asked h a = absurd (let e : ProgramRefused ≡ Done = h.ends in let no_way : ⊥ = cc in no_way)
+refused_of call put (OfNumber Selfrun n) x asked h a = absurd (never_refused (report_of h.outcome) h.ends)
+refused_of call put (OfProgram Facts n f) x asked (Without (Unread h)) a = absurd (let e : ProgramRefused ≡ ReadFault = h.ends in let no_way : ⊥ = cc in no_way)
+refused_of call put (OfProgram Facts n f) x asked (Without (TooLong h)) a =
+    (OfProgram Facts n f, (f, asked, refl, record { text = x; refused = inl h; appended = a }))
+refused_of call put (OfProgram Facts n f) x asked (Without (Refused h)) a =
+    (OfProgram Facts n f, (f, asked, refl, record { text = x; refused = inr h; appended = a }))
+refused_of call put (OfProgram Facts n f) x asked (Of h) a = absurd (never_refused h.said.report h.said.ends)
 
 pub refused_said : (call : Call) (put : Put) (x : List ℕ) → Says call ProgramRefused x → Appends put.written_before put.written_after x
     → (request : Request) × ((file : Word) × Asks call.words request × IsFirstFile request file × WroteRefusal call put file)

@@ -3,7 +3,7 @@ use Rattle.std.proofs.Common.{◌≡◌, ◌≢◌, ◌⊎◌, ℕ, ◌^◌, ◌
 use Rattle.std.proofs.Common.{◌∙◌, subst, inl, inr, true, false}
 use Rattle.std.proofs.lemmas.List.{append_cancel_left}
 use Rattle.std.specs.Io.KnownBytes.{Appends}
-use Rattle.command_line.specs.Requests.{Prove, Check}
+use Rattle.command_line.specs.Requests.{OfProgram, OfPair, Prove, Check}
 use Rattle.its_reader.specs.its_text.Spelling.{SpellsWithin}
 use Rattle.model.specs.Programs.{Program}
 use Rattle.cert_types.specs.cert_program.Laws.{AcceptsFileFor}
@@ -92,7 +92,7 @@ module _ (bytes text : List ℕ) (w : WroteProofText bytes text) (short : length
   accepted =
       let wrote = w.ends.wrote (no_fault w.status w.proved) (no_want w.status w.proved) in
       of_answer wrote.text (one_appended w.put.written_before w.put.written_after wrote.text text w.tells wrote.appended w.appended)
-      (answer_of w.call (Prove w.pivots w.asked.file) w.status wrote.text w.asked.asked wrote.says)
+      (answer_of w.call (OfProgram Prove w.pivots w.asked.file) w.status wrote.text w.asked.asked wrote.says)
 
 -- the law
 pub proved_accepted : Determined → WhatIsProvedIsAccepted

@@ -3,7 +3,7 @@ use Rattle.std.proofs.Common.{◌≡◌, ◌⊎◌, inl, inr, ℕ, List, refl, s
 use Rattle.outside_io.specs.Fetching.{MayFail}
 use Rattle.model.specs.Programs.{Program}
 use Rattle.command_line.specs.Lines.{Word}
-use Rattle.command_line.specs.Requests.{Replay}
+use Rattle.command_line.specs.Requests.{OfPair, Replay}
 use Rattle.run_replay.specs.Runs.{Run}
 use Rattle.koat_cli.specs.declared.status.Status.{Status}
 use Rattle.koat_cli.specs.declared.status.Status.TheVariants.{Done, Unknown, Usage, ReadFault, WriteFault, Memory}
@@ -23,7 +23,7 @@ module _ (seen : Seen) (f q : Word) where
   Tells Done x = (p : Program) × ((r : Run) × GiveRun seen f q p r × IsTallyOf p r Done x)
   Tells Unknown x = ⊥
   Tells Usage x = ⊥
-  Tells ReadFault x = (file : Word) × ((file ≡ f) ⊎ (file ≡ q)) × ((file ≡ f) ⊎ FirstGave seen (Replay f q))
+  Tells ReadFault x = (file : Word) × ((file ≡ f) ⊎ (file ≡ q)) × ((file ≡ f) ⊎ FirstGave seen (OfPair Replay f q))
       × MayFail seen.held file seen.faults_before seen.faults_after
   Tells WriteFault x = ⊥
   Tells Memory x = ⊥

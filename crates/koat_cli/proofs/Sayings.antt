@@ -22,7 +22,8 @@ use Rattle.koat_cli.specs.declared.status.Status.{Status}
 use Rattle.koat_cli.specs.declared.status.Status.TheVariants.{Done, Unknown, Usage, ReadFault, WriteFault, Memory}
 use Rattle.koat_cli.specs.declared.status.Status.TheVariants.{ProgramRefused, ProofRefused, No, RunRefused, NotARun}
 use Rattle.command_line.specs.Lines.{Word}
-use Rattle.command_line.specs.Requests.{Request, Analyse, Prove, Check, Replay, Generate, Selfrun, Facts}
+use Rattle.command_line.specs.Requests.{Request, OfProgram, OfPair, OfNumber, Analyse, Prove, Facts, Check, Replay}
+use Rattle.command_line.specs.Requests.{Generate, Selfrun}
 use Rattle.koat_cli.specs.Calls.{Seen, Call}
 use Rattle.koat_cli.specs.Report.{refusal_text}
 use Rattle.koat_cli.specs.Outputs.{status_of}
@@ -113,19 +114,19 @@ module _ (Holds : Status → Type 0) (done : Holds Done) (unknown : Holds Unknow
   of_no_program seen file s x (files.Refused h) = subst Holds (sym h.ends) refused
 
   -- of each with which a request with one file, or none, is answered
-  of_single : (seen : Seen) (r : Request) (s : Status) (x : List ℕ) → ((f q : Word) → r ≢ Replay f q)
-      → ((f q : Word) → r ≢ Check f q) → Answers seen r s x → Holds s
-  of_single seen (Analyse n f) s x replay check (files.Without h) = of_no_program seen f s x h
-  of_single seen (Analyse n f) s x replay check (files.Of h) = subst Holds (sym h.said.ends) (of_report h.said.report)
-  of_single seen (Prove n f) s x replay check (files.Without h) = of_no_program seen f s x h
-  of_single seen (Prove n f) s x replay check (files.Of h) =
+  of_single : (seen : Seen) (r : Request) (s : Status) (x : List ℕ) → ((f q : Word) → r ≢ OfPair Replay f q)
+      → ((f q : Word) → r ≢ OfPair Check f q) → Answers seen r s x → Holds s
+  of_single seen (OfProgram Analyse n f) s x replay check (files.Without h) = of_no_program seen f s x h
+  of_single seen (OfProgram Analyse n f) s x replay check (files.Of h) = subst Holds (sym h.said.ends) (of_report h.said.report)
+  of_single seen (OfProgram Prove n f) s x replay check (files.Without h) = of_no_program seen f s x h
+  of_single seen (OfProgram Prove n f) s x replay check (files.Of h) =
       subst Holds (sym h.said.ends) (of_report (report_of h.said.outcome))
-  of_single seen (Check f q) s x replay check h = absurd (check f q refl)
-  of_single seen (Replay f q) s x replay check h = absurd (replay f q refl)
-  of_single seen (Generate n) s x replay check h = subst Holds (sym h.ends) done
-  of_single seen (Selfrun n) s x replay check h = subst Holds (sym h.ends) (of_report (report_of h.outcome))
-  of_single seen (Facts n f) s x replay check (files.Without h) = of_no_program seen f s x h
-  of_single seen (Facts n f) s x replay check (files.Of h) = subst Holds (sym h.said.ends) (of_report h.said.report)
+  of_single seen (OfPair Check f q) s x replay check h = absurd (check f q refl)
+  of_single seen (OfPair Replay f q) s x replay check h = absurd (replay f q refl)
+  of_single seen (OfNumber Generate n) s x replay check h = subst Holds (sym h.ends) done
+  of_single seen (OfNumber Selfrun n) s x replay check h = subst Holds (sym h.ends) (of_report (report_of h.outcome))
+  of_single seen (OfProgram Facts n f) s x replay check (files.Without h) = of_no_program seen f s x h
+  of_single seen (OfProgram Facts n f) s x replay check (files.Of h) = subst Holds (sym h.said.ends) (of_report h.said.report)
 
   -- with two more, of each with which a replay is
   of_replay : Holds RunRefused → Holds NotARun → (seen : Seen) (f q : Word) (s : Status) (x : List ℕ) → Tells seen f q s x
@@ -159,40 +160,40 @@ module _ (Holds : Status → Type 0) (done : Holds Done) (unknown : Holds Unknow
 
   -- the same for each with which another request is answered than one for a replay
   pub of_no_replay : Holds ProofRefused → Holds No → (seen : Seen) (r : Request) (s : Status) (x : List ℕ)
-      → ((f q : Word) → r ≢ Replay f q) → Answers seen r s x → Holds s
-  of_no_replay proof_refused no_proof seen (Check f q) s x other h =
+      → ((f q : Word) → r ≢ OfPair Replay f q) → Answers seen r s x → Holds s
+  of_no_replay proof_refused no_proof seen (OfPair Check f q) s x other h =
       of_check proof_refused no_proof seen f q s x (check_tells seen f q s x h)
-  of_no_replay proof_refused no_proof seen (Replay f q) s x other h = absurd (other f q refl)
-  of_no_replay proof_refused no_proof seen (Analyse n f) s x other h =
-      of_single seen (Analyse n f) s x other (λ g q e. cc) h
-  of_no_replay proof_refused no_proof seen (Prove n f) s x other h = of_single seen (Prove n f) s x other (λ g q e. cc) h
-  of_no_replay proof_refused no_proof seen (Generate n) s x other h = of_single seen (Generate n) s x other (λ g q e. cc) h
-  of_no_replay proof_refused no_proof seen (Selfrun n) s x other h = of_single seen (Selfrun n) s x other (λ g q e. cc) h
-  of_no_replay proof_refused no_proof seen (Facts n f) s x other h = of_single seen (Facts n f) s x other (λ g q e. cc) h
+  of_no_replay proof_refused no_proof seen (OfPair Replay f q) s x other h = absurd (other f q refl)
+  of_no_replay proof_refused no_proof seen (OfProgram Analyse n f) s x other h =
+      of_single seen (OfProgram Analyse n f) s x other (λ g q e. cc) h
+  of_no_replay proof_refused no_proof seen (OfProgram Prove n f) s x other h = of_single seen (OfProgram Prove n f) s x other (λ g q e. cc) h
+  of_no_replay proof_refused no_proof seen (OfNumber Generate n) s x other h = of_single seen (OfNumber Generate n) s x other (λ g q e. cc) h
+  of_no_replay proof_refused no_proof seen (OfNumber Selfrun n) s x other h = of_single seen (OfNumber Selfrun n) s x other (λ g q e. cc) h
+  of_no_replay proof_refused no_proof seen (OfProgram Facts n f) s x other h = of_single seen (OfProgram Facts n f) s x other (λ g q e. cc) h
 
   -- and than one for a check
   pub of_no_check : Holds RunRefused → Holds NotARun → (seen : Seen) (r : Request) (s : Status) (x : List ℕ)
-      → ((f q : Word) → r ≢ Check f q) → Answers seen r s x → Holds s
-  of_no_check run_refused not_a_run seen (Check f q) s x other h = absurd (other f q refl)
-  of_no_check run_refused not_a_run seen (Replay f q) s x other h =
+      → ((f q : Word) → r ≢ OfPair Check f q) → Answers seen r s x → Holds s
+  of_no_check run_refused not_a_run seen (OfPair Check f q) s x other h = absurd (other f q refl)
+  of_no_check run_refused not_a_run seen (OfPair Replay f q) s x other h =
       of_replay run_refused not_a_run seen f q s x (replay_tells seen f q s x h)
-  of_no_check run_refused not_a_run seen (Analyse n f) s x other h =
-      of_single seen (Analyse n f) s x (λ g q e. cc) other h
-  of_no_check run_refused not_a_run seen (Prove n f) s x other h = of_single seen (Prove n f) s x (λ g q e. cc) other h
-  of_no_check run_refused not_a_run seen (Generate n) s x other h = of_single seen (Generate n) s x (λ g q e. cc) other h
-  of_no_check run_refused not_a_run seen (Selfrun n) s x other h = of_single seen (Selfrun n) s x (λ g q e. cc) other h
-  of_no_check run_refused not_a_run seen (Facts n f) s x other h = of_single seen (Facts n f) s x (λ g q e. cc) other h
+  of_no_check run_refused not_a_run seen (OfProgram Analyse n f) s x other h =
+      of_single seen (OfProgram Analyse n f) s x (λ g q e. cc) other h
+  of_no_check run_refused not_a_run seen (OfProgram Prove n f) s x other h = of_single seen (OfProgram Prove n f) s x (λ g q e. cc) other h
+  of_no_check run_refused not_a_run seen (OfNumber Generate n) s x other h = of_single seen (OfNumber Generate n) s x (λ g q e. cc) other h
+  of_no_check run_refused not_a_run seen (OfNumber Selfrun n) s x other h = of_single seen (OfNumber Selfrun n) s x (λ g q e. cc) other h
+  of_no_check run_refused not_a_run seen (OfProgram Facts n f) s x other h = of_single seen (OfProgram Facts n f) s x (λ g q e. cc) other h
 
   module _ (proof_refused : Holds ProofRefused) (no_proof : Holds No) (run_refused : Holds RunRefused)
       (not_a_run : Holds NotARun) where
     of_answer : (seen : Seen) (r : Request) (s : Status) (x : List ℕ) → Answers seen r s x → Holds s
-    of_answer seen (Check f q) s x h = of_check proof_refused no_proof seen f q s x (check_tells seen f q s x h)
-    of_answer seen (Replay f q) s x h = of_replay run_refused not_a_run seen f q s x (replay_tells seen f q s x h)
-    of_answer seen (Analyse n f) s x h = of_single seen (Analyse n f) s x (λ g q e. cc) (λ g q e. cc) h
-    of_answer seen (Prove n f) s x h = of_single seen (Prove n f) s x (λ g q e. cc) (λ g q e. cc) h
-    of_answer seen (Generate n) s x h = of_single seen (Generate n) s x (λ g q e. cc) (λ g q e. cc) h
-    of_answer seen (Selfrun n) s x h = of_single seen (Selfrun n) s x (λ g q e. cc) (λ g q e. cc) h
-    of_answer seen (Facts n f) s x h = of_single seen (Facts n f) s x (λ g q e. cc) (λ g q e. cc) h
+    of_answer seen (OfPair Check f q) s x h = of_check proof_refused no_proof seen f q s x (check_tells seen f q s x h)
+    of_answer seen (OfPair Replay f q) s x h = of_replay run_refused not_a_run seen f q s x (replay_tells seen f q s x h)
+    of_answer seen (OfProgram Analyse n f) s x h = of_single seen (OfProgram Analyse n f) s x (λ g q e. cc) (λ g q e. cc) h
+    of_answer seen (OfProgram Prove n f) s x h = of_single seen (OfProgram Prove n f) s x (λ g q e. cc) (λ g q e. cc) h
+    of_answer seen (OfNumber Generate n) s x h = of_single seen (OfNumber Generate n) s x (λ g q e. cc) (λ g q e. cc) h
+    of_answer seen (OfNumber Selfrun n) s x h = of_single seen (OfNumber Selfrun n) s x (λ g q e. cc) (λ g q e. cc) h
+    of_answer seen (OfProgram Facts n f) s x h = of_single seen (OfProgram Facts n f) s x (λ g q e. cc) (λ g q e. cc) h
 
     -- the same for each with which a call answers
     of_says : (call : Call) (s : Status) (x : List ℕ) → Says call s x → Holds s

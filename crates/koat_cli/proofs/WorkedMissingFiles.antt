@@ -12,7 +12,7 @@ use Rattle.its_reader.specs.its_text.Kinds.{Kind, MissingSection}
 use Rattle.its_reader.specs.its_text.Answers.{verdict}
 use Rattle.its_reader.proofs.its_text.VerdictLaws.{verdicts_are_right}
 use Rattle.command_line.specs.Lines.{Word}
-use Rattle.command_line.specs.Requests.{Check, Replay}
+use Rattle.command_line.specs.Requests.{OfPair, Check, Replay}
 use Rattle.command_line.proofs.WorkedLines.{command_lines}
 use Rattle.koat_cli.specs.declared.status.Status.{Status}
 use Rattle.koat_cli.specs.declared.status.Status.TheVariants.{ReadFault, ProgramRefused, ProofRefused, No}
@@ -70,27 +70,27 @@ no_bytes_spell_none laws = inr (λ p spelled. apart p (sym no_bytes_refused ∙ 
 
 -- what is answered to the words, is answered to a replay
 of_replay : (seen : Seen) (status : Status) (text : List ℕ) → Replayed seen status text
-    → Answers seen (Replay (codes "p") (codes "-q")) status text
+    → Answers seen (OfPair Replay (codes "p") (codes "-q")) status text
 of_replay seen status text said =
     answer_of (record { words = codes "replay" ∷ codes "p" ∷ codes "--" ∷ codes "-q" ∷ []; shelf = seen })
-    (Replay (codes "p") (codes "-q")) status text command_lines.replay said
+    (OfPair Replay (codes "p") (codes "-q")) status text command_lines.replay said
 
 -- and to a check
 of_check : (seen : Seen) (status : Status) (text : List ℕ) → Checked seen status text
-    → Answers seen (Check (codes "p") (codes "q")) status text
+    → Answers seen (OfPair Check (codes "p") (codes "q")) status text
 of_check seen status text said =
     answer_of (record { words = codes "check" ∷ codes "p" ∷ codes "q" ∷ []; shelf = seen })
-    (Check (codes "p") (codes "q")) status text command_lines.check said
+    (OfPair Check (codes "p") (codes "q")) status text command_lines.check said
 
 -- a program that is lacking
 no_program : Replayed (holding (codes "-q")) ReadFault read_fault_text
 no_program =
-    ToRequest (Replay (codes "p") (codes "-q")) command_lines.replay
+    ToRequest (OfPair Replay (codes "p") (codes "-q")) command_lines.replay
     (NoProgram (files.Unread (record { fault = inr lacks_program; result_is = refl; ends = refl })))
 
 no_checked : Checked (holding (codes "q")) ReadFault read_fault_text
 no_checked =
-    ToRequest (Check (codes "p") (codes "q")) command_lines.check
+    ToRequest (OfPair Check (codes "p") (codes "q")) command_lines.check
     (NoProgram (files.Unread (record { fault = inr lacks_checked; result_is = refl; ends = refl })))
 
 -- one without bytes
@@ -108,31 +108,31 @@ no_bytes =
     })
 
 no_run : Replayed (holding (codes "p")) ProgramRefused (codes "program refused at 0: MissingSection\n")
-no_run = ToRequest (Replay (codes "p") (codes "-q")) command_lines.replay (NoProgram no_bytes)
+no_run = ToRequest (OfPair Replay (codes "p") (codes "-q")) command_lines.replay (NoProgram no_bytes)
 
 no_proof : Checked (holding (codes "p")) ProgramRefused (codes "program refused at 0: MissingSection\n")
-no_proof = ToRequest (Check (codes "p") (codes "q")) command_lines.check (NoProgram no_bytes)
+no_proof = ToRequest (OfPair Check (codes "p") (codes "q")) command_lines.check (NoProgram no_bytes)
 
 pub files_read_in_order : Determined → FilesAreReadInOrder
 files_read_in_order laws = record {
   no_program = no_program;
   no_program_alone = λ status text said.
-      program_missed Replay runs IsReplayOf IsInRange HasBadStep NotARun RunRefused (replaying laws) laws (holding (codes "-q"))
+      program_missed (OfPair Replay) runs IsReplayOf IsInRange HasBadStep NotARun RunRefused (replaying laws) laws (holding (codes "-q"))
       (one_file (codes "-q")) (codes "p") (codes "-q") refl steady status text lacks_program
       (of_replay (holding (codes "-q")) status text said);
   no_run = no_run;
   no_run_alone = λ status text said.
-      refused_is_program Replay runs IsReplayOf IsInRange HasBadStep NotARun RunRefused (replaying laws) laws (holding (codes "p"))
+      refused_is_program (OfPair Replay) runs IsReplayOf IsInRange HasBadStep NotARun RunRefused (replaying laws) laws (holding (codes "p"))
       (one_file (codes "p")) (codes "p") (codes "-q") refl steady status text [] has_program (no_bytes_spell_none laws)
       (of_replay (holding (codes "p")) status text said);
   no_checked = no_checked;
   no_checked_alone = λ status text said.
-      program_missed Check proofs IsCheckOf AcceptsFileFor IsNotAccepted No ProofRefused checking laws (holding (codes "q"))
+      program_missed (OfPair Check) proofs IsCheckOf AcceptsFileFor IsNotAccepted No ProofRefused checking laws (holding (codes "q"))
       (one_file (codes "q")) (codes "p") (codes "q") refl steady status text lacks_checked
       (of_check (holding (codes "q")) status text said);
   no_proof = no_proof;
   no_proof_alone = λ status text said.
-      refused_is_program Check proofs IsCheckOf AcceptsFileFor IsNotAccepted No ProofRefused checking laws (holding (codes "p"))
+      refused_is_program (OfPair Check) proofs IsCheckOf AcceptsFileFor IsNotAccepted No ProofRefused checking laws (holding (codes "p"))
       (one_file (codes "p")) (codes "p") (codes "q") refl steady status text [] has_program (no_bytes_spell_none laws)
       (of_check (holding (codes "p")) status text said);
 }

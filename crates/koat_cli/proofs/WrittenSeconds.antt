@@ -3,7 +3,8 @@ use Rattle.std.proofs.Common.{◌≡◌, ◌≢◌, ℕ, List}
 use Rattle.std.specs.Prelude.{⊤}
 use Rattle.std.specs.Io.KnownBytes.{Appends}
 use Rattle.command_line.specs.Lines.{Word}
-use Rattle.command_line.specs.Requests.{Request, Analyse, Prove, Check, Replay, Generate, Selfrun, Facts, Asks}
+use Rattle.command_line.specs.Requests.{Request, OfProgram, OfPair, OfNumber, Analyse, Prove, Facts, Check, Replay}
+use Rattle.command_line.specs.Requests.{Generate, Selfrun, Asks}
 use Rattle.run_replay.specs.ReplayAnswers.{last_first}
 use Rattle.run_replay.specs.ReplayLaws.{ReplaysAreDecided}
 use Rattle.koat_cli.specs.declared.status.Status.{Status}
@@ -34,29 +35,29 @@ IsNotOfRuns No = ⊤
 IsNotOfRuns RunRefused = ⊥
 IsNotOfRuns NotARun = ⊥
 
-no_run : (seen : Seen) (r : Request) (s : Status) (x : List ℕ) → ((f q : Word) → r ≢ Replay f q) → Answers seen r s x
+no_run : (seen : Seen) (r : Request) (s : Status) (x : List ℕ) → ((f q : Word) → r ≢ OfPair Replay f q) → Answers seen r s x
     → IsNotOfRuns s
 no_run = of_no_replay IsNotOfRuns tt tt tt tt tt tt tt
 
 -- so their answers are those of a replay
 runs_of : (call : Call) (r : Request) (s : Status) (x : List ℕ) → (IsNotOfRuns s → ⊥) → Asks call.words r
-    → Answers call.shelf r s x → (f : Word) × ((q : Word) × Asks call.words (Replay f q) × Tells call.shelf f q s x)
-runs_of call (Analyse n f) s x run asked h = absurd (run (no_run call.shelf (Analyse n f) s x (λ g q e. cc) h))
-runs_of call (Prove n f) s x run asked h = absurd (run (no_run call.shelf (Prove n f) s x (λ g q e. cc) h))
-runs_of call (Check f p) s x run asked h = absurd (run (no_run call.shelf (Check f p) s x (λ g q e. cc) h))
-runs_of call (Replay f q) s x run asked h = (f, (q, asked, replay_tells call.shelf f q s x h))
-runs_of call (Generate n) s x run asked h = absurd (run (no_run call.shelf (Generate n) s x (λ g q e. cc) h))
-runs_of call (Selfrun n) s x run asked h = absurd (run (no_run call.shelf (Selfrun n) s x (λ g q e. cc) h))
-runs_of call (Facts n f) s x run asked h = absurd (run (no_run call.shelf (Facts n f) s x (λ g q e. cc) h))
+    → Answers call.shelf r s x → (f : Word) × ((q : Word) × Asks call.words (OfPair Replay f q) × Tells call.shelf f q s x)
+runs_of call (OfProgram Analyse n f) s x run asked h = absurd (run (no_run call.shelf (OfProgram Analyse n f) s x (λ g q e. cc) h))
+runs_of call (OfProgram Prove n f) s x run asked h = absurd (run (no_run call.shelf (OfProgram Prove n f) s x (λ g q e. cc) h))
+runs_of call (OfPair Check f p) s x run asked h = absurd (run (no_run call.shelf (OfPair Check f p) s x (λ g q e. cc) h))
+runs_of call (OfPair Replay f q) s x run asked h = (f, (q, asked, replay_tells call.shelf f q s x h))
+runs_of call (OfNumber Generate n) s x run asked h = absurd (run (no_run call.shelf (OfNumber Generate n) s x (λ g q e. cc) h))
+runs_of call (OfNumber Selfrun n) s x run asked h = absurd (run (no_run call.shelf (OfNumber Selfrun n) s x (λ g q e. cc) h))
+runs_of call (OfProgram Facts n f) s x run asked h = absurd (run (no_run call.shelf (OfProgram Facts n f) s x (λ g q e. cc) h))
 
 runs_said : (call : Call) (s : Status) (x : List ℕ) → (s ≡ Usage → ⊥) → (IsNotOfRuns s → ⊥) → Says call s x
-    → (f : Word) × ((q : Word) × Asks call.words (Replay f q) × Tells call.shelf f q s x)
+    → (f : Word) × ((q : Word) × Asks call.words (OfPair Replay f q) × Tells call.shelf f q s x)
 runs_said call s x other run (ToNothing none h) = absurd (other h.ends)
 runs_said call s x other run (ToRequest r asked h) = runs_of call r s x run asked h
 
 -- a refusal of a run's file was written, and so was a bad step
 pub run_refused_wrote : (call : Call) (put : Put) (x : List ℕ) → Says call RunRefused x → Appends put.written_before put.written_after x
-    → (f : Word) × ((q : Word) × Asks call.words (Replay f q) × WroteRunRefusal call put f q)
+    → (f : Word) × ((q : Word) × Asks call.words (OfPair Replay f q) × WroteRunRefusal call put f q)
 run_refused_wrote call put x said a =
     let result_is = runs_said call RunRefused x (λ e. let no_way : ⊥ = cc in no_way) (λ h. h) said in
     let parts : Tells call.shelf result_is.0 result_is.1.0 RunRefused x = result_is.1.2 in (
@@ -75,7 +76,7 @@ run_refused_wrote call put x said a =
     )
 
 pub bad_step_wrote : (call : Call) (put : Put) (x : List ℕ) → Says call NotARun x → Appends put.written_before put.written_after x
-    → (f : Word) × ((q : Word) × Asks call.words (Replay f q) × WroteBadStep call put f q)
+    → (f : Word) × ((q : Word) × Asks call.words (OfPair Replay f q) × WroteBadStep call put f q)
 bad_step_wrote call put x said a =
     let result_is = runs_said call NotARun x (λ e. let no_way : ⊥ = cc in no_way) (λ h. h) said in
     let parts : Tells call.shelf result_is.0 result_is.1.0 NotARun x = result_is.1.2 in (
@@ -108,30 +109,30 @@ IsNotOfChecks No = ⊥
 IsNotOfChecks RunRefused = ⊤
 IsNotOfChecks NotARun = ⊤
 
-not_checked : (seen : Seen) (r : Request) (s : Status) (x : List ℕ) → ((f q : Word) → r ≢ Check f q) → Answers seen r s x
+not_checked : (seen : Seen) (r : Request) (s : Status) (x : List ℕ) → ((f q : Word) → r ≢ OfPair Check f q) → Answers seen r s x
     → IsNotOfChecks s
 not_checked = of_no_check IsNotOfChecks tt tt tt tt tt tt tt
 
 -- so their answers are those of a check
 checks_of : (call : Call) (r : Request) (s : Status) (x : List ℕ) → (IsNotOfChecks s → ⊥) → Asks call.words r
-    → Answers call.shelf r s x → (f : Word) × ((q : Word) × Asks call.words (Check f q) × CheckTells call.shelf f q s x)
-checks_of call (Analyse n f) s x check asked h = absurd (check (not_checked call.shelf (Analyse n f) s x (λ g q e. cc) h))
-checks_of call (Prove n f) s x check asked h = absurd (check (not_checked call.shelf (Prove n f) s x (λ g q e. cc) h))
-checks_of call (Check f q) s x check asked h = (f, (q, asked, check_tells call.shelf f q s x h))
-checks_of call (Replay f q) s x check asked h = absurd (check (not_checked call.shelf (Replay f q) s x (λ g p e. cc) h))
-checks_of call (Generate n) s x check asked h = absurd (check (not_checked call.shelf (Generate n) s x (λ g q e. cc) h))
-checks_of call (Selfrun n) s x check asked h = absurd (check (not_checked call.shelf (Selfrun n) s x (λ g q e. cc) h))
-checks_of call (Facts n f) s x check asked h = absurd (check (not_checked call.shelf (Facts n f) s x (λ g q e. cc) h))
+    → Answers call.shelf r s x → (f : Word) × ((q : Word) × Asks call.words (OfPair Check f q) × CheckTells call.shelf f q s x)
+checks_of call (OfProgram Analyse n f) s x check asked h = absurd (check (not_checked call.shelf (OfProgram Analyse n f) s x (λ g q e. cc) h))
+checks_of call (OfProgram Prove n f) s x check asked h = absurd (check (not_checked call.shelf (OfProgram Prove n f) s x (λ g q e. cc) h))
+checks_of call (OfPair Check f q) s x check asked h = (f, (q, asked, check_tells call.shelf f q s x h))
+checks_of call (OfPair Replay f q) s x check asked h = absurd (check (not_checked call.shelf (OfPair Replay f q) s x (λ g p e. cc) h))
+checks_of call (OfNumber Generate n) s x check asked h = absurd (check (not_checked call.shelf (OfNumber Generate n) s x (λ g q e. cc) h))
+checks_of call (OfNumber Selfrun n) s x check asked h = absurd (check (not_checked call.shelf (OfNumber Selfrun n) s x (λ g q e. cc) h))
+checks_of call (OfProgram Facts n f) s x check asked h = absurd (check (not_checked call.shelf (OfProgram Facts n f) s x (λ g q e. cc) h))
 
 checks_said : (call : Call) (s : Status) (x : List ℕ) → (s ≡ Usage → ⊥) → (IsNotOfChecks s → ⊥) → Says call s x
-    → (f : Word) × ((q : Word) × Asks call.words (Check f q) × CheckTells call.shelf f q s x)
+    → (f : Word) × ((q : Word) × Asks call.words (OfPair Check f q) × CheckTells call.shelf f q s x)
 checks_said call s x other check (ToNothing none h) = absurd (other h.ends)
 checks_said call s x other check (ToRequest r asked h) = checks_of call r s x check asked h
 
 -- a refusal of a proof's file was written, and so was what isn't accepted
 pub proof_refused_wrote : (call : Call) (put : Put) (x : List ℕ) → Says call ProofRefused x
     → Appends put.written_before put.written_after x
-    → (f : Word) × ((q : Word) × Asks call.words (Check f q) × WroteProofRefusal call put f q)
+    → (f : Word) × ((q : Word) × Asks call.words (OfPair Check f q) × WroteProofRefusal call put f q)
 proof_refused_wrote call put x said a =
     let result_is = checks_said call ProofRefused x (λ e. let no_way : ⊥ = cc in no_way) (λ h. h) said in
     let parts : CheckTells call.shelf result_is.0 result_is.1.0 ProofRefused x = result_is.1.2 in (
@@ -150,7 +151,7 @@ proof_refused_wrote call put x said a =
     )
 
 pub no_wrote : (call : Call) (put : Put) (x : List ℕ) → Says call No x → Appends put.written_before put.written_after x
-    → (f : Word) × ((q : Word) × Asks call.words (Check f q) × WroteNo call put f q)
+    → (f : Word) × ((q : Word) × Asks call.words (OfPair Check f q) × WroteNo call put f q)
 no_wrote call put x said a =
     let result_is = checks_said call No x (λ e. let no_way : ⊥ = cc in no_way) (λ h. h) said in
     let parts : CheckTells call.shelf result_is.0 result_is.1.0 No x = result_is.1.2 in (
@@ -170,7 +171,7 @@ no_wrote call put x said a =
     )
 
 -- the facts of a proof that is accepted were written with `Done`
-pub acceptance_wrote : (call : Call) (put : Put) (f q : Word) (x : List ℕ) → Answers call.shelf (Check f q) Done x
+pub acceptance_wrote : (call : Call) (put : Put) (f q : Word) (x : List ℕ) → Answers call.shelf (OfPair Check f q) Done x
     → Appends put.written_before put.written_after x → WroteAcceptance call put f q
 acceptance_wrote call put f q x h a =
     let result_is : CheckTells call.shelf f q Done x = check_tells call.shelf f q Done x h in
@@ -184,7 +185,7 @@ acceptance_wrote call put f q x h a =
     }
 
 -- the tally of a run was written with `Done`, and it is within the bounds
-pub tally_wrote : ReplaysAreDecided → (call : Call) (put : Put) (f q : Word) (x : List ℕ) → Answers call.shelf (Replay f q) Done x
+pub tally_wrote : ReplaysAreDecided → (call : Call) (put : Put) (f q : Word) (x : List ℕ) → Answers call.shelf (OfPair Replay f q) Done x
     → Appends put.written_before put.written_after x → WroteTally call put f q
 tally_wrote law call put f q x h a =
     let result_is : Tells call.shelf f q Done x = replay_tells call.shelf f q Done x h in

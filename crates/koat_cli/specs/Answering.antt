@@ -7,7 +7,8 @@ use Rattle.model.specs.Programs.{Program}
 use Rattle.its_reader.specs.its_text.Spelling.{SpellsWithin}
 use Rattle.its_writer.specs.Generated.{generated}
 use Rattle.command_line.specs.Lines.{Word}
-use Rattle.command_line.specs.Requests.{Request, Analyse, Prove, Generate, Selfrun, Facts, Asks, default_pivots}
+use Rattle.command_line.specs.Requests.{Request, OfProgram, OfNumber, Analyse, Prove, Facts, Generate, Selfrun, Asks}
+use Rattle.command_line.specs.Requests.{default_pivots}
 use Rattle.location_facts.specs.declared.fact.LocFact.{LocFact}
 use Rattle.location_facts.specs.Kept.{AreKept}
 use Rattle.location_facts.specs.Strengthening.{strengthened}
@@ -98,11 +99,11 @@ pub record AreAnswered (request : Word → Request) (FindsAll Misses : Program �
 -- strengthened by its kept facts
 pub record HeldFilesAreAnswered : Type 0 where
   pub analyses : (pivots : ℕ)
-      → AreAnswered (Analyse pivots) (λ p. FindsAllTimes p pivots) (λ p. MissesTimes p pivots)
+      → AreAnswered (OfProgram Analyse pivots) (λ p. FindsAllTimes p pivots) (λ p. MissesTimes p pivots)
   pub proofs : (pivots : ℕ)
-      → AreAnswered (Prove pivots) (λ p. FindsAllTimes p pivots) (λ p. MissesTimes p pivots)
+      → AreAnswered (OfProgram Prove pivots) (λ p. FindsAllTimes p pivots) (λ p. MissesTimes p pivots)
   pub with_facts : (pivots : ℕ)
-      → AreAnswered (Facts pivots) (λ p. FindsAllWithFacts p pivots) (λ p. MissesWithFacts p pivots)
+      → AreAnswered (OfProgram Facts pivots) (λ p. FindsAllWithFacts p pivots) (λ p. MissesWithFacts p pivots)
 
 -- a call ends so, neither with the status of a fault of the sink nor because memory ran out
 pub record EndsWell (status : Status) (call : Call) (put : Put) : Type 0 where
@@ -117,11 +118,11 @@ pub record EndsWell (status : Status) (call : Call) (put : Put) : Type 0 where
 pub record NumbersAreAnswered : Type 0 where
   pub usage : (call : Call) (put : Put) (s : Status) → EndsWell s call put
       → (s ≡ Usage) ↔ AsksForNothing call.words
-  pub program : (call : Call) (put : Put) (n : ℕ) (s : Status) → Asks call.words (Generate n) → EndsWell s call put
+  pub program : (call : Call) (put : Put) (n : ℕ) (s : Status) → Asks call.words (OfNumber Generate n) → EndsWell s call put
       → s ≡ Done
-  pub few : (call : Call) (put : Put) (n : ℕ) (s : Status) → Asks call.words (Selfrun n) → EndsWell s call put
+  pub few : (call : Call) (put : Put) (n : ℕ) (s : Status) → Asks call.words (OfNumber Selfrun n) → EndsWell s call put
       → (s ≡ Done) ⊎ (s ≡ Unknown)
-  pub done : (call : Call) (put : Put) (n : ℕ) (s : Status) → Asks call.words (Selfrun n) → EndsWell s call put
+  pub done : (call : Call) (put : Put) (n : ℕ) (s : Status) → Asks call.words (OfNumber Selfrun n) → EndsWell s call put
       → (s ≡ Done) ↔ FindsAllTimes (generated n) default_pivots
-  pub unknown : (call : Call) (put : Put) (n : ℕ) (s : Status) → Asks call.words (Selfrun n) → EndsWell s call put
+  pub unknown : (call : Call) (put : Put) (n : ℕ) (s : Status) → Asks call.words (OfNumber Selfrun n) → EndsWell s call put
       → (s ≡ Unknown) ↔ MissesTimes (generated n) default_pivots

@@ -1,7 +1,7 @@
 -- The status with which a call ends that requests the check of a proof.
 use Rattle.std.specs.Prelude.{◌≡◌, ◌≢◌, ◌↔◌, ℕ, List, ⊤}
 use Rattle.model.specs.Programs.{Program}
-use Rattle.command_line.specs.Requests.{Check}
+use Rattle.command_line.specs.Requests.{OfPair, Check}
 use Rattle.cert_types.specs.cert_rules.Gaps.{ProofFile}
 use Rattle.cert_types.specs.cert_program.Laws.{AcceptsFileFor}
 use Rattle.koat_cli.specs.declared.status.Status.{Status}
@@ -38,16 +38,16 @@ IsStatusOfCheck NotARun = ⊥
 -- is that of one that isn't
 pub record ChecksAreAnswered : Type 0 where
   pub few : (call : Call) (put : Put) (bytes proof_bytes : List ℕ) (s : Status)
-      → AsksOfTwo call put Check bytes proof_bytes → Ends s call put → IsStatusOfCheck s
+      → AsksOfTwo call put (OfPair Check) bytes proof_bytes → Ends s call put → IsStatusOfCheck s
   pub done : (call : Call) (put : Put) (bytes proof_bytes : List ℕ) (s : Status)
-      → AsksOfTwo call put Check bytes proof_bytes → Ends s call put → s ≢ Memory
+      → AsksOfTwo call put (OfPair Check) bytes proof_bytes → Ends s call put → s ≢ Memory
       → (s ≡ Done) ↔ SpellsOne bytes (λ p. HasText (proofs p) proof_bytes (AcceptsFileFor p))
   pub no : (call : Call) (put : Put) (bytes proof_bytes : List ℕ) (s : Status)
-      → AsksOfTwo call put Check bytes proof_bytes → Ends s call put → s ≢ Memory
+      → AsksOfTwo call put (OfPair Check) bytes proof_bytes → Ends s call put → s ≢ Memory
       → (s ≡ No) ↔ SpellsOne bytes (λ p. HasText (proofs p) proof_bytes (IsNotAccepted p))
   pub proof_refused : (call : Call) (put : Put) (bytes proof_bytes : List ℕ) (s : Status)
-      → AsksOfTwo call put Check bytes proof_bytes → Ends s call put → s ≢ Memory
+      → AsksOfTwo call put (OfPair Check) bytes proof_bytes → Ends s call put → s ≢ Memory
       → (s ≡ ProofRefused) ↔ SpellsOne bytes (λ p. HasNoText (proofs p) proof_bytes)
   pub program_refused : (call : Call) (put : Put) (bytes proof_bytes : List ℕ) (s : Status)
-      → AsksOfTwo call put Check bytes proof_bytes → Ends s call put → s ≢ Memory
+      → AsksOfTwo call put (OfPair Check) bytes proof_bytes → Ends s call put → s ≢ Memory
       → (s ≡ ProgramRefused) ↔ SpellsNone bytes

@@ -1,7 +1,7 @@
 -- The status with which a call ends that requests the replay of a run.
 use Rattle.std.specs.Prelude.{◌≡◌, ◌≢◌, ◌↔◌, ℕ, List, ⊤}
 use Rattle.model.specs.Programs.{Program}
-use Rattle.command_line.specs.Requests.{Replay}
+use Rattle.command_line.specs.Requests.{OfPair, Replay}
 use Rattle.run_replay.specs.ReplayAnswers.{last_first}
 use Rattle.run_replay.specs.Replays.{IsRunInRange, BadStep, IsFirstBadStep}
 use Rattle.run_replay.specs.Runs.{Run}
@@ -42,16 +42,16 @@ IsStatusOfReplay NotARun = ⊤
 -- in range, and `NotARun` exactly where it is that of one with a bad step
 pub record ReplaysAreAnswered : Type 0 where
   pub few : (call : Call) (put : Put) (bytes run_bytes : List ℕ) (s : Status)
-      → AsksOfTwo call put Replay bytes run_bytes → Ends s call put → IsStatusOfReplay s
+      → AsksOfTwo call put (OfPair Replay) bytes run_bytes → Ends s call put → IsStatusOfReplay s
   pub done : (call : Call) (put : Put) (bytes run_bytes : List ℕ) (s : Status)
-      → AsksOfTwo call put Replay bytes run_bytes → Ends s call put → s ≢ Memory
+      → AsksOfTwo call put (OfPair Replay) bytes run_bytes → Ends s call put → s ≢ Memory
       → (s ≡ Done) ↔ SpellsOne bytes (λ p. HasText (runs p) run_bytes (IsInRange p))
   pub not_a_run : (call : Call) (put : Put) (bytes run_bytes : List ℕ) (s : Status)
-      → AsksOfTwo call put Replay bytes run_bytes → Ends s call put → s ≢ Memory
+      → AsksOfTwo call put (OfPair Replay) bytes run_bytes → Ends s call put → s ≢ Memory
       → (s ≡ NotARun) ↔ SpellsOne bytes (λ p. HasText (runs p) run_bytes (HasBadStep p))
   pub run_refused : (call : Call) (put : Put) (bytes run_bytes : List ℕ) (s : Status)
-      → AsksOfTwo call put Replay bytes run_bytes → Ends s call put → s ≢ Memory
+      → AsksOfTwo call put (OfPair Replay) bytes run_bytes → Ends s call put → s ≢ Memory
       → (s ≡ RunRefused) ↔ SpellsOne bytes (λ p. HasNoText (runs p) run_bytes)
   pub program_refused : (call : Call) (put : Put) (bytes run_bytes : List ℕ) (s : Status)
-      → AsksOfTwo call put Replay bytes run_bytes → Ends s call put → s ≢ Memory
+      → AsksOfTwo call put (OfPair Replay) bytes run_bytes → Ends s call put → s ≢ Memory
       → (s ≡ ProgramRefused) ↔ SpellsNone bytes

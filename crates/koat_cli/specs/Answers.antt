@@ -2,7 +2,8 @@
 use Rattle.std.specs.Prelude.{List, ℕ, ⊤}
 use Rattle.its_writer.specs.Generated.{generated}
 use Rattle.command_line.specs.Lines.{Words}
-use Rattle.command_line.specs.Requests.{Request, Analyse, Prove, Check, Replay, Generate, Selfrun, Facts, Asks}
+use Rattle.command_line.specs.Requests.{Request, OfProgram, OfPair, OfNumber, Analyse, Prove, Facts, Check, Replay}
+use Rattle.command_line.specs.Requests.{Generate, Selfrun, Asks}
 use Rattle.koat_cli.specs.declared.status.Status.{Status}
 use Rattle.koat_cli.specs.Calls.{Seen, Call}
 use Rattle.koat_cli.specs.OnFiles.{OnProgram}
@@ -14,26 +15,26 @@ use Rattle.koat_cli.specs.RunTexts.{runs}
 
 -- what is answered of a request
 abbrev pub Answers : Seen → Request → Status → List ℕ → Type 0
-Answers seen (Analyse pivots file) status text = OnProgram seen file (λ program. IsReportOf program pivots) status text
-Answers seen (Prove pivots file) status text = OnProgram seen file (λ program. IsProofOf program pivots) status text
-Answers seen (Check file proof) status text =
+Answers seen (OfProgram Analyse pivots file) status text = OnProgram seen file (λ program. IsReportOf program pivots) status text
+Answers seen (OfProgram Prove pivots file) status text = OnProgram seen file (λ program. IsProofOf program pivots) status text
+Answers seen (OfPair Check file proof) status text =
     OnProgramFirst seen file (λ program. OnText (proofs program) seen proof (IsCheckOf program)) status text
-Answers seen (Replay file run) status text =
+Answers seen (OfPair Replay file run) status text =
     OnProgramFirst seen file (λ program. OnText (runs program) seen run (IsReplayOf program)) status text
-Answers seen (Generate n) status text = IsGenerated n status text
-Answers seen (Selfrun n) status text = IsSummaryOf (generated n) status text
-Answers seen (Facts pivots file) status text =
+Answers seen (OfNumber Generate n) status text = IsGenerated n status text
+Answers seen (OfNumber Selfrun n) status text = IsSummaryOf (generated n) status text
+Answers seen (OfProgram Facts pivots file) status text =
     OnProgram seen file (λ program. IsFactsReportOf program pivots) status text
 
 -- a file is fetched for this request
 abbrev pub FetchesFile : Request → Type 0
-FetchesFile (Analyse pivots file) = ⊤
-FetchesFile (Prove pivots file) = ⊤
-FetchesFile (Check file proof) = ⊤
-FetchesFile (Replay file run) = ⊤
-FetchesFile (Generate n) = ⊥
-FetchesFile (Selfrun n) = ⊥
-FetchesFile (Facts pivots file) = ⊤
+FetchesFile (OfProgram Analyse pivots file) = ⊤
+FetchesFile (OfProgram Prove pivots file) = ⊤
+FetchesFile (OfPair Check file proof) = ⊤
+FetchesFile (OfPair Replay file run) = ⊤
+FetchesFile (OfNumber Generate n) = ⊥
+FetchesFile (OfNumber Selfrun n) = ⊥
+FetchesFile (OfProgram Facts pivots file) = ⊤
 
 -- the words are no command line
 abbrev pub AsksForNothing : Words → Type 0

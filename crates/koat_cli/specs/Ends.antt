@@ -8,7 +8,8 @@ use Rattle.outside_io.specs.Putting.{AppendsPrefix}
 use Rattle.model.specs.Programs.{Program}
 use Rattle.model.specs.Runs.{sizes_of_start}
 use Rattle.command_line.specs.Lines.{Word}
-use Rattle.command_line.specs.Requests.{Request, Analyse, Prove, Check, Replay, Generate, Selfrun, Facts, Asks}
+use Rattle.command_line.specs.Requests.{Request, OfProgram, OfPair, OfNumber, Analyse, Prove, Facts, Check, Replay}
+use Rattle.command_line.specs.Requests.{Generate, Selfrun, Asks}
 use Rattle.outcome.specs.Reports.{Report, is_timed}
 use Rattle.outcome.specs.Views.{report_of}
 use Rattle.outcome.specs.declared.outcome_of.Outcome.{Outcome}
@@ -102,22 +103,22 @@ pub record WroteRefusal (call : Call) (put : Put) (file : Word) : Type 0 where
 
 -- the first file of a request, and the second one, where files are fetched for it
 abbrev pub IsFirstFile : Request → Word → Type 0
-IsFirstFile (Analyse pivots file) f = f ≡ file
-IsFirstFile (Prove pivots file) f = f ≡ file
-IsFirstFile (Check file proof) f = f ≡ file
-IsFirstFile (Replay file run) f = f ≡ file
-IsFirstFile (Generate n) f = ⊥
-IsFirstFile (Selfrun n) f = ⊥
-IsFirstFile (Facts pivots file) f = f ≡ file
+IsFirstFile (OfProgram Analyse pivots file) f = f ≡ file
+IsFirstFile (OfProgram Prove pivots file) f = f ≡ file
+IsFirstFile (OfPair Check file proof) f = f ≡ file
+IsFirstFile (OfPair Replay file run) f = f ≡ file
+IsFirstFile (OfNumber Generate n) f = ⊥
+IsFirstFile (OfNumber Selfrun n) f = ⊥
+IsFirstFile (OfProgram Facts pivots file) f = f ≡ file
 
 abbrev pub IsSecondFile : Request → Word → Type 0
-IsSecondFile (Analyse pivots file) f = ⊥
-IsSecondFile (Prove pivots file) f = ⊥
-IsSecondFile (Check file proof) f = f ≡ proof
-IsSecondFile (Replay file run) f = f ≡ run
-IsSecondFile (Generate n) f = ⊥
-IsSecondFile (Selfrun n) f = ⊥
-IsSecondFile (Facts pivots file) f = ⊥
+IsSecondFile (OfProgram Analyse pivots file) f = ⊥
+IsSecondFile (OfProgram Prove pivots file) f = ⊥
+IsSecondFile (OfPair Check file proof) f = f ≡ proof
+IsSecondFile (OfPair Replay file run) f = f ≡ run
+IsSecondFile (OfNumber Generate n) f = ⊥
+IsSecondFile (OfNumber Selfrun n) f = ⊥
+IsSecondFile (OfProgram Facts pivots file) f = ⊥
 
 -- the first file of a request gave a program
 pub record FirstGave (seen : Seen) (request : Request) : Type 0 where
@@ -173,13 +174,13 @@ pub record WroteRunRefusal (call : Call) (put : Put) (file run_file : Word) : Ty
 
 -- the answer to this request says whether each rule of a program has a time
 abbrev pub TellsOfTimes : Request → Type 0
-TellsOfTimes (Analyse pivots file) = ⊤
-TellsOfTimes (Prove pivots file) = ⊤
-TellsOfTimes (Check file proof) = ⊥
-TellsOfTimes (Replay file run) = ⊥
-TellsOfTimes (Generate n) = ⊥
-TellsOfTimes (Selfrun n) = ⊤
-TellsOfTimes (Facts pivots file) = ⊤
+TellsOfTimes (OfProgram Analyse pivots file) = ⊤
+TellsOfTimes (OfProgram Prove pivots file) = ⊤
+TellsOfTimes (OfPair Check file proof) = ⊥
+TellsOfTimes (OfPair Replay file run) = ⊥
+TellsOfTimes (OfNumber Generate n) = ⊥
+TellsOfTimes (OfNumber Selfrun n) = ⊤
+TellsOfTimes (OfProgram Facts pivots file) = ⊤
 
 -- What statuses mean. Where `analyse` ends with `Done`, such a report was written, in which every rule has a time, and
 -- where it ends with `Unknown`, one in which some rule has none; the same holds for `facts`, with such facts and a
@@ -193,23 +194,23 @@ TellsOfTimes (Facts pivots file) = ⊤
 -- first; and with `RunRefused` and `NotARun` only for `replay`, where a text was written that refuses the second file,
 -- or that states the first bad step of the run.
 pub record Means (status : Status) (call : Call) (put : Put) : Type 0 where
-  pub done : (pivots : ℕ) (file : Word) → Asks call.words (Analyse pivots file) → status ≡ Done
+  pub done : (pivots : ℕ) (file : Word) → Asks call.words (OfProgram Analyse pivots file) → status ≡ Done
       → (report : Report) × WroteReport call put pivots file report × IsTrue (list_all is_timed report.times)
-  pub unknown : (pivots : ℕ) (file : Word) → Asks call.words (Analyse pivots file) → status ≡ Unknown
+  pub unknown : (pivots : ℕ) (file : Word) → Asks call.words (OfProgram Analyse pivots file) → status ≡ Unknown
       → (report : Report) × WroteReport call put pivots file report × IsFalse (list_all is_timed report.times)
-  pub done_with_facts : (pivots : ℕ) (file : Word) → Asks call.words (Facts pivots file) → status ≡ Done
+  pub done_with_facts : (pivots : ℕ) (file : Word) → Asks call.words (OfProgram Facts pivots file) → status ≡ Done
       → (report : Report) × WroteFacts call put pivots file report × IsTrue (list_all is_timed report.times)
-  pub unknown_with_facts : (pivots : ℕ) (file : Word) → Asks call.words (Facts pivots file) → status ≡ Unknown
+  pub unknown_with_facts : (pivots : ℕ) (file : Word) → Asks call.words (OfProgram Facts pivots file) → status ≡ Unknown
       → (report : Report) × WroteFacts call put pivots file report × IsFalse (list_all is_timed report.times)
-  pub proved : (pivots : ℕ) (file : Word) → Asks call.words (Prove pivots file) → status ≡ Done
+  pub proved : (pivots : ℕ) (file : Word) → Asks call.words (OfProgram Prove pivots file) → status ≡ Done
       → (outcome : Outcome) × WroteProof call put pivots file outcome
       × IsTrue (list_all is_timed (report_of outcome).times)
-  pub proved_in_part : (pivots : ℕ) (file : Word) → Asks call.words (Prove pivots file) → status ≡ Unknown
+  pub proved_in_part : (pivots : ℕ) (file : Word) → Asks call.words (OfProgram Prove pivots file) → status ≡ Unknown
       → (outcome : Outcome) × WroteProof call put pivots file outcome
       × IsFalse (list_all is_timed (report_of outcome).times)
-  pub checked : (file proof : Word) → Asks call.words (Check file proof) → status ≡ Done
+  pub checked : (file proof : Word) → Asks call.words (OfPair Check file proof) → status ≡ Done
       → WroteAcceptance call put file proof
-  pub replayed : (file run : Word) → Asks call.words (Replay file run) → status ≡ Done
+  pub replayed : (file run : Word) → Asks call.words (OfPair Replay file run) → status ≡ Done
       → WroteTally call put file run
   pub unknown_of : status ≡ Unknown → (request : Request) × Asks call.words request × TellsOfTimes request
   pub usage : status ≡ Usage
@@ -218,10 +219,10 @@ pub record Means (status : Status) (call : Call) (put : Put) : Type 0 where
   pub program_refused : status ≡ ProgramRefused → (request : Request) × ((file : Word) × Asks call.words request
       × IsFirstFile request file × WroteRefusal call put file)
   pub proof_refused : status ≡ ProofRefused
-      → (file : Word) × ((proof : Word) × Asks call.words (Check file proof) × WroteProofRefusal call put file proof)
+      → (file : Word) × ((proof : Word) × Asks call.words (OfPair Check file proof) × WroteProofRefusal call put file proof)
   pub no : status ≡ No
-      → (file : Word) × ((proof : Word) × Asks call.words (Check file proof) × WroteNo call put file proof)
+      → (file : Word) × ((proof : Word) × Asks call.words (OfPair Check file proof) × WroteNo call put file proof)
   pub run_refused : status ≡ RunRefused
-      → (file : Word) × ((run : Word) × Asks call.words (Replay file run) × WroteRunRefusal call put file run)
+      → (file : Word) × ((run : Word) × Asks call.words (OfPair Replay file run) × WroteRunRefusal call put file run)
   pub not_a_run : status ≡ NotARun
-      → (file : Word) × ((run : Word) × Asks call.words (Replay file run) × WroteBadStep call put file run)
+      → (file : Word) × ((run : Word) × Asks call.words (OfPair Replay file run) × WroteBadStep call put file run)

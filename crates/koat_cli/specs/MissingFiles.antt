@@ -5,7 +5,7 @@ use Rattle.std.specs.FinMap.{get}
 use Rattle.outside_io.specs.Counts.{Rose}
 use Rattle.outside_io.specs.Files.{Files}
 use Rattle.command_line.specs.Lines.{Word}
-use Rattle.command_line.specs.Requests.{Request, Check, Replay, Asks}
+use Rattle.command_line.specs.Requests.{Request, OfPair, Check, Replay, Asks}
 use Rattle.koat_cli.specs.declared.status.Status.{Status}
 use Rattle.koat_cli.specs.declared.status.Status.TheVariants.{ReadFault, Memory, ProgramRefused}
 use Rattle.koat_cli.specs.Calls.{Call, Put}
@@ -43,5 +43,5 @@ pub record TellsMissing (request : Word → Word → Request) : Type 0 where
 
 -- the same for calls that request a check, and for those that request a replay
 pub record MissingFilesAreReported : Type 0 where
-  pub checks : TellsMissing Check
-  pub replays : TellsMissing Replay
+  pub checks : TellsMissing (OfPair Check)
+  pub replays : TellsMissing (OfPair Replay)

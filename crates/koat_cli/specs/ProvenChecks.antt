@@ -1,7 +1,7 @@
 -- What `prove` writes is accepted by `check`.
 use Rattle.std.specs.Prelude.{◌≡◌, ◌≢◌, ◌⊎◌, ℕ, ◌≤◌, List, length, IsSome}
 use Rattle.std.specs.Io.KnownBytes.{Appends}
-use Rattle.command_line.specs.Requests.{Prove, Check}
+use Rattle.command_line.specs.Requests.{OfProgram, OfPair, Prove, Check}
 use Rattle.koat_cli.specs.declared.status.Status.{Status}
 use Rattle.koat_cli.specs.declared.status.Status.TheVariants.{Done, Unknown, Memory}
 use Rattle.koat_cli.specs.Calls.{Call, Put}
@@ -17,7 +17,7 @@ pub record WroteProofText (bytes text : List ℕ) : Type 0 where
   pub call : Call
   pub put : Put
   pub pivots : ℕ
-  pub asked : AsksOfHeld call put bytes (Prove pivots)
+  pub asked : AsksOfHeld call put bytes (OfProgram Prove pivots)
   pub status : Status
   pub proved : (status ≡ Done) ⊎ (status ≡ Unknown)
   pub ends : Ends status call put
@@ -29,5 +29,5 @@ pub record WroteProofText (bytes text : List ℕ) : Type 0 where
 -- suffices
 pub record WhatIsProvedIsAccepted : Type 0 where
   pub each : (bytes text : List ℕ) → WroteProofText bytes text → length text ≤ proof_limit
-      → (call : Call) (put : Put) (s : Status) → AsksOfTwo call put Check bytes text → Ends s call put → s ≢ Memory
+      → (call : Call) (put : Put) (s : Status) → AsksOfTwo call put (OfPair Check) bytes text → Ends s call put → s ≢ Memory
       → s ≡ Done

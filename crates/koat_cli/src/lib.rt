@@ -25,7 +25,7 @@ mod status;
 mod status_text;
 mod top_call;
 
-pub use command_line::{Request, asks};
+pub use command_line::{NumberTask, PairTask, ProgramTask, Request, asks};
 pub use law::{
     analysis_texts_state_one_report, answers_exclude_each_other, checks_are_answered,
     held_files_are_answered, numbers_are_answered, replays_are_answered,

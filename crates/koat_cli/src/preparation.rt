@@ -22,21 +22,11 @@ use crate::replaying::replayed;
 use crate::run_in_file::{RunInFile, run_in};
 use crate::status::Status;
 use crate::status_text::{StatusText, status_with_text};
-use command_line::{Request, asks};
+use command_line::{NumberTask, PairTask, ProgramTask, Request, asks, usage};
 use its_model::Program;
 use model::Memory;
 use outside_io::Shelf;
 use std::alloc::Global;
-
-/// The text for words without a request: a line for each command.
-const USAGE: &[u8] = b"usage: koat analyse [--pivots N] FILE
-       koat prove [--pivots N] FILE
-       koat check FILE PROOF
-       koat replay FILE RUN
-       koat generate N
-       koat selfrun N
-       koat facts [--pivots N] FILE
-";
 
 /// Prepares the status and the text of a call with these words. The shelf's contents don't change.
 pub(crate) fn prepare<F: Shelf>(
@@ -54,18 +44,20 @@ pub(crate) fn prepare<F: Shelf>(
     ensures said { IfOk result (λ said. IsSaid said.status) }
 {
     match asks(alloc, words)? {
-        Some(Request::Analyse { pivots, file }) => analysis_of(alloc, file.as_str(), pivots, shelf),
-        Some(Request::Replay { file, run }) => {
-            replay_of(alloc, file.as_str(), run.as_str(), shelf)
-        }
-        Some(Request::Generate { n }) => generated(alloc, n),
-        Some(Request::Selfrun { n }) => summary(alloc, n),
-        Some(Request::Facts { pivots, file }) => facts_of(alloc, file.as_str(), pivots, shelf),
-        Some(Request::Prove { pivots, file }) => proof_of(alloc, file.as_str(), pivots, shelf),
-        Some(Request::Check { file, proof }) => {
-            check_of(alloc, file.as_str(), proof.as_str(), shelf)
-        }
-        None => status_with_text(alloc, Status::Usage, USAGE),
+        Some(Request::OfProgram { task, pivots, file }) => match task {
+            ProgramTask::Analyse => analysis_of(alloc, file.as_str(), pivots, shelf),
+            ProgramTask::Prove => proof_of(alloc, file.as_str(), pivots, shelf),
+            ProgramTask::Facts => facts_of(alloc, file.as_str(), pivots, shelf),
+        },
+        Some(Request::OfPair { task, file, second }) => match task {
+            PairTask::Check => check_of(alloc, file.as_str(), second.as_str(), shelf),
+            PairTask::Replay => replay_of(alloc, file.as_str(), second.as_str(), shelf),
+        },
+        Some(Request::OfNumber { task, n }) => match task {
+            NumberTask::Generate => generated(alloc, n),
+            NumberTask::Selfrun => summary(alloc, n),
+        },
+        None => status_with_text(alloc, Status::Usage, usage()),
     }
 }
 
