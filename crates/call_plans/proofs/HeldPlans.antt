@@ -1,15 +1,16 @@
 -- What is answered by a plan where the shelf discloses its contents, by these contents alone.
-use Rattle.std.proofs.Common.{◌≡◌, ◌≤◌, ◌<◌, ℕ, List, length, Option, Some, None, refl, sym, ◌∙◌, subst}
+use Rattle.std.proofs.Common.{◌≡◌, ◌≤◌, ◌<◌, ℕ, List, length, Option, Some, None, refl, sym, ◌∙◌, subst, inl, inr}
 use Rattle.std.specs.Prelude.{IsSomeAnd}
 use Rattle.std.specs.FinMap.{get}
 use Rattle.outside_io.specs.Files.{Files}
-use Rattle.outside_io.specs.Counts.{one_more}
+use Rattle.outside_io.specs.Counts.{one_more, Rose}
 use Rattle.call_plans.specs.declared.status.Status.{Status}
 use Rattle.call_plans.specs.declared.status.Status.TheVariants.{ReadFault}
 use Rattle.call_plans.specs.Calls.{Seen}
 use Rattle.call_plans.specs.Kinds.{TextKind}
 use Rattle.call_plans.specs.OnFiles.{read_fault_text, Unread, OverLimit, Bad, Without, Of}
 use Rattle.call_plans.specs.Plans.{Plan, Answers, Reads, Tells, OnPlan}
+use Rattle.call_plans.specs.Meanings.{MayMiss}
 use Rattle.call_plans.specs.Endings.{FileIs, Lacking, TooLong, Nothing, Stands, EndsOn, IsHonest}
 use Rattle.call_plans.specs.Lawful.{IsDecided, IsLawful}
 use Rattle.call_plans.proofs.GivenFiles.{given, given_more, given_none}
@@ -56,3 +57,14 @@ ends_held files (Reads kind file next) s x lawful (Nothing bytes there within no
     Nothing bytes there within none h.0
 ends_held files (Reads kind file next) s x lawful (Stands bytes there within t stands h) =
     Stands bytes there within t stands (ends_held files (next t) s x (lawful.1 bytes t stands) h)
+
+-- a file of a plan that may fail is lacking where no count of faults rises, and so the call ends with a fault of reading
+pub missed_ends : (seen : Seen) (files : Files) (plan : Plan) → seen.held ≡ Some files
+    → ¬ (Rose seen.faults_before seen.faults_after) → MayMiss seen plan → EndsOn files plan ReadFault
+missed_ends seen files (Answers cases) held steady missed = absurd missed
+missed_ends seen files (Reads kind file next) held steady (inl (inl rose)) = absurd (steady rose)
+missed_ends seen files (Reads kind file next) held steady (inl (inr lacks)) =
+    Lacking (given_none seen.held files file held lacks) refl
+missed_ends seen files (Reads kind file next) held steady (inr (t, (gives, missed))) =
+    Stands gives.bytes (given seen.held files file gives.bytes held gives.held) gives.within t gives.stands
+    (missed_ends seen files (next t) held steady missed)
