@@ -4,6 +4,7 @@ pub mod GivenFiles
 pub mod HeldPlans
 pub mod OneEnding
 pub mod Meanings
+pub mod Statuses
 pub mod Faults
 pub mod Fetched
 pub mod Behind

@@ -7,10 +7,10 @@ use Rattle.call_plans.specs.declared.status.Status.TheVariants.{ReadFault}
 use Rattle.call_plans.specs.Calls.{Seen}
 use Rattle.call_plans.specs.Kinds.{TextKind}
 use Rattle.call_plans.specs.OnFiles.{read_fault_text}
-use Rattle.call_plans.specs.Plans.{Plan, Answers, Reads, IsLast, OnPlan}
+use Rattle.call_plans.specs.Plans.{Plan, Answers, Reads, Comes, IsLast, OnPlan}
 use Rattle.call_plans.specs.Endings.{FileIs, Lacking, TooLong, Nothing, Stands, EndsOn, IsHonest}
 use Rattle.call_plans.specs.Lawful.{IsDecided, IsLawful}
-use Rattle.call_plans.proofs.Rows.{come_unique, told_unique}
+use Rattle.call_plans.proofs.Rows.{told_comes, come_unique, told_unique}
 use Rattle.call_plans.proofs.HeldPlans.{HeldOn, held_of, ends_held}
 
 -- what is there isn't missing, and is one
@@ -98,3 +98,11 @@ pub last_unique : (seen : Seen) (count : Option ℕ) (plan : Plan) (s t : Status
     → IsLawful plan → OnPlan seen count plan s x → OnPlan seen count plan t y → (s ≡ t) × (x ≡ y)
 last_unique seen count (Answers cases) s t x y last lawful a b = told_unique cases s t x y lawful a.1 b.1
 last_unique seen count (Reads kind file next) s t x y last lawful a b = absurd last
+
+-- so the status is the one that the table says
+pub last_exactly : (seen : Seen) (files : Files) (count : Option ℕ) (plan : Plan) (s : Status) (x : List ℕ) → IsLast plan
+    → IsLawful plan → OnPlan seen count plan s x → (t : Status) → (s ≡ t) ↔ EndsOn files plan t
+last_exactly seen files count (Answers cases) s x last lawful on t =
+    let comes = told_comes cases s x lawful on.1 in
+    (λ e. subst (λ (r : Status). Comes cases r) e comes, λ other. come_unique cases s t lawful comes other)
+last_exactly seen files count (Reads kind file next) s x last lawful on t = absurd last
