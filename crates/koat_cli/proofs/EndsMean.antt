@@ -2,7 +2,8 @@
 use Rattle.std.proofs.Common.{◌≡◌, ◌≢◌, ℕ, List, IsTrue, IsFalse, inl, inr, refl, sym, ◌∙◌, ap, subst}
 use Rattle.std.specs.List.{list_all}
 use Rattle.command_line.specs.Lines.{Word}
-use Rattle.command_line.specs.Requests.{Request, OfProgram, Analyse, Asks}
+use Rattle.command_line.specs.Requests.{Request, OfProgram, Asks}
+use Rattle.command_line.specs.declared.task.ProgramTask.TheVariants.{Analyse}
 use Rattle.outcome.specs.Reports.{Report, is_timed}
 use Rattle.call_plans.specs.declared.status.Status.{Status}
 use Rattle.call_plans.specs.declared.status.Status.TheVariants.{Done, Unknown, Usage, ReadFault, WriteFault, Memory}

@@ -5,7 +5,9 @@ use Rattle.std.proofs.lemmas.List.{append_cancel_left}
 use Rattle.std.specs.Prelude.{⊤}
 use Rattle.std.specs.FinMap.{get}
 use Rattle.std.specs.Io.KnownBytes.{Appends}
-use Rattle.command_line.specs.Requests.{OfProgram, OfPair, Prove, Check}
+use Rattle.command_line.specs.Requests.{OfProgram, OfPair}
+use Rattle.command_line.specs.declared.task.ProgramTask.TheVariants.{Prove}
+use Rattle.command_line.specs.declared.task.PairTask.TheVariants.{Check}
 use Rattle.its_reader.specs.its_text.Spelling.{SpellsWithin}
 use Rattle.model.specs.Programs.{Program}
 use Rattle.cert_types.specs.cert_program.Laws.{AcceptsFileFor}

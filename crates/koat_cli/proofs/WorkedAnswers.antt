@@ -7,8 +7,10 @@ use Rattle.its_writer.specs.Texts.{canonical_text}
 use Rattle.its_writer.proofs.GeneratedWithin.{generated_spelled}
 use Rattle.command_line.specs.Lines.{Words, Positional}
 use Rattle.command_line.specs.Numerals.{IsNumber}
-use Rattle.command_line.specs.Requests.{OfProgram, OfPair, OfNumber, Analyse, Prove, Facts, Check, Replay, Generate}
-use Rattle.command_line.specs.Requests.{Request, Selfrun, Asks}
+use Rattle.command_line.specs.Requests.{OfProgram, OfPair, OfNumber, Request, Asks}
+use Rattle.command_line.specs.declared.task.ProgramTask.TheVariants.{Analyse, Prove, Facts}
+use Rattle.command_line.specs.declared.task.PairTask.TheVariants.{Check, Replay}
+use Rattle.command_line.specs.declared.task.NumberTask.TheVariants.{Generate, Selfrun}
 use Rattle.command_line.proofs.Firsts.{gives_of}
 use Rattle.command_line.proofs.WorkedLines.{command_lines}
 use Rattle.call_plans.specs.declared.status.Status.{Status}

@@ -9,7 +9,9 @@ use Rattle.outside_io.specs.Files.{Files}
 use Rattle.its_reader.specs.its_text.Kinds.{MissingSection}
 use Rattle.its_reader.proofs.its_text.VerdictLaws.{verdicts_are_right}
 use Rattle.command_line.specs.Lines.{Word, Words}
-use Rattle.command_line.specs.Requests.{Request, OfProgram, OfPair, Analyse, Check, Replay, Asks}
+use Rattle.command_line.specs.Requests.{Request, OfProgram, OfPair, Asks}
+use Rattle.command_line.specs.declared.task.ProgramTask.TheVariants.{Analyse}
+use Rattle.command_line.specs.declared.task.PairTask.TheVariants.{Check, Replay}
 use Rattle.command_line.proofs.WorkedLines.{command_lines}
 use Rattle.call_plans.specs.declared.status.Status.{Status}
 use Rattle.call_plans.specs.declared.status.Status.TheVariants.{ReadFault, ProgramRefused}

@@ -3,7 +3,9 @@ use Rattle.std.specs.Prelude.{◌≡◌, ◌≢◌, ◌⊎◌, ℕ, ◌≤◌, L
 use Rattle.std.specs.FinMap.{get}
 use Rattle.outside_io.specs.Files.{Files}
 use Rattle.command_line.specs.Lines.{Word}
-use Rattle.command_line.specs.Requests.{OfProgram, OfPair, Prove, Check, Asks}
+use Rattle.command_line.specs.Requests.{OfProgram, OfPair, Asks}
+use Rattle.command_line.specs.declared.task.ProgramTask.TheVariants.{Prove}
+use Rattle.command_line.specs.declared.task.PairTask.TheVariants.{Check}
 use Rattle.call_plans.specs.declared.status.Status.{Status}
 use Rattle.call_plans.specs.declared.status.Status.TheVariants.{Done, Unknown, Memory}
 use Rattle.call_plans.specs.Calls.{Put}

@@ -5,8 +5,10 @@ use Rattle.command_line.specs.declared.task.ProgramTask.{ProgramTask}
 use Rattle.command_line.specs.declared.task.PairTask.{PairTask}
 use Rattle.command_line.specs.declared.task.NumberTask.{NumberTask}
 use Rattle.command_line.specs.Lines.{Word}
-use Rattle.command_line.specs.Requests.{Request, OfProgram, OfPair, OfNumber, Analyse, Prove, Facts, Check, Replay}
-use Rattle.command_line.specs.Requests.{Generate, Selfrun}
+use Rattle.command_line.specs.Requests.{Request, OfProgram, OfPair, OfNumber}
+use Rattle.command_line.specs.declared.task.ProgramTask.TheVariants.{Analyse, Prove, Facts}
+use Rattle.command_line.specs.declared.task.PairTask.TheVariants.{Check, Replay}
+use Rattle.command_line.specs.declared.task.NumberTask.TheVariants.{Generate, Selfrun}
 use Rattle.call_plans.specs.Plans.{Cases, Plan, Answers, Reads}
 use Rattle.koat_cli.specs.ProgramTexts.{programs}
 use Rattle.koat_cli.specs.ProofTexts.{proofs}

@@ -13,7 +13,7 @@ returns c =
     let o = c.in_ok-found.found.outcome in
     timed_told (FindsTimesWithFacts p c.args.pivots) (StatesFacts p c.args.pivots) (list_all is_timed (report_of o).times)
     c.status_of.result c.in_ok-text.text.items c.status_of.ensures (record {
-      facts = c.in_ok-found.found.facts.items;
+      facts = c.in_ok-found.found.kept.items;
       report = report_of o;
       found = c.in_ok-found.ensures.found;
       times = refl;
