@@ -74,7 +74,7 @@ module _ (laws : Determined) (call : Call) (s t : Status) (x y : List ℕ) where
   held_one None e some honest also = absurd (let never : ⊥ = cc in never)
   held_one (Some files) e some honest also =
       says_unique call s t x y (λ r asked.
-          answer_unique call.shelf files call.fetches_before (plan_of r) e (plans_lawful laws r) s t x y honest also)
+      answer_unique call.shelf files call.fetches_before (plan_of r) e (plans_lawful laws r) s t x y honest also)
 
   told_one : IsSome call.shelf.held → IsHonest call.shelf s → IsHonest call.shelf t → Says call s x → Says call t y
       → AreOneAnswer s t x y
@@ -86,7 +86,7 @@ answers_exclude laws = record {
   other_words = λ call t x y a b. nothing_gets_usage call t y (usage_for_nothing call x a) b;
   without_file = λ call s t x y nothing.
       says_unique call s t x y (λ r asked.
-          last_unique call.shelf call.fetches_before (plan_of r) s t x y (nothing r asked) (plans_lawful laws r));
+      last_unique call.shelf call.fetches_before (plan_of r) s t x y (nothing r asked) (plans_lawful laws r));
   without_faults = λ call s t x y some steady.
       told_one laws call s t x y some (honest_without_rise call.shelf steady s) (honest_without_rise call.shelf steady t);
   read_faults_aside = λ call s t x y some other also.

@@ -27,11 +27,14 @@ pub generated_told : (n : ℕ) (p : Program) (x : List ℕ) → p ≡ generated 
     → SpellsWithin (canonical_text p) p → Tells (generate_answers n) Done x
 generated_told n p x e result_is spelled =
     let is : x ≡ canonical_text (generated n) = result_is ∙ ap canonical_text e in
-    inl (refl, record {
-      result_is = is;
-      spelled = subst (λ (t : List ℕ). SpellsWithin t (generated n)) (sym is)
-          (subst (λ (q : Program). SpellsWithin (canonical_text q) q) e spelled);
-    })
+    inl (
+      refl,
+      record {
+        result_is = is;
+        spelled = subst (λ (t : List ℕ). SpellsWithin t (generated n)) (sym is)
+            (subst (λ (q : Program). SpellsWithin (canonical_text q) q) e spelled);
+      },
+    )
 
 -- the figures of a program that is another
 pub figures_told : (p q : Program) (o : Outcome) (s : Status) (x : List ℕ) → p ≡ q

@@ -62,8 +62,8 @@ module _ (laws : Determined) (p : Program) where
   figures_unique all x y a b =
       let one = laws.reports.outcomes p default_pivots a.outcome b.outcome a.found.found a.lemmas b.found.found b.lemmas in
       let many : length a.outcome.lemmas.items ≡ length b.outcome.lemmas.items =
-          sym (length-map a.outcome.lemmas.items proof_of)
-          ∙ (ap length one.lemmas ∙ length-map b.outcome.lemmas.items proof_of) in
+      sym (length-map a.outcome.lemmas.items proof_of)
+      ∙ (ap length one.lemmas ∙ length-map b.outcome.lemmas.items proof_of) in
       a.result_is
       ∙ (ap (λ (r : Report). text_of_figures p r (length a.outcome.lemmas.items)) one.report
       ∙ (ap (λ (n : ℕ). text_of_figures p (report_of b.outcome) n) many ∙ sym b.result_is))

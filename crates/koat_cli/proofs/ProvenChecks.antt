@@ -66,8 +66,8 @@ module _ (bytes text : List ℕ) (w : WroteProofText bytes text) where
       → IsProved p w.pivots o x → Appended w.put x → Accepted bytes text
   by_proved p gives o x proved appended =
       let same : gives.bytes ≡ bytes =
-          there_one (get w.files w.file) gives.bytes bytes
-          (given w.call.shelf.held w.files w.file gives.bytes w.on_shelf.held gives.held) w.held in
+      there_one (get w.files w.file) gives.bytes bytes
+      (given w.call.shelf.held w.files w.file gives.bytes w.on_shelf.held gives.held) w.held in
       let is : x ≡ text = one_appended w.put.written_before w.put.written_after x text w.tells appended w.appended in
       record {
         within = subst (λ (b : List ℕ). length b ≤ program_limit) same gives.within;

@@ -23,13 +23,16 @@ pub tally_told : ReplaysAreDecided → (p : Program) (run : Run) (r : Report) (t
     → IsReportOn p r → at ≡ sizes_of_start run.start → x ≡ text_of_replay at tally r
     → Tells (replay_answers p run) Done x
 tally_told law p run r tally at x valid replayed found holds reasons on sizes result_is =
-    inl (refl, record {
-      in_range = replayed.run;
-      report = r;
-      found = record { found = found; true_on_all_runs = holds; reasons = reasons };
-      on_program = on;
-      within_bounds = tally_within law p r run.start (last_first run) valid on holds replayed.run;
-      result_is = result_is
-          ∙ (ap (λ (sizes : List ℕ). text_of_replay sizes tally r) sizes
-          ∙ ap (λ (sums : Sums). text_of_replay (sizes_of_start run.start) sums r) replayed.tally);
-    })
+    inl (
+      refl,
+      record {
+        in_range = replayed.run;
+        report = r;
+        found = record { found = found; true_on_all_runs = holds; reasons = reasons };
+        on_program = on;
+        within_bounds = tally_within law p r run.start (last_first run) valid on holds replayed.run;
+        result_is = result_is
+            ∙ (ap (λ (sizes : List ℕ). text_of_replay sizes tally r) sizes
+            ∙ ap (λ (sums : Sums). text_of_replay (sizes_of_start run.start) sums r) replayed.tally);
+      },
+    )
