@@ -31,17 +31,17 @@ module _ {F T : Type 0} (means : shelf.Ghosts F) (before middle after : F) (kind
       → OnPlan (seen_of means before after) (means.fetches before) (Reads kind file next) s x
   behind s x held steady counted last gives on =
       let same : seen_of means middle after ≡ seen_of means before after =
-          seen_same (means.held middle) (means.held before) (means.faults middle) (means.faults before)
-          (means.faults after) (means.taken after) (means.fetches after) held (sym steady) in
+      seen_same (means.held middle) (means.held before) (means.faults middle) (means.faults before)
+      (means.faults after) (means.taken after) (means.fetches after) held (sym steady) in
       let given : Gives kind (seen_of means before after) file (IsLast (next t)) t = record {
-            bytes = gives.bytes;
-            held = gives.held;
-            taken = λ is. last is ∙ gives.taken tt;
-            within = gives.within;
-            stands = gives.stands;
-          } in
+        bytes = gives.bytes;
+        held = gives.held;
+        taken = λ is. last is ∙ gives.taken tt;
+        within = gives.within;
+        stands = gives.stands;
+      } in
       Of t given (subst (λ (count : Option ℕ). OnPlan (seen_of means before after) count (next t) s x) counted
-          (subst (λ (seen : Seen). OnPlan seen (means.fetches middle) (next t) s x) same on))
+      (subst (λ (seen : Seen). OnPlan seen (means.fetches middle) (next t) s x) same on))
 
   -- the same for what is answered if memory suffices
   pub behind_ok : {E : Type 0} (said : Result StatusText E) → means.held middle ≡ means.held before

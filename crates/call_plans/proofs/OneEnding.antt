@@ -51,7 +51,7 @@ module _ {T : Type 0} (kind : TextKind T) (decided : IsDecided kind) (there : Op
       absurd (none t (subst (λ (bytes : List ℕ). kind.StandsFor bytes t) (there_unique there a c e f) stands))
   file_unique m l b n (Stands a e short t stands h) (Stands c f within u others k) =
       let same : u ≡ t = decided.one a u t
-          (subst (λ (bytes : List ℕ). kind.StandsFor bytes u) (there_unique there c a f e) others) stands in
+      (subst (λ (bytes : List ℕ). kind.StandsFor bytes u) (there_unique there c a f e) others) stands in
       n a t stands h (subst NextB same k)
 
 -- one status and one text are answered on files

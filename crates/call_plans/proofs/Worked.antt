@@ -39,7 +39,7 @@ never_more : (bytes : List ℕ) → length bytes ≤ 3
     → ¬ (IsSomeAnd (get (with_bytes bytes) (codes "f")) (λ others. 3 < length others))
 never_more bytes few more =
     let long : 3 < length bytes =
-        subst (λ (o : Option (List ℕ)). IsSomeAnd o (λ others. 3 < length others)) (has bytes) more in
+    subst (λ (o : Option (List ℕ)). IsSomeAnd o (λ others. 3 < length others)) (has bytes) more in
     omega (arith, few, long)
 
 -- nothing has risen
@@ -74,10 +74,13 @@ done_alone n s zero_is (inl h) = let more : 0 < n = h.1 in omega (arith, zero_is
 done_alone n s zero_is (inr never) = never
 
 toy_lawful : IsLawful toy
-toy_lawful = (counts_decided, λ bytes n stands. (
-  record { one = λ x y a b. a.1 ∙ sym b.1; comes = λ x a. a.0; alone = done_alone n },
-  (record { one = λ x y a b. a.1 ∙ sym b.1; comes = λ x a. a.0; alone = λ s h never. never }, tt),
-))
+toy_lawful = (
+  counts_decided,
+  λ bytes n stands. (
+    record { one = λ x y a b. a.1 ∙ sym b.1; comes = λ x a. a.0; alone = done_alone n },
+    (record { one = λ x y a b. a.1 ∙ sym b.1; comes = λ x a. a.0; alone = λ s h never. never }, tt),
+  ),
+)
 
 -- two disclosed counts that are the same
 some_one : (a b : ℕ) → ◌≡◌ {A = Option ℕ} (Some a) (Some b) → a ≡ b
@@ -217,26 +220,35 @@ not_missed (inr (n, (gives, never))) = never
 
 pub meanings : StatusesHaveMeanings
 meanings = record {
-  done = (0, (
-    record {
-      bytes = codes "n";
-      held = has (codes "n");
-      taken = λ last. refl;
-      within = omega arith;
-      stands = ([], (refl, refl));
-    },
-    (codes "none", (inl (refl, (refl, refl)), refl)),
-  ));
+  done = (
+    0,
+    (
+      record {
+        bytes = codes "n";
+        held = has (codes "n");
+        taken = λ last. refl;
+        within = omega arith;
+        stands = ([], (refl, refl));
+      },
+      (codes "none", (inl (refl, (refl, refl)), refl)),
+    ),
+  );
   in_part = λ h. let e = (wrote_done (codes "n") (codes "non") 1 h).1 in omega (arith, ap length e);
   nothing = λ h. let e = (wrote_done (codes "n") [] 1 h).1 in omega (arith, ap length e);
   other_file = λ h. let e = (wrote_done (codes "no") (codes "none") 2 h).0 in omega (arith, ap length e);
   no_row = λ (n, (gives, (x, (told, appended)))). told_no n x told;
-  refused = inl (codes "bad", (inr (record {
-    bytes = codes "m";
-    fetched = record { held = has (codes "m"); taken = refl; within = omega arith };
-    refused = (not_n, refl);
-    ends = refl;
-  }), refl));
+  refused = inl (
+    codes "bad",
+    (
+      inr (record {
+        bytes = codes "m";
+        fetched = record { held = has (codes "m"); taken = refl; within = omega arith };
+        refused = (not_n, refl);
+        ends = refl;
+      }),
+      refl,
+    ),
+  );
   refused_good = not_refused;
   missed = inl (inr lacks);
   not_missed = not_missed;
