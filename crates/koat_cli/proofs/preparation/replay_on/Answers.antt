@@ -21,7 +21,7 @@ returns-in-Thing-clause-says g c =
     let p = program_of c.args.program.now in
     let table : Run → Cases = λ thing. replay_answers p thing in
     behind_ok g.F.Shelf before after after (runs p) (string_bytes c.args.file.now) (λ thing. Answers (table thing))
-    (run_of c.in-Thing.run) c.replayed.result c.in_ok-said.ensures.keeps_files c.in_ok-said.ensures.keeps_count
+    (run_of c.in-Thing.run') c.replayed.result c.in_ok-said.ensures.keeps_files c.in_ok-said.ensures.keeps_count
     (rw c.in-Thing.is at c.in_ok-said.ensures.fault) c.in_ok-said.ensures.counted (λ last. refl)
     (rw c.in-Thing.is at c.in_ok-said.ensures.gives)
-    (told_ok (seen_of g.F.Shelf after after) (g.F.Shelf.fetches after) (table (run_of c.in-Thing.run)) c.replayed.result refl c.replayed.ensures)
+    (told_ok (seen_of g.F.Shelf after after) (g.F.Shelf.fetches after) (table (run_of c.in-Thing.run')) c.replayed.result refl c.replayed.ensures)
