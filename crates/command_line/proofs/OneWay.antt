@@ -1,12 +1,16 @@
 -- Words are read in one way.
-use Rattle.std.proofs.Common.{◌≡◌, ℕ, ◌==◌, cond, List, [], ◌∷◌, ◌++◌, Option, Some, None, refl, sym, ◌∙◌, ap}
-use Rattle.std.proofs.Common.{codes, get_or}
+use Rattle.std.proofs.Common.{◌≡◌, ◌≢◌, ℕ, suc, Bool, true, false, cond, List, [], ◌∷◌, ◌++◌, Option, Some, None, refl}
+use Rattle.std.proofs.Common.{sym, ◌∙◌, ap, codes, arith}
+use Rattle.std.specs.Prelude.{nat_eq}
+use Rattle.std.specs.List.{Contains}
+use Rattle.std.specs.Cmp.Lexicographic.{pointwise}
 use Rattle.std.specs.Str.Parse.{digits_value}
 use Rattle.command_line.specs.declared.command.Command.{Command}
 use Rattle.command_line.specs.declared.command.Command.TheVariants as commands
 use Rattle.command_line.specs.Lines.{Word, Words, Item, Apart, Joined, Positional, AreItems, words_of_items, values_of}
 use Rattle.command_line.specs.Lines.{positionals_of, Gives}
-use Rattle.command_line.specs.Requests.{Request, Analyse, Prove, Check, Replay, Generate, Selfrun, Facts, word_of, command_of}
+use Rattle.command_line.specs.Requests.{Request, OfProgram, OfPair, OfNumber, Analyse, Prove, Facts, Check, Replay}
+use Rattle.command_line.specs.Requests.{Generate, Selfrun, word_of, all_commands, command_of}
 use Rattle.command_line.specs.Requests.{default_pivots, AllowsPivots, AsksWith, Asks}
 use Rattle.command_line.specs.Laws.{WordsAreReadInOneWay}
 use Rattle.command_line.proofs.Firsts.{end_first, apart_first, joined_first, plain_first, none_first, gives_along}
@@ -37,27 +41,46 @@ one_line words v p w q g h =
     let same = one g.items g.behind g.proper w q (gives_along _ _ _ _ _ _ (sym g.spelled) refl refl h) in
     (g.has_values ∙ sym same.0, g.has_positionals ∙ sym same.1)
 
--- the command whose word begins with a letter
-abbrev pub by_letter : ℕ → Command
-by_letter l =
-    cond (l == 97) commands.Analyse
-    (cond (l == 112) commands.Prove
-    (cond (l == 99) commands.Check (cond (l == 114) commands.Replay
-    (cond (l == 103) commands.Generate (cond (l == 102) commands.Facts commands.Selfrun)))))
+-- the first of these commands whose word this is
+abbrev pub first_named : Word → List Command → Option Command
+first_named word [] = None
+first_named word (c ∷ cs) = cond (pointwise nat_eq word (word_of c)) (Some c) (first_named word cs)
 
--- each command's word begins with its letter
-by_word : (c : Command) → by_letter (get_or (word_of c) 0 0) ≡ c
-by_word commands.Analyse = refl
-by_word commands.Prove = refl
-by_word commands.Check = refl
-by_word commands.Replay = refl
-by_word commands.Generate = refl
-by_word commands.Selfrun = refl
-by_word commands.Facts = refl
+-- each command is listed, and no command before it has its word
+pub named_first : (c : Command) → first_named (word_of c) all_commands ≡ Some c
+named_first (commands.OfProgram Analyse) = refl
+named_first (commands.OfProgram Prove) = refl
+named_first (commands.OfProgram Facts) = refl
+named_first (commands.OfPair Check) = refl
+named_first (commands.OfPair Replay) = refl
+named_first (commands.OfNumber Generate) = refl
+named_first (commands.OfNumber Selfrun) = refl
 
--- so a word is that of one command
+-- a command that is found in a list is in it
+found_listed : (word : Word) (cs : List Command) (c : Command) → first_named word cs ≡ Some c → Contains cs c
+found_listed word [] c e = cc
+found_listed word (d ∷ cs) c e = go (pointwise nat_eq word (word_of d)) e (found_listed word cs c)
+  where
+    go : (b : Bool) → cond b (Some d) (first_named word cs) ≡ Some c → (first_named word cs ≡ Some c → Contains cs c)
+        → Contains (d ∷ cs) c
+    go true e rest = let same : d ≡ c = cc in (0, omega arith, same)
+    go false e rest = let at = rest e in (suc at.0, omega (arith, at.1), at.2)
+
+-- so each command is listed
+pub command_listed : (c : Command) → Contains all_commands c
+command_listed c = found_listed (word_of c) all_commands c (named_first c)
+
+-- a word is that of one command
 pub one_command : (c d : Command) → word_of c ≡ word_of d → c ≡ d
-one_command c d e = sym (by_word c) ∙ (ap (λ (w : Word). by_letter (get_or w 0 0)) e ∙ by_word d)
+one_command c d e =
+    let same : Some c ≡ Some d = sym (named_first c) ∙ (ap (λ (w : Word). first_named w all_commands) e ∙ named_first d) in
+    cc
+
+-- and a word that none of the listed commands has is that of no command
+pub no_command : (word : Word) → first_named word all_commands ≡ None → (c : Command) → word ≢ word_of c
+no_command word none c e =
+    let some : None ≡ Some c = sym none ∙ (ap (λ (w : Word). first_named w all_commands) e ∙ named_first c) in
+    cc
 
 -- the first and the second of words, and how many pivots values of the option allow, if any
 abbrev pub first_of : Words → Word
@@ -74,13 +97,9 @@ pivots_by (value ∷ values) = digits_value 10 value
 
 -- the request of a command with these values of the option and these positionals, if any
 abbrev pub request_by : Command → Words → Words → Request
-request_by commands.Analyse values positionals = Analyse (pivots_by values) (first_of positionals)
-request_by commands.Prove values positionals = Prove (pivots_by values) (first_of positionals)
-request_by commands.Check values positionals = Check (first_of positionals) (second_of positionals)
-request_by commands.Replay values positionals = Replay (first_of positionals) (second_of positionals)
-request_by commands.Generate values positionals = Generate (digits_value 10 (first_of positionals))
-request_by commands.Selfrun values positionals = Selfrun (digits_value 10 (first_of positionals))
-request_by commands.Facts values positionals = Facts (pivots_by values) (first_of positionals)
+request_by (commands.OfProgram task) values positionals = OfProgram task (pivots_by values) (first_of positionals)
+request_by (commands.OfPair task) values positionals = OfPair task (first_of positionals) (second_of positionals)
+request_by (commands.OfNumber task) values positionals = OfNumber task (digits_value 10 (first_of positionals))
 
 -- values allow no other number of pivots
 one_number : (values : Words) (n : ℕ) → AllowsPivots values n → n ≡ pivots_by values
@@ -91,21 +110,12 @@ one_number (v ∷ w ∷ vs) n h = absurd h
 -- a command has no other request with these values and positionals
 pub one_by : (r : Request) (values positionals : Words) → AsksWith r values positionals
     → r ≡ request_by (command_of r) values positionals
-one_by (Analyse n f) values positionals h =
-    ap (λ (k : ℕ). Analyse k f) (one_number values n h.allowed)
-    ∙ ap (λ (ws : Words). Analyse (pivots_by values) (first_of ws)) (sym h.one)
-one_by (Prove n f) values positionals h =
-    ap (λ (k : ℕ). Prove k f) (one_number values n h.allowed)
-    ∙ ap (λ (ws : Words). Prove (pivots_by values) (first_of ws)) (sym h.one)
-one_by (Check f q) values positionals h = ap (λ (ws : Words). Check (first_of ws) (second_of ws)) (sym h.two)
-one_by (Replay f q) values positionals h = ap (λ (ws : Words). Replay (first_of ws) (second_of ws)) (sym h.two)
-one_by (Generate n) values positionals h =
-    ap Generate (sym h.number.value) ∙ ap (λ (ws : Words). Generate (digits_value 10 (first_of ws))) (sym h.one)
-one_by (Selfrun n) values positionals h =
-    ap Selfrun (sym h.number.value) ∙ ap (λ (ws : Words). Selfrun (digits_value 10 (first_of ws))) (sym h.one)
-one_by (Facts n f) values positionals h =
-    ap (λ (k : ℕ). Facts k f) (one_number values n h.allowed)
-    ∙ ap (λ (ws : Words). Facts (pivots_by values) (first_of ws)) (sym h.one)
+one_by (OfProgram task n f) values positionals h =
+    ap (λ (k : ℕ). OfProgram task k f) (one_number values n h.allowed)
+    ∙ ap (λ (ws : Words). OfProgram task (pivots_by values) (first_of ws)) (sym h.one)
+one_by (OfPair task f q) values positionals h = ap (λ (ws : Words). OfPair task (first_of ws) (second_of ws)) (sym h.two)
+one_by (OfNumber task n) values positionals h =
+    ap (OfNumber task) (sym h.number.value) ∙ ap (λ (ws : Words). OfNumber task (digits_value 10 (first_of ws))) (sym h.one)
 
 -- words ask for one thing at most
 one_request : (words : Words) (r q : Request) → Asks words r → Asks words q → r ≡ q

@@ -1,14 +1,17 @@
 -- Words that ask for nothing.
-use Rattle.std.proofs.Common.{◌≡◌, ◌≢◌, ℕ, [], ◌∷◌, ◌++◌, refl, sym, ◌∙◌, ap, subst, arith, codes, get_or, true}
-use Rattle.std.proofs.Common.{false, length}
+use Rattle.std.proofs.Common.{◌≡◌, ℕ, [], ◌∷◌, ◌++◌, refl, sym, ◌∙◌, ap, subst, arith, codes, get_or, true, false}
 use Rattle.command_line.specs.declared.command.Command.{Command}
 use Rattle.command_line.specs.declared.command.Command.TheVariants as commands
+use Rattle.command_line.specs.declared.task.ProgramTask.{ProgramTask}
+use Rattle.command_line.specs.declared.task.PairTask.{PairTask}
+use Rattle.command_line.specs.declared.task.NumberTask.{NumberTask}
 use Rattle.command_line.specs.Lines.{Word, Words, is_plain, Gives}
 use Rattle.command_line.specs.Numerals.{IsNumber}
-use Rattle.command_line.specs.Requests.{word_of, command_of, AllowsPivots, AsksWith}
+use Rattle.command_line.specs.Requests.{Analyse, Facts, Check, Replay, Generate, Selfrun, word_of, command_of}
+use Rattle.command_line.specs.Requests.{AllowsPivots, AsksWith}
 use Rattle.command_line.specs.Steps.{IsOther}
 use Rattle.command_line.specs.Worked.{OtherWords, AsksNothing}
-use Rattle.command_line.proofs.OneWay.{one_command, request_by}
+use Rattle.command_line.proofs.OneWay.{one_command, no_command, request_by}
 use Rattle.command_line.proofs.Commands.{none_of_none, none_without_command, none_by}
 use Rattle.command_line.proofs.Firsts.{apart_first, joined_first, plain_first, other_first, none_first, gives_along}
 
@@ -22,107 +25,48 @@ nothing c others none r h =
     none_by c h.values h.positionals (none h.values h.positionals (gives_along _ _ _ _ _ _ same refl refl h.gives)) r
     (record { command_is = one_command (command_of r) c heads; parts = h.parts })
 
--- so do those behind `analyse` where there is no file with a number of pivots
-no_analysis : (others : Words) → ((values : Words) (n : ℕ) (file : Word) → Gives others values (file ∷ []) → AllowsPivots values n → ⊥)
-    → AsksNothing (codes "analyse" ∷ others)
-no_analysis others none = nothing commands.Analyse others (λ values positionals g h. none values _ _ (gives_along _ _ _ _ _ _ refl refl (sym h.one) g) h.allowed)
+-- so do those behind a command with a program's file where there is no file with a number of pivots
+no_program : (task : ProgramTask) (others : Words)
+    → ((values : Words) (n : ℕ) (file : Word) → Gives others values (file ∷ []) → AllowsPivots values n → ⊥)
+    → AsksNothing (word_of (commands.OfProgram task) ∷ others)
+no_program task others none =
+    nothing (commands.OfProgram task) others (λ values positionals g h. none values _ _ (gives_along _ _ _ _ _ _ refl refl (sym h.one) g) h.allowed)
 
--- the same behind `facts`
-no_facts : (others : Words) → ((values : Words) (n : ℕ) (file : Word) → Gives others values (file ∷ []) → AllowsPivots values n → ⊥)
-    → AsksNothing (codes "facts" ∷ others)
-no_facts others none = nothing commands.Facts others (λ values positionals g h. none values _ _ (gives_along _ _ _ _ _ _ refl refl (sym h.one) g) h.allowed)
+-- behind one with two files where there are no two files without the option
+no_pair : (task : PairTask) (others : Words) → ((first second : Word) → Gives others [] (first ∷ second ∷ []) → ⊥)
+    → AsksNothing (word_of (commands.OfPair task) ∷ others)
+no_pair task others none =
+    nothing (commands.OfPair task) others (λ values positionals g h. none _ _ (gives_along _ _ _ _ _ _ refl (sym h.no_option) (sym h.two) g))
 
--- and those behind another command where there are no two files without the option, or no number without it
-no_check : (others : Words) → ((first second : Word) → Gives others [] (first ∷ second ∷ []) → ⊥) → AsksNothing (codes "check" ∷ others)
-no_check others none = nothing commands.Check others (λ values positionals g h. none _ _ (gives_along _ _ _ _ _ _ refl (sym h.no_option) (sym h.two) g))
-
-no_replay : (others : Words) → ((first second : Word) → Gives others [] (first ∷ second ∷ []) → ⊥) → AsksNothing (codes "replay" ∷ others)
-no_replay others none = nothing commands.Replay others (λ values positionals g h. none _ _ (gives_along _ _ _ _ _ _ refl (sym h.no_option) (sym h.two) g))
-
-no_program : (others : Words) → ((word : Word) (n : ℕ) → Gives others [] (word ∷ []) → IsNumber 100 word n → ⊥)
-    → AsksNothing (codes "generate" ∷ others)
-no_program others none = nothing commands.Generate others (λ values positionals g h. none _ _ (gives_along _ _ _ _ _ _ refl (sym h.no_option) (sym h.one) g) h.number)
-
-no_figures : (others : Words) → ((word : Word) (n : ℕ) → Gives others [] (word ∷ []) → IsNumber 100 word n → ⊥)
-    → AsksNothing (codes "selfrun" ∷ others)
-no_figures others none = nothing commands.Selfrun others (λ values positionals g h. none _ _ (gives_along _ _ _ _ _ _ refl (sym h.no_option) (sym h.one) g) h.number)
+-- and behind one with a number where there is no number without it
+no_number_of : (task : NumberTask) (others : Words) → ((word : Word) (n : ℕ) → Gives others [] (word ∷ []) → IsNumber 100 word n → ⊥)
+    → AsksNothing (word_of (commands.OfNumber task) ∷ others)
+no_number_of task others none =
+    nothing (commands.OfNumber task) others (λ values positionals g h. none _ _ (gives_along _ _ _ _ _ _ refl (sym h.no_option) (sym h.one) g) h.number)
 
 no_word : AsksNothing []
 no_word = none_of_none
 
 -- `Analyse` is no command
 other_command : AsksNothing (codes "Analyse" ∷ codes "p" ∷ [])
-other_command = none_without_command _ (codes "Analyse") (codes "p" ∷ []) refl go
-  where
-    go : (c : Command) → codes "Analyse" ≢ word_of c
-    go commands.Analyse e = omega (arith, ap (λ (w : Word). get_or w 0 0) e)
-    go commands.Prove e = omega (arith, ap (λ (w : Word). get_or w 0 0) e)
-    go commands.Check e = omega (arith, ap (λ (w : Word). get_or w 0 0) e)
-    go commands.Replay e = omega (arith, ap (λ (w : Word). get_or w 0 0) e)
-    go commands.Generate e = omega (arith, ap (λ (w : Word). get_or w 0 0) e)
-    go commands.Selfrun e = omega (arith, ap (λ (w : Word). get_or w 0 0) e)
-    go commands.Facts e = omega (arith, ap (λ (w : Word). get_or w 0 0) e)
+other_command = none_without_command _ (codes "Analyse") (codes "p" ∷ []) refl (no_command (codes "Analyse") refl)
 
 -- nor are `gen`, `analys` and `fact`, which lack letters, nor an option
 shorter_command : AsksNothing (codes "gen" ∷ codes "1" ∷ [])
-shorter_command = none_without_command _ (codes "gen") (codes "1" ∷ []) refl go
-  where
-    go : (c : Command) → codes "gen" ≢ word_of c
-    go commands.Analyse e = omega (arith, ap length e)
-    go commands.Prove e = omega (arith, ap length e)
-    go commands.Check e = omega (arith, ap length e)
-    go commands.Replay e = omega (arith, ap length e)
-    go commands.Generate e = omega (arith, ap length e)
-    go commands.Selfrun e = omega (arith, ap length e)
-    go commands.Facts e = omega (arith, ap length e)
+shorter_command = none_without_command _ (codes "gen") (codes "1" ∷ []) refl (no_command (codes "gen") refl)
 
 letter_missing : AsksNothing (codes "analys" ∷ codes "p" ∷ [])
-letter_missing = none_without_command _ (codes "analys") (codes "p" ∷ []) refl go
-  where
-    go : (c : Command) → codes "analys" ≢ word_of c
-    go commands.Analyse e = omega (arith, ap length e)
-    go commands.Prove e = omega (arith, ap length e)
-    go commands.Check e = omega (arith, ap length e)
-    go commands.Replay e = omega (arith, ap (λ (w : Word). get_or w 0 0) e)
-    go commands.Generate e = omega (arith, ap length e)
-    go commands.Selfrun e = omega (arith, ap length e)
-    go commands.Facts e = omega (arith, ap length e)
+letter_missing = none_without_command _ (codes "analys") (codes "p" ∷ []) refl (no_command (codes "analys") refl)
 
 one_fact : AsksNothing (codes "fact" ∷ codes "p" ∷ [])
-one_fact = none_without_command _ (codes "fact") (codes "p" ∷ []) refl go
-  where
-    go : (c : Command) → codes "fact" ≢ word_of c
-    go commands.Analyse e = omega (arith, ap length e)
-    go commands.Prove e = omega (arith, ap length e)
-    go commands.Check e = omega (arith, ap length e)
-    go commands.Replay e = omega (arith, ap length e)
-    go commands.Generate e = omega (arith, ap length e)
-    go commands.Selfrun e = omega (arith, ap length e)
-    go commands.Facts e = omega (arith, ap length e)
+one_fact = none_without_command _ (codes "fact") (codes "p" ∷ []) refl (no_command (codes "fact") refl)
 
 option_alone : AsksNothing (codes "--version" ∷ [])
-option_alone = none_without_command _ (codes "--version") [] refl go
-  where
-    go : (c : Command) → codes "--version" ≢ word_of c
-    go commands.Analyse e = omega (arith, ap length e)
-    go commands.Prove e = omega (arith, ap length e)
-    go commands.Check e = omega (arith, ap length e)
-    go commands.Replay e = omega (arith, ap length e)
-    go commands.Generate e = omega (arith, ap length e)
-    go commands.Selfrun e = omega (arith, ap length e)
-    go commands.Facts e = omega (arith, ap length e)
+option_alone = none_without_command _ (codes "--version") [] refl (no_command (codes "--version") refl)
 
 option_first : AsksNothing (codes "--pivots" ∷ codes "5" ∷ codes "analyse" ∷ codes "p" ∷ [])
-option_first = none_without_command _ (codes "--pivots") (codes "5" ∷ codes "analyse" ∷ codes "p" ∷ []) refl go
-  where
-    go : (c : Command) → codes "--pivots" ≢ word_of c
-    go commands.Analyse e = omega (arith, ap (λ (w : Word). get_or w 0 0) e)
-    go commands.Prove e = omega (arith, ap (λ (w : Word). get_or w 0 0) e)
-    go commands.Check e = omega (arith, ap (λ (w : Word). get_or w 0 0) e)
-    go commands.Replay e = omega (arith, ap (λ (w : Word). get_or w 0 0) e)
-    go commands.Generate e = omega (arith, ap (λ (w : Word). get_or w 0 0) e)
-    go commands.Selfrun e = omega (arith, ap (λ (w : Word). get_or w 0 0) e)
-    go commands.Facts e = omega (arith, ap (λ (w : Word). get_or w 0 0) e)
+option_first =
+    none_without_command _ (codes "--pivots") (codes "5" ∷ codes "analyse" ∷ codes "p" ∷ []) refl (no_command (codes "--pivots") refl)
 
 no_file : (values : Words) (n : ℕ) (file : Word) → Gives [] values (file ∷ []) → AllowsPivots values n → ⊥
 no_file values n file g a = let e = (none_first values (file ∷ []) g).1 in cc
@@ -268,25 +212,25 @@ other_words = record {
   letter_missing = letter_missing;
   option_alone = option_alone;
   option_first = option_first;
-  no_file = no_analysis [] no_file;
-  two_files = no_analysis (codes "p" ∷ codes "p" ∷ []) two_files;
-  leading_zero = no_analysis (codes "--pivots" ∷ codes "01" ∷ codes "p" ∷ []) leading_zero;
-  too_many = no_analysis ((codes "--pivots=" ++ codes "1000001") ∷ codes "p" ∷ []) too_many;
-  no_number = no_analysis ((codes "--pivots=" ++ []) ∷ codes "p" ∷ []) no_number;
-  twice = no_analysis ((codes "--pivots=" ++ codes "1") ∷ codes "--pivots" ∷ codes "1" ∷ codes "p" ∷ []) twice;
-  no_value = no_analysis (codes "p" ∷ codes "--pivots" ∷ []) no_value;
-  other_option = no_analysis (codes "--help" ∷ codes "p" ∷ []) other_option;
-  short_option = no_analysis (codes "-p" ∷ []) short_option;
-  one_of_two = no_check (codes "p" ∷ []) one_of_two;
-  three_files = no_check (codes "p" ∷ codes "q" ∷ codes "r" ∷ []) three_files;
-  option_of_two = no_replay ((codes "--pivots=" ++ codes "5") ∷ codes "p" ∷ codes "q" ∷ []) option_of_two;
-  too_large = no_program (codes "101" ∷ []) (λ word n g h. too_large n (the_number (codes "101") word n refl g h));
-  two_numbers = no_program (codes "1" ∷ codes "2" ∷ []) two_numbers;
-  zero_first = no_figures (codes "01" ∷ []) (λ word n g h. zero_first n (the_number (codes "01") word n refl g h));
-  with_sign = no_figures (codes "+1" ∷ []) (λ word n g h. with_sign n (the_number (codes "+1") word n refl g h));
-  no_digit = no_program ([] ∷ []) (λ word n g h. (the_number [] word n refl g h).some refl);
-  option_of_number = no_figures (codes "--pivots" ∷ codes "5" ∷ codes "1" ∷ []) option_of_number;
-  facts_of_none = no_facts [] no_file;
-  facts_of_two = no_facts (codes "p" ∷ codes "p" ∷ []) two_files;
+  no_file = no_program Analyse [] no_file;
+  two_files = no_program Analyse (codes "p" ∷ codes "p" ∷ []) two_files;
+  leading_zero = no_program Analyse (codes "--pivots" ∷ codes "01" ∷ codes "p" ∷ []) leading_zero;
+  too_many = no_program Analyse ((codes "--pivots=" ++ codes "1000001") ∷ codes "p" ∷ []) too_many;
+  no_number = no_program Analyse ((codes "--pivots=" ++ []) ∷ codes "p" ∷ []) no_number;
+  twice = no_program Analyse ((codes "--pivots=" ++ codes "1") ∷ codes "--pivots" ∷ codes "1" ∷ codes "p" ∷ []) twice;
+  no_value = no_program Analyse (codes "p" ∷ codes "--pivots" ∷ []) no_value;
+  other_option = no_program Analyse (codes "--help" ∷ codes "p" ∷ []) other_option;
+  short_option = no_program Analyse (codes "-p" ∷ []) short_option;
+  one_of_two = no_pair Check (codes "p" ∷ []) one_of_two;
+  three_files = no_pair Check (codes "p" ∷ codes "q" ∷ codes "r" ∷ []) three_files;
+  option_of_two = no_pair Replay ((codes "--pivots=" ++ codes "5") ∷ codes "p" ∷ codes "q" ∷ []) option_of_two;
+  too_large = no_number_of Generate (codes "101" ∷ []) (λ word n g h. too_large n (the_number (codes "101") word n refl g h));
+  two_numbers = no_number_of Generate (codes "1" ∷ codes "2" ∷ []) two_numbers;
+  zero_first = no_number_of Selfrun (codes "01" ∷ []) (λ word n g h. zero_first n (the_number (codes "01") word n refl g h));
+  with_sign = no_number_of Selfrun (codes "+1" ∷ []) (λ word n g h. with_sign n (the_number (codes "+1") word n refl g h));
+  no_digit = no_number_of Generate ([] ∷ []) (λ word n g h. (the_number [] word n refl g h).some refl);
+  option_of_number = no_number_of Selfrun (codes "--pivots" ∷ codes "5" ∷ codes "1" ∷ []) option_of_number;
+  facts_of_none = no_program Facts [] no_file;
+  facts_of_two = no_program Facts (codes "p" ∷ codes "p" ∷ []) two_files;
   one_fact = one_fact;
 }

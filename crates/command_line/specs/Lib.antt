@@ -2,6 +2,7 @@
 pub mod Lines
 pub mod Numerals
 pub mod Requests
+pub mod Usage
 -- laws, and values that were worked out by hand
 pub mod Laws
 pub mod Worked

@@ -1,42 +1,50 @@
 -- The request of a list of words.
-use Rattle.std.specs.Prelude.{◌≡◌, ℕ, [], ◌∷◌, codes}
+use Rattle.std.specs.Prelude.{◌≡◌, ℕ, List, [], ◌∷◌, codes}
 use Rattle.command_line.specs.declared.command.Command.{Command}
 use Rattle.command_line.specs.declared.command.Command.TheVariants as commands
+use Rattle.command_line.specs.declared.task.ProgramTask.{ProgramTask}
+use Rattle.command_line.specs.declared.task.PairTask.{PairTask}
+use Rattle.command_line.specs.declared.task.NumberTask.{NumberTask}
+pub use Rattle.command_line.specs.declared.task.ProgramTask.TheVariants.{Analyse, Prove, Facts}
+pub use Rattle.command_line.specs.declared.task.PairTask.TheVariants.{Check, Replay}
+pub use Rattle.command_line.specs.declared.task.NumberTask.TheVariants.{Generate, Selfrun}
 use Rattle.command_line.specs.Lines.{Word, Words, Gives}
 use Rattle.command_line.specs.Numerals.{IsNumber}
 
--- the requests: the analysis of the program in a file, or the proof file of what it finds, with this many pivots for
--- each linear program; the check of the proofs in the second file against the program in the first, or the replay of
--- the run in the second; the generated program of a number; the figures of that program's analysis; or the facts that
--- are kept at the locations of the program in a file, and its analysis with them, with this many pivots
+-- the requests, by form: a task for the program in a file, with this many pivots for each linear program; a task for
+-- the program in a file and what a second file has about it; or a task for a number
 pub data Request : Type 0 where
-  Analyse : ℕ → Word → Request
-  Prove : ℕ → Word → Request
-  Check : Word → Word → Request
-  Replay : Word → Word → Request
-  Generate : ℕ → Request
-  Selfrun : ℕ → Request
-  Facts : ℕ → Word → Request
+  OfProgram : ProgramTask → ℕ → Word → Request
+  OfPair : PairTask → Word → Word → Request
+  OfNumber : NumberTask → ℕ → Request
 
 -- the word of a command
 abbrev pub word_of : Command → Word
-word_of commands.Analyse = codes "analyse"
-word_of commands.Prove = codes "prove"
-word_of commands.Check = codes "check"
-word_of commands.Replay = codes "replay"
-word_of commands.Generate = codes "generate"
-word_of commands.Selfrun = codes "selfrun"
-word_of commands.Facts = codes "facts"
+word_of (commands.OfProgram Analyse) = codes "analyse"
+word_of (commands.OfProgram Prove) = codes "prove"
+word_of (commands.OfProgram Facts) = codes "facts"
+word_of (commands.OfPair Check) = codes "check"
+word_of (commands.OfPair Replay) = codes "replay"
+word_of (commands.OfNumber Generate) = codes "generate"
+word_of (commands.OfNumber Selfrun) = codes "selfrun"
+
+-- the commands, in the order in which the usage text lists them
+abbrev pub all_commands : List Command
+all_commands =
+    commands.OfProgram Analyse
+    ∷ commands.OfProgram Prove
+    ∷ commands.OfPair Check
+    ∷ commands.OfPair Replay
+    ∷ commands.OfNumber Generate
+    ∷ commands.OfNumber Selfrun
+    ∷ commands.OfProgram Facts
+    ∷ []
 
 -- the command of a request
 abbrev pub command_of : Request → Command
-command_of (Analyse pivots file) = commands.Analyse
-command_of (Prove pivots file) = commands.Prove
-command_of (Check file proof) = commands.Check
-command_of (Replay file run) = commands.Replay
-command_of (Generate n) = commands.Generate
-command_of (Selfrun n) = commands.Selfrun
-command_of (Facts pivots file) = commands.Facts
+command_of (OfProgram task pivots file) = commands.OfProgram task
+command_of (OfPair task file second) = commands.OfPair task
+command_of (OfNumber task n) = commands.OfNumber task
 
 -- this many pivots are allowed if the option isn't given
 abbrev pub default_pivots : ℕ
@@ -75,13 +83,9 @@ pub record AsksNumber (values positionals : Words) (n : ℕ) : Type 0 where
 
 -- these values of the option and these positionals are those of the request
 abbrev pub AsksWith : Request → Words → Words → Type 0
-AsksWith (Analyse pivots file) values positionals = AsksProgram values positionals pivots file
-AsksWith (Prove pivots file) values positionals = AsksProgram values positionals pivots file
-AsksWith (Check file proof) values positionals = AsksTwo values positionals file proof
-AsksWith (Replay file run) values positionals = AsksTwo values positionals file run
-AsksWith (Generate n) values positionals = AsksNumber values positionals n
-AsksWith (Selfrun n) values positionals = AsksNumber values positionals n
-AsksWith (Facts pivots file) values positionals = AsksProgram values positionals pivots file
+AsksWith (OfProgram task pivots file) values positionals = AsksProgram values positionals pivots file
+AsksWith (OfPair task file second) values positionals = AsksTwo values positionals file second
+AsksWith (OfNumber task n) values positionals = AsksNumber values positionals n
 
 -- the words after the program's name ask for this: they are the word of its command, and behind it the values of the
 -- option and the positionals of the request, options before or after positionals

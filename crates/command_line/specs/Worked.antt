@@ -1,7 +1,8 @@
 -- Worked values of the requests of words.
 use Rattle.std.specs.Prelude.{[], ◌∷◌, codes}
 use Rattle.command_line.specs.Lines.{Words}
-use Rattle.command_line.specs.Requests.{Request, Analyse, Prove, Check, Replay, Generate, Selfrun, Facts, Asks}
+use Rattle.command_line.specs.Requests.{Request, OfProgram, OfPair, OfNumber, Analyse, Prove, Facts, Check, Replay}
+use Rattle.command_line.specs.Requests.{Generate, Selfrun, Asks}
 
 -- the words ask for nothing
 abbrev pub AsksNothing : Words → Type 0
@@ -9,23 +10,23 @@ AsksNothing words = (r : Request) → ¬ (Asks words r)
 
 -- command lines, and what they ask for
 pub record CommandLines : Type 0 where
-  pub file_alone : Asks (codes "analyse" ∷ codes "p" ∷ []) (Analyse 10000 (codes "p"))
-  pub standard_input : Asks (codes "analyse" ∷ codes "-" ∷ []) (Analyse 10000 (codes "-"))
-  pub empty_word : Asks (codes "analyse" ∷ [] ∷ []) (Analyse 10000 [])
-  pub apart : Asks (codes "analyse" ∷ codes "--pivots" ∷ codes "70" ∷ codes "p" ∷ []) (Analyse 70 (codes "p"))
-  pub joined : Asks (codes "analyse" ∷ codes "p" ∷ codes "--pivots=5" ∷ []) (Analyse 5 (codes "p"))
-  pub none : Asks (codes "analyse" ∷ codes "--pivots" ∷ codes "0" ∷ codes "p" ∷ []) (Analyse 0 (codes "p"))
-  pub most : Asks (codes "analyse" ∷ codes "--pivots=1000000" ∷ codes "p" ∷ []) (Analyse 1000000 (codes "p"))
-  pub behind : Asks (codes "analyse" ∷ codes "--" ∷ codes "--pivots" ∷ []) (Analyse 10000 (codes "--pivots"))
-  pub end_behind : Asks (codes "analyse" ∷ codes "--" ∷ codes "--" ∷ []) (Analyse 10000 (codes "--"))
-  pub proofs : Asks (codes "prove" ∷ codes "--pivots=5" ∷ codes "p" ∷ []) (Prove 5 (codes "p"))
-  pub check : Asks (codes "check" ∷ codes "p" ∷ codes "q" ∷ []) (Check (codes "p") (codes "q"))
-  pub replay : Asks (codes "replay" ∷ codes "p" ∷ codes "--" ∷ codes "-q" ∷ []) (Replay (codes "p") (codes "-q"))
-  pub generate : Asks (codes "generate" ∷ codes "6" ∷ []) (Generate 6)
-  pub number_behind : Asks (codes "generate" ∷ codes "--" ∷ codes "0" ∷ []) (Generate 0)
-  pub selfrun : Asks (codes "selfrun" ∷ codes "100" ∷ []) (Selfrun 100)
-  pub facts : Asks (codes "facts" ∷ codes "p" ∷ []) (Facts 10000 (codes "p"))
-  pub facts_within : Asks (codes "facts" ∷ codes "--pivots" ∷ codes "0" ∷ codes "-" ∷ []) (Facts 0 (codes "-"))
+  pub file_alone : Asks (codes "analyse" ∷ codes "p" ∷ []) (OfProgram Analyse 10000 (codes "p"))
+  pub standard_input : Asks (codes "analyse" ∷ codes "-" ∷ []) (OfProgram Analyse 10000 (codes "-"))
+  pub empty_word : Asks (codes "analyse" ∷ [] ∷ []) (OfProgram Analyse 10000 [])
+  pub apart : Asks (codes "analyse" ∷ codes "--pivots" ∷ codes "70" ∷ codes "p" ∷ []) (OfProgram Analyse 70 (codes "p"))
+  pub joined : Asks (codes "analyse" ∷ codes "p" ∷ codes "--pivots=5" ∷ []) (OfProgram Analyse 5 (codes "p"))
+  pub none : Asks (codes "analyse" ∷ codes "--pivots" ∷ codes "0" ∷ codes "p" ∷ []) (OfProgram Analyse 0 (codes "p"))
+  pub most : Asks (codes "analyse" ∷ codes "--pivots=1000000" ∷ codes "p" ∷ []) (OfProgram Analyse 1000000 (codes "p"))
+  pub behind : Asks (codes "analyse" ∷ codes "--" ∷ codes "--pivots" ∷ []) (OfProgram Analyse 10000 (codes "--pivots"))
+  pub end_behind : Asks (codes "analyse" ∷ codes "--" ∷ codes "--" ∷ []) (OfProgram Analyse 10000 (codes "--"))
+  pub proofs : Asks (codes "prove" ∷ codes "--pivots=5" ∷ codes "p" ∷ []) (OfProgram Prove 5 (codes "p"))
+  pub check : Asks (codes "check" ∷ codes "p" ∷ codes "q" ∷ []) (OfPair Check (codes "p") (codes "q"))
+  pub replay : Asks (codes "replay" ∷ codes "p" ∷ codes "--" ∷ codes "-q" ∷ []) (OfPair Replay (codes "p") (codes "-q"))
+  pub generate : Asks (codes "generate" ∷ codes "6" ∷ []) (OfNumber Generate 6)
+  pub number_behind : Asks (codes "generate" ∷ codes "--" ∷ codes "0" ∷ []) (OfNumber Generate 0)
+  pub selfrun : Asks (codes "selfrun" ∷ codes "100" ∷ []) (OfNumber Selfrun 100)
+  pub facts : Asks (codes "facts" ∷ codes "p" ∷ []) (OfProgram Facts 10000 (codes "p"))
+  pub facts_within : Asks (codes "facts" ∷ codes "--pivots" ∷ codes "0" ∷ codes "-" ∷ []) (OfProgram Facts 0 (codes "-"))
 
 -- words that ask for nothing
 pub record OtherWords : Type 0 where

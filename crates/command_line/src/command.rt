@@ -4,24 +4,17 @@ ghost use Rattle.std.specs.Prelude.{◌≡◌, ◌≢◌, MatchOption};
 ghost use Rattle.command_line.specs.Requests.{word_of};
 
 use crate::kind::is_same;
+use crate::task::{NumberTask, PairTask, ProgramTask};
 
-/// The commands, each of which is the first word of a command line.
+/// The commands, by the form of what follows their word. The word of a command is the first of a command line.
 #[derive(Clone, Copy)]
 pub(crate) enum Command {
-    /// `analyse`
-    Analyse,
-    /// `prove`
-    Prove,
-    /// `check`
-    Check,
-    /// `replay`
-    Replay,
-    /// `generate`
-    Generate,
-    /// `selfrun`
-    Selfrun,
-    /// `facts`
-    Facts,
+    /// A file with a program, and the option.
+    OfProgram(ProgramTask),
+    /// A file with a program, and another file.
+    OfPair(PairTask),
+    /// A number.
+    OfNumber(NumberTask),
 }
 
 /// The command that a word is.
@@ -29,19 +22,19 @@ pub(crate) fn named(word: &[u8]) -> Option<Command>
     ensures { MatchOption result ((c : Command) → word.now ≢ word_of c) (λ c. word.now ≡ word_of c) }
 {
     if is_same(word, b"analyse") {
-        Some(Command::Analyse)
+        Some(Command::OfProgram(ProgramTask::Analyse))
     } else if is_same(word, b"prove") {
-        Some(Command::Prove)
+        Some(Command::OfProgram(ProgramTask::Prove))
     } else if is_same(word, b"check") {
-        Some(Command::Check)
+        Some(Command::OfPair(PairTask::Check))
     } else if is_same(word, b"replay") {
-        Some(Command::Replay)
+        Some(Command::OfPair(PairTask::Replay))
     } else if is_same(word, b"generate") {
-        Some(Command::Generate)
+        Some(Command::OfNumber(NumberTask::Generate))
     } else if is_same(word, b"selfrun") {
-        Some(Command::Selfrun)
+        Some(Command::OfNumber(NumberTask::Selfrun))
     } else if is_same(word, b"facts") {
-        Some(Command::Facts)
+        Some(Command::OfProgram(ProgramTask::Facts))
     } else {
         None
     }

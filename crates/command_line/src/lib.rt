@@ -11,7 +11,11 @@ mod line;
 mod number;
 mod request;
 mod taking;
+mod task;
+mod usage_lines;
 
-pub use law::{command_lines_are_as_worked_out, words_are_read_in_one_way};
+pub use law::{command_lines_are_as_worked_out, commands_are_listed, words_are_read_in_one_way};
 pub use request::{Request, asks};
 pub use taking::DEFAULT_PIVOTS;
+pub use task::{NumberTask, PairTask, ProgramTask};
+pub use usage_lines::usage;

@@ -9,27 +9,31 @@ ghost use Rattle.command_line.specs.Views.{request_of};
 use crate::command::{Command, named};
 use crate::line::{Line, read_line};
 use crate::taking::{OneFile, TwoFiles, one_file, one_number, two_files};
+use crate::task::{NumberTask, PairTask, ProgramTask};
 use model::Memory;
 use std::alloc::Global;
 
-/// The request of a command line. `pivots` is how many pivots each linear program may take, up to 1,000,000, and `n` is
-/// at most 100.
+/// The request of a command line: a task, and what it is about. `pivots` is how many pivots each linear program may take,
+/// up to 1,000,000, and `n` is at most 100.
 #[derive(Debug, PartialEq, Eq, Drop)]
 pub enum Request {
-    /// The analysis of the program in a file.
-    Analyse { pivots: u32, file: String },
-    /// The proofs of what the analysis of the program in a file finds.
-    Prove { pivots: u32, file: String },
-    /// The check of the proofs in a file against the program in another.
-    Check { file: String, proof: String },
-    /// The replay of the run in a file, of the program in another.
-    Replay { file: String, run: String },
-    /// The generated program of a number.
-    Generate { n: u32 },
-    /// The figures of the analysis of the generated program of a number.
-    Selfrun { n: u32 },
-    /// The facts that are kept at the locations of the program in a file, and its analysis with them.
-    Facts { pivots: u32, file: String },
+    /// A task for the program in a file.
+    OfProgram {
+        task: ProgramTask,
+        pivots: u32,
+        file: String,
+    },
+    /// A task for the program in a file and what a second file has about it.
+    OfPair {
+        task: PairTask,
+        file: String,
+        second: String,
+    },
+    /// A task for a number.
+    OfNumber {
+        task: NumberTask,
+        n: u32,
+    },
 }
 
 /// The request of the words after the program's name; none if they are no command line.
@@ -60,37 +64,21 @@ fn asked_by(command: Command, line: Line) -> Option<Request>
         (λ request. IsAskedBy command (values_in line) (positionals_in line) (request_of request)) }
 {
     match command {
-        Command::Analyse => {
+        Command::OfProgram(task) => {
             let OneFile { pivots, file } = one_file(line)?;
-            Some(Request::Analyse { pivots, file })
+            Some(Request::OfProgram { task, pivots, file })
         }
-        Command::Prove => {
-            let OneFile { pivots, file } = one_file(line)?;
-            Some(Request::Prove { pivots, file })
-        }
-        Command::Check => {
+        Command::OfPair(task) => {
             let TwoFiles { first, second } = two_files(line)?;
-            Some(Request::Check {
+            Some(Request::OfPair {
+                task,
                 file: first,
-                proof: second,
+                second,
             })
         }
-        Command::Replay => {
-            let TwoFiles { first, second } = two_files(line)?;
-            Some(Request::Replay {
-                file: first,
-                run: second,
-            })
-        }
-        Command::Generate => Some(Request::Generate {
+        Command::OfNumber(task) => Some(Request::OfNumber {
+            task,
             n: one_number(line)?,
         }),
-        Command::Selfrun => Some(Request::Selfrun {
-            n: one_number(line)?,
-        }),
-        Command::Facts => {
-            let OneFile { pivots, file } = one_file(line)?;
-            Some(Request::Facts { pivots, file })
-        }
     }
 }

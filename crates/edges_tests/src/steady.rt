@@ -1,11 +1,11 @@
 //! The top call on a shelf and a sink without faults: a fault of writing never comes, and one of reading only where the
 //! shelf lacks a file of the request.
 
-ghost use Rattle.std.specs.Prelude.{◌≡◌, ◌≢◌, ◌⊎◌, ℕ, List, Some, map, string_bytes};
-ghost use Rattle.outside_io.specs.Files.{Lacks};
+ghost use Rattle.std.specs.Prelude.{◌≡◌, ◌≢◌, map, string_bytes};
 ghost use Rattle.outside_io.specs.SteadyShelf.{held_files};
 ghost use Rattle.command_line.specs.Requests.{Request, Asks};
-ghost use Rattle.koat_cli.specs.Ends.{IsFirstFile, IsSecondFile};
+ghost use Rattle.koat_cli.specs.RequestPlans.{plan_of};
+ghost use Rattle.koat_cli.specs.call_plans.Endings.{EndsOn};
 
 use koat_cli::{Status, run};
 use outside_io::{Held, SteadyShelf, SteadySink};
@@ -20,8 +20,8 @@ fn run_steadily(
 ) -> Status
     ensures never_a_write_fault { result ≢ Status.WriteFault }
     ensures read_fault_only_where_lacking { result ≡ Status.ReadFault
-        → (request : Request) × (Asks (map string_bytes words.now) request × ((file : List ℕ)
-        × (((IsFirstFile request file) ⊎ (IsSecondFile request file)) × Lacks (Some (held_files shelf.old)) file))) }
+        → (request : Request) × (Asks (map string_bytes words.now) request
+        × EndsOn (held_files shelf.old) (plan_of request) Status.ReadFault) }
 {
     run(alloc, words, shelf, sink)
 }

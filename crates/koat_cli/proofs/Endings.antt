@@ -1,21 +1,24 @@
 -- How a call ends, by what was prepared and what the sink did.
 use Rattle.std.proofs.Common.{◌≡◌, ◌≢◌, ◌<◌, List, ℕ, sym, subst, refl}
-use Rattle.std.specs.Io.KnownBytes.{Appends}
-use Rattle.outside_io.specs.Counts.{Rose}
+use Rattle.outside_io.specs.Counts.{Rose, one_more}
 use Rattle.outside_io.specs.Putting.{AppendsPrefix}
-use Rattle.koat_cli.specs.declared.status.Status.{Status}
-use Rattle.koat_cli.specs.declared.status.Status.TheVariants.{ReadFault, WriteFault, Memory}
-use Rattle.koat_cli.specs.Calls.{Call, Put}
+use Rattle.call_plans.specs.declared.status.Status.{Status}
+use Rattle.call_plans.specs.declared.status.Status.TheVariants.{ReadFault, WriteFault, Memory}
+use Rattle.call_plans.specs.Calls.{Put}
+use Rattle.call_plans.specs.Meanings.{Appended}
+use Rattle.koat_cli.specs.Calls.{Call}
 use Rattle.koat_cli.specs.Answers.{Says}
 use Rattle.koat_cli.specs.Ends.{IsStatusOfFault, Ends}
-use Rattle.koat_cli.proofs.Sayings.{never_write_fault, never_memory}
+use Rattle.koat_cli.proofs.OneRequest.{never_write_fault, never_memory}
 
 -- a call without memory ends so
-pub ended_without_memory : (call : Call) (put : Put) → Ends Memory call put
-ended_without_memory call put = record {
+pub ended_without_memory : (call : Call) (put : Put) → put.puts_after ≡ put.puts_before → Ends Memory call put
+ended_without_memory call put same = record {
   wrote = λ other memory. absurd (memory refl);
-  write_fault = λ e. absurd (let no_way : ⊥ = cc in no_way);
+  write_fault = λ e. absurd (let never : ⊥ = cc in never);
   shelf_fault = λ fault. tt;
+  one_put = λ memory. absurd (memory refl);
+  no_put = λ e. same;
 }
 
 -- no text comes with the status of a fault of the sink or of running out of memory
@@ -27,20 +30,25 @@ not_memory call s x said e = never_memory call x (subst (λ (t : Status). Says c
 
 -- one whose text the sink took ends with its status
 pub ended_whole : (call : Call) (put : Put) (s : Status) (x : List ℕ) → Says call s x
-    → (call.shelf.faults_before < call.shelf.faults_after → s ≡ ReadFault) → Appends put.written_before put.written_after x
-    → Ends s call put
-ended_whole call put s x said fault appended = record {
+    → (call.shelf.faults_before < call.shelf.faults_after → s ≡ ReadFault) → Appended put x
+    → put.puts_after ≡ one_more put.puts_before → Ends s call put
+ended_whole call put s x said fault appended counted = record {
   wrote = λ other memory. record { text = x; says = said; appended = appended };
   write_fault = λ e. absurd (not_write_fault call s x said e);
   shelf_fault = λ less. subst IsStatusOfFault (sym (fault less)) tt;
+  one_put = λ memory. counted;
+  no_put = λ e. absurd (not_memory call s x said e);
 }
 
 -- and one at whose text the sink had a fault with that of this fault
 pub ended_in_part : (call : Call) (put : Put) (s : Status) (x : List ℕ) → Says call s x
     → (call.shelf.faults_before < call.shelf.faults_after → s ≡ ReadFault) → Rose put.faults_before put.faults_after
-    → AppendsPrefix put.written_before put.written_after x → Ends WriteFault call put
-ended_in_part call put s x said fault rose appended = record {
+    → AppendsPrefix put.written_before put.written_after x → put.puts_after ≡ one_more put.puts_before
+    → Ends WriteFault call put
+ended_in_part call put s x said fault rose appended counted = record {
   wrote = λ other memory. absurd (other refl);
   write_fault = λ e. record { fault = rose; status = s; behind_fault = fault; text = x; says = said; appended = appended };
   shelf_fault = λ less. tt;
+  one_put = λ memory. counted;
+  no_put = λ e. absurd (let never : ⊥ = cc in never);
 }

@@ -1,126 +1,134 @@
 -- What the status means with which a call ends.
-use Rattle.std.proofs.Common.{◌≡◌, ◌≢◌, ℕ, List, sym, ◌∙◌}
-use Rattle.std.proofs.Common.{subst}
-use Rattle.std.specs.Io.KnownBytes.{Appends}
-use Rattle.command_line.specs.Requests.{Analyse, Prove, Check, Replay, Facts}
-use Rattle.run_replay.specs.ReplayLaws.{ReplaysAreDecided}
-use Rattle.koat_cli.specs.declared.status.Status.{Status}
-use Rattle.koat_cli.specs.declared.status.Status.TheVariants.{Done, Unknown, Usage, ReadFault, WriteFault, Memory}
-use Rattle.koat_cli.specs.declared.status.Status.TheVariants.{ProgramRefused, ProofRefused, No, RunRefused, NotARun}
-use Rattle.koat_cli.specs.Calls.{Call, Put}
-use Rattle.koat_cli.specs.Answers.{Says}
-use Rattle.koat_cli.specs.Ends.{Ends}
-use Rattle.koat_cli.specs.Ends.{Means}
-use Rattle.koat_cli.proofs.OneRequest.{answer_of, usage_for_nothing, usage_says, unknown_said, fault_said, refused_said}
-use Rattle.koat_cli.proofs.WrittenSeconds.{run_refused_wrote, bad_step_wrote, proof_refused_wrote, no_wrote, acceptance_wrote, tally_wrote}
-use Rattle.koat_cli.proofs.WrittenReports.{done_wrote, unknown_wrote, facts_done, facts_unknown, proof_done, proof_in_part}
+use Rattle.std.proofs.Common.{◌≡◌, ◌≢◌, ℕ, List, IsTrue, IsFalse, inl, inr, refl, sym, ◌∙◌, ap, subst}
+use Rattle.std.specs.List.{list_all}
+use Rattle.command_line.specs.Lines.{Word}
+use Rattle.command_line.specs.Requests.{Request, OfProgram, Asks}
+use Rattle.command_line.specs.declared.task.ProgramTask.TheVariants.{Analyse}
+use Rattle.outcome.specs.Reports.{Report, is_timed}
+use Rattle.call_plans.specs.declared.status.Status.{Status}
+use Rattle.call_plans.specs.declared.status.Status.TheVariants.{Done, Unknown, Usage, ReadFault, WriteFault, Memory}
+use Rattle.call_plans.specs.Sorts.{Answer, Refusal, sort_of}
+use Rattle.call_plans.specs.Calls.{Put}
+use Rattle.call_plans.specs.Meanings.{Appended, Wrote, WroteRefusal, MayMiss}
+use Rattle.call_plans.proofs.Meanings.{wrote_of, refused_of, missed_of}
+use Rattle.koat_cli.specs.Calls.{Call}
+use Rattle.koat_cli.specs.RequestPlans.{plan_of}
+use Rattle.koat_cli.specs.Answers.{AsksForNothing, Says}
+use Rattle.koat_cli.specs.Ends.{Ends, WroteWhole}
+use Rattle.koat_cli.specs.Means.{Means}
+use Rattle.koat_cli.specs.Report.{usage_text}
+use Rattle.koat_cli.specs.WroteReport.{WroteReport}
+use Rattle.koat_cli.proofs.LawfulPlans.{plans_sorted}
+use Rattle.koat_cli.proofs.OneRequest.{answer_of, asked_where, answer_whole, refusal_whole, usage_for_nothing, usage_says}
 
--- statuses that differ
-done_whole : (s : Status) → s ≡ Done → (s ≢ WriteFault) × (s ≢ Memory)
-done_whole s e = ((λ f. let g : Done ≡ WriteFault = sym e ∙ f in cc), (λ f. let g : Done ≡ Memory = sym e ∙ f in cc))
+module _ (call : Call) (put : Put) (n : ℕ) (file : Word) where
+  -- a report with a time for every rule was written with `Done`, and one without one for some with `Unknown`
+  done_wrote : Wrote call.shelf put (plan_of (OfProgram Analyse n file)) Done
+      → (report : Report) × WroteReport call put n file report × IsTrue (list_all is_timed report.times)
+  done_wrote (p, (gives, (x, (inl told, appended)))) = (
+    told.1.report,
+    record {
+      program = p;
+      given = gives;
+      found = told.1.found;
+      text = x;
+      stated = told.1.stated;
+      appended = appended;
+    },
+    told.1.times,
+  )
+  done_wrote (p, (gives, (x, (inr (inl told), appended)))) = absurd (let e : Done ≡ Unknown = told.0 in let never : ⊥ = cc in never)
+  done_wrote (p, (gives, (x, (inr (inr never), appended)))) = absurd never
 
-unknown_whole : (s : Status) → s ≡ Unknown → (s ≢ WriteFault) × (s ≢ Memory)
-unknown_whole s e = ((λ f. let g : Unknown ≡ WriteFault = sym e ∙ f in cc), (λ f. let g : Unknown ≡ Memory = sym e ∙ f in cc))
+  unknown_wrote : Wrote call.shelf put (plan_of (OfProgram Analyse n file)) Unknown
+      → (report : Report) × WroteReport call put n file report × IsFalse (list_all is_timed report.times)
+  unknown_wrote (p, (gives, (x, (inl told, appended)))) = absurd (let e : Unknown ≡ Done = told.0 in let never : ⊥ = cc in never)
+  unknown_wrote (p, (gives, (x, (inr (inl told), appended)))) = (
+    told.1.report,
+    record {
+      program = p;
+      given = gives;
+      found = told.1.found;
+      text = x;
+      stated = told.1.stated;
+      appended = appended;
+    },
+    told.1.times,
+  )
+  unknown_wrote (p, (gives, (x, (inr (inr never), appended)))) = absurd never
 
-fault_whole : (s : Status) → s ≡ ReadFault → (s ≢ WriteFault) × (s ≢ Memory)
-fault_whole s e = ((λ f. let g : ReadFault ≡ WriteFault = sym e ∙ f in cc), (λ f. let g : ReadFault ≡ Memory = sym e ∙ f in cc))
+module _ (s : Status) (call : Call) (put : Put) (ends : Ends s call put) where
+  -- with the status of an answer a text of the request's plan was written
+  answered : (r : Request) → Asks call.words r → sort_of s ≡ Answer → Wrote call.shelf put (plan_of r) s
+  answered r asked is =
+      let whole = answer_whole s is in
+      let wrote : WroteWhole s call put = ends.wrote whole.0 whole.1.0 in
+      wrote_of call.shelf put call.fetches_before (plan_of r) s wrote.text (plans_sorted r) is
+      (answer_of call r s wrote.text asked wrote.says) wrote.appended
 
-run_refused_whole : (s : Status) → s ≡ RunRefused → (s ≢ WriteFault) × (s ≢ Memory)
-run_refused_whole s e = ((λ f. let g : RunRefused ≡ WriteFault = sym e ∙ f in cc), (λ f. let g : RunRefused ≡ Memory = sym e ∙ f in cc))
+  asked : sort_of s ≡ Answer → (r : Request) × Asks call.words r
+  asked is =
+      let whole = answer_whole s is in
+      let wrote : WroteWhole s call put = ends.wrote whole.0 whole.1.0 in
+      let found = asked_where call s wrote.text whole.1.1 wrote.says in
+      (found.0, found.1.0)
 
-bad_step_whole : (s : Status) → s ≡ NotARun → (s ≢ WriteFault) × (s ≢ Memory)
-bad_step_whole s e = ((λ f. let g : NotARun ≡ WriteFault = sym e ∙ f in cc), (λ f. let g : NotARun ≡ Memory = sym e ∙ f in cc))
+  -- with that of a refusal one that refuses a file of it
+  refused : sort_of s ≡ Refusal
+      → (r : Request) × (Asks call.words r × WroteRefusal call.shelf put (plan_of r) s)
+  refused is =
+      let whole = refusal_whole s is in
+      let wrote : WroteWhole s call put = ends.wrote whole.0 whole.1.0 in
+      let found = asked_where call s wrote.text whole.1.1 wrote.says in
+      (found.0, (found.1.0, refused_of call.shelf put call.fetches_before (plan_of found.0) s wrote.text (plans_sorted found.0) is found.1.1 wrote.appended))
 
-proof_refused_whole : (s : Status) → s ≡ ProofRefused → (s ≢ WriteFault) × (s ≢ Memory)
-proof_refused_whole s e =
-    ((λ f. let g : ProofRefused ≡ WriteFault = sym e ∙ f in cc), (λ f. let g : ProofRefused ≡ Memory = sym e ∙ f in cc))
+  -- with a fault of reading some file of it may fail
+  fault_whole : s ≡ ReadFault → (s ≢ WriteFault) × ((s ≢ Memory) × (s ≢ Usage))
+  fault_whole is = (
+    λ e. let same : ReadFault ≡ WriteFault = sym is ∙ e in let never : ⊥ = cc in never,
+    (
+      λ e. let same : ReadFault ≡ Memory = sym is ∙ e in let never : ⊥ = cc in never,
+      λ e. let same : ReadFault ≡ Usage = sym is ∙ e in let never : ⊥ = cc in never,
+    ),
+  )
 
-no_whole : (s : Status) → s ≡ No → (s ≢ WriteFault) × (s ≢ Memory)
-no_whole s e = ((λ f. let g : No ≡ WriteFault = sym e ∙ f in cc), (λ f. let g : No ≡ Memory = sym e ∙ f in cc))
+  read_fault : s ≡ ReadFault → (r : Request) × (Asks call.words r × MayMiss call.shelf (plan_of r))
+  read_fault is =
+      let whole = fault_whole is in
+      let wrote : WroteWhole s call put = ends.wrote whole.0 whole.1.0 in
+      let found = asked_where call s wrote.text whole.1.1 wrote.says in
+      (found.0, (found.1.0, missed_of call.shelf call.fetches_before (plan_of found.0) s wrote.text (plans_sorted found.0) is found.1.1))
 
-usage_whole : (s : Status) → s ≡ Usage → (s ≢ WriteFault) × (s ≢ Memory)
-usage_whole s e = ((λ f. let g : Usage ≡ WriteFault = sym e ∙ f in cc), (λ f. let g : Usage ≡ Memory = sym e ∙ f in cc))
+  -- and with that of the usage text this was written
+  usage_whole : s ≡ Usage → (s ≢ WriteFault) × (s ≢ Memory)
+  usage_whole is = (
+    λ e. let same : Usage ≡ WriteFault = sym is ∙ e in let never : ⊥ = cc in never,
+    λ e. let same : Usage ≡ Memory = sym is ∙ e in let never : ⊥ = cc in never,
+  )
 
-refused_whole : (s : Status) → s ≡ ProgramRefused → (s ≢ WriteFault) × (s ≢ Memory)
-refused_whole s e =
-    ((λ f. let g : ProgramRefused ≡ WriteFault = sym e ∙ f in cc), (λ f. let g : ProgramRefused ≡ Memory = sym e ∙ f in cc))
+  usage : s ≡ Usage → AsksForNothing call.words × Appended put usage_text
+  usage is =
+      let whole = usage_whole is in
+      let wrote : WroteWhole s call put = ends.wrote whole.0 whole.1 in
+      let said = subst (λ (t : Status). Says call t wrote.text) is wrote.says in (
+        usage_for_nothing call wrote.text said,
+        subst (λ (x : List ℕ). Appended put x) (usage_says call wrote.text said) wrote.appended,
+      )
 
 -- how a call ends says this of its status
-pub ends_mean : ReplaysAreDecided → (s : Status) (call : Call) (put : Put) → Ends s call put → Means s call put
-ends_mean law s call put ends = record {
-  done = λ n f asked e.
-      let whole = done_whole s e in
-      let wrote = ends.wrote whole.0 whole.1 in
-      done_wrote call put n f wrote.text
-      (answer_of call (Analyse n f) Done wrote.text asked (subst (λ (t : Status). Says call t wrote.text) e wrote.says)) wrote.appended;
-  unknown = λ n f asked e.
-      let whole = unknown_whole s e in
-      let wrote = ends.wrote whole.0 whole.1 in
-      unknown_wrote call put n f wrote.text
-      (answer_of call (Analyse n f) Unknown wrote.text asked (subst (λ (t : Status). Says call t wrote.text) e wrote.says)) wrote.appended;
-  done_with_facts = λ n f asked e.
-      let whole = done_whole s e in
-      let wrote = ends.wrote whole.0 whole.1 in
-      facts_done call put n f wrote.text
-      (answer_of call (Facts n f) Done wrote.text asked (subst (λ (t : Status). Says call t wrote.text) e wrote.says)) wrote.appended;
-  unknown_with_facts = λ n f asked e.
-      let whole = unknown_whole s e in
-      let wrote = ends.wrote whole.0 whole.1 in
-      facts_unknown call put n f wrote.text
-      (answer_of call (Facts n f) Unknown wrote.text asked (subst (λ (t : Status). Says call t wrote.text) e wrote.says)) wrote.appended;
-  proved = λ n f asked e.
-      let whole = done_whole s e in
-      let wrote = ends.wrote whole.0 whole.1 in
-      proof_done call put n f wrote.text
-      (answer_of call (Prove n f) Done wrote.text asked (subst (λ (t : Status). Says call t wrote.text) e wrote.says)) wrote.appended;
-  proved_in_part = λ n f asked e.
-      let whole = unknown_whole s e in
-      let wrote = ends.wrote whole.0 whole.1 in
-      proof_in_part call put n f wrote.text
-      (answer_of call (Prove n f) Unknown wrote.text asked (subst (λ (t : Status). Says call t wrote.text) e wrote.says)) wrote.appended;
-  checked = λ f q asked e.
-      let whole = done_whole s e in
-      let wrote = ends.wrote whole.0 whole.1 in
-      acceptance_wrote call put f q wrote.text
-      (answer_of call (Check f q) Done wrote.text asked (subst (λ (t : Status). Says call t wrote.text) e wrote.says)) wrote.appended;
-  replayed = λ f q asked e.
-      let whole = done_whole s e in
-      let wrote = ends.wrote whole.0 whole.1 in
-      tally_wrote law call put f q wrote.text
-      (answer_of call (Replay f q) Done wrote.text asked (subst (λ (t : Status). Says call t wrote.text) e wrote.says)) wrote.appended;
-  unknown_of = λ e.
-      let whole = unknown_whole s e in
-      let wrote = ends.wrote whole.0 whole.1 in
-      unknown_said call wrote.text (subst (λ (t : Status). Says call t wrote.text) e wrote.says);
-  usage = λ e.
-      let whole = usage_whole s e in
-      let wrote = ends.wrote whole.0 whole.1 in
-      let said = subst (λ (t : Status). Says call t wrote.text) e wrote.says in (
-        usage_for_nothing call wrote.text said,
-        subst (λ (x : List ℕ). Appends put.written_before put.written_after x) (usage_says call wrote.text said) wrote.appended,
-      );
-  program_refused = λ e.
-      let whole = refused_whole s e in
-      let wrote = ends.wrote whole.0 whole.1 in
-      refused_said call put wrote.text (subst (λ (t : Status). Says call t wrote.text) e wrote.says) wrote.appended;
-  run_refused = λ e.
-      let whole = run_refused_whole s e in
-      let wrote = ends.wrote whole.0 whole.1 in
-      run_refused_wrote call put wrote.text (subst (λ (t : Status). Says call t wrote.text) e wrote.says) wrote.appended;
-  not_a_run = λ e.
-      let whole = bad_step_whole s e in
-      let wrote = ends.wrote whole.0 whole.1 in
-      bad_step_wrote call put wrote.text (subst (λ (t : Status). Says call t wrote.text) e wrote.says) wrote.appended;
-  proof_refused = λ e.
-      let whole = proof_refused_whole s e in
-      let wrote = ends.wrote whole.0 whole.1 in
-      proof_refused_wrote call put wrote.text (subst (λ (t : Status). Says call t wrote.text) e wrote.says) wrote.appended;
-  no = λ e.
-      let whole = no_whole s e in
-      let wrote = ends.wrote whole.0 whole.1 in
-      no_wrote call put wrote.text (subst (λ (t : Status). Says call t wrote.text) e wrote.says) wrote.appended;
-  read_fault = λ e.
-      let whole = fault_whole s e in
-      let wrote = ends.wrote whole.0 whole.1 in
-      fault_said call wrote.text (subst (λ (t : Status). Says call t wrote.text) e wrote.says);
+pub ends_mean : (s : Status) (call : Call) (put : Put) → Ends s call put → Means s call put
+ends_mean s call put ends = record {
+  done = λ n file made is.
+      done_wrote call put n file
+      (subst (λ (t : Status). Wrote call.shelf put (plan_of (OfProgram Analyse n file)) t) is
+      (answered s call put ends (OfProgram Analyse n file) made (ap sort_of is)));
+  unknown = λ n file made is.
+      unknown_wrote call put n file
+      (subst (λ (t : Status). Wrote call.shelf put (plan_of (OfProgram Analyse n file)) t) is
+      (answered s call put ends (OfProgram Analyse n file) made (ap sort_of is)));
+  answered = answered s call put ends;
+  asked = asked s call put ends;
+  refused = refused s call put ends;
+  read_fault = read_fault s call put ends;
+  usage = usage s call put ends;
 }

@@ -1,32 +1,27 @@
--- laws of the top call: what each status means, that a call has one answer, and which; worked values
+-- laws of the top call: that a program has one answer, what is read and refused, that plans are lawful, how calls end,
+-- and what their statuses mean; worked values
 pub mod Counts
-pub mod ReplayStatuses
-pub mod CheckStatuses
-pub mod Sayings
+pub mod Determined
+pub mod Timed
+pub mod OneText
+pub mod FewSymbols
+pub mod ReadPrograms
 pub mod RunRefusals
 pub mod ProofRefusals
+pub mod ProgramAnswers
+pub mod RunAnswers
+pub mod ProofAnswers
 pub mod ProofFiles
+pub mod GeneratedTexts
 pub mod WithinBounds
+pub mod ToldTallies
+pub mod LawfulPlans
 pub mod OneRequest
-pub mod WrittenSeconds
-pub mod WrittenReports
 pub mod EndsMean
 pub mod Endings
 pub mod Preparing
-pub mod GivenFiles
-pub mod FewSymbols
-pub mod RunAnswers
-pub mod TextExclusions
-pub mod ProofAnswers
-pub mod Exclusions
-pub mod DeterminedCalls
-pub mod Answering
-pub mod AnsweringTwo
-pub mod AnsweringReplays
-pub mod AnsweringChecks
+pub mod CallsAnswered
 pub mod ProvenChecks
-pub mod MissingFiles
-pub mod NumbersAnswered
 pub mod WorkedEnds
 pub mod WorkedAnswers
 pub mod WorkedReplayTexts

@@ -29,11 +29,9 @@ use Rattle.cert_text.proofs.Lawful.{lawful}
 use Rattle.cert_text.proofs.States.{sure_of}
 use Rattle.check_text.specs.Texts.{accepted_text, no_lemma_text, no_gap_text, proof_refusal_text}
 use Rattle.check_text.specs.Verdicts.{IsAcceptance, IsRefusal, AtNode, AtGap}
-use Rattle.koat_cli.specs.declared.status.Status.{Status}
-use Rattle.koat_cli.specs.Checks.{IsCheckOf, Accepts, Refuses}
+use Rattle.call_plans.specs.Lawful.{IsDecided}
 use Rattle.koat_cli.specs.ProofTexts.{proofs}
 use Rattle.koat_cli.proofs.FewSymbols.{few_symbols}
-use Rattle.koat_cli.proofs.TextExclusions.{IsDecided}
 
 -- other bytes than those of a proof's text have one first fault at most
 one_proof_fault : (p : Program) (bytes : List ℕ) (x y : Fault ProofKind)
@@ -73,7 +71,7 @@ refused_not_accepted p f x (AtGap b) accepts =
     ((file-refusals-in-line.none (setting_of p) (forms_at p) f).0 accepts).1.none b.gap b.fault b.refused
 
 -- it is refused at one place, and with one text
-one_refusal : (p : Program) (f : ProofFile) (x y : List ℕ) → IsRefusal p f x → IsRefusal p f y → x ≡ y
+pub one_refusal : (p : Program) (f : ProofFile) (x y : List ℕ) → IsRefusal p f x → IsRefusal p f y → x ≡ y
 one_refusal p f x y (AtNode a) (AtNode b) =
     let one = refusals-in-line.one (setting_of p) f.lemmas a.lemma b.lemma a.node b.node a.reason b.reason a.refused b.refused in
     a.result_is
@@ -89,15 +87,7 @@ one_refusal p f x y (AtGap a) (AtGap b) =
     a.result_is ∙ (ap (λ (n : ℕ). no_gap_text p n a.fault) one.0 ∙ (ap (λ (r : GapFault). no_gap_text p b.gap r) one.1 ∙ sym b.result_is))
 
 -- and it is accepted with one text
-one_acceptance : (p : Program) (f : ProofFile) (x y : List ℕ) → IsAcceptance p f x → IsAcceptance p f y → x ≡ y
+pub one_acceptance : (p : Program) (f : ProofFile) (x y : List ℕ) → IsAcceptance p f x → IsAcceptance p f y → x ≡ y
 one_acceptance p f x y a b =
     let same : a.facts ≡ b.facts = a.accepted.result_is ∙ sym b.accepted.result_is in
     a.result_is ∙ (ap (λ (facts : List Fact). accepted_text p facts f.gaps) same ∙ sym b.result_is)
-
--- a proof file has one check
-pub one_check : (p : Program) (f : ProofFile) (s t : Status) (x y : List ℕ) → IsCheckOf p f s x → IsCheckOf p f t y
-    → (s ≡ t) × (x ≡ y)
-one_check p f s t x y (Accepts a) (Accepts b) = (a.ends ∙ sym b.ends, one_acceptance p f x y a.accepted b.accepted)
-one_check p f s t x y (Accepts a) (Refuses b) = absurd (refused_not_accepted p f y b.refused a.accepted.accepted.accepted)
-one_check p f s t x y (Refuses a) (Accepts b) = absurd (refused_not_accepted p f x a.refused b.accepted.accepted.accepted)
-one_check p f s t x y (Refuses a) (Refuses b) = (a.ends ∙ sym b.ends, one_refusal p f x y a.refused b.refused)

@@ -1,5 +1,7 @@
 -- What is printed of what an analysis found is the text of its proof file.
-use Rattle.std.proofs.Common.{◌≡◌, ℕ, List, sym}
+use Rattle.std.proofs.Common.{◌≡◌, ℕ, List, refl, sym}
+use Rattle.std.specs.List.{list_all}
+use Rattle.outcome.specs.Reports.{is_timed}
 use Rattle.its_model.specs.Valid.{IsValid}
 use Rattle.model.specs.Programs.{Program}
 use Rattle.outcome.specs.Holding.{ReportHolds}
@@ -11,17 +13,20 @@ use Rattle.analysis_certs.proofs.ProvedFiles.{proved-accepted}
 use Rattle.time_bounds.specs.Analysis.{IsAnalysis}
 use Rattle.time_bounds.specs.AnalysisLemmas.{HasLemmas}
 use Rattle.time_bounds.specs.Whys.{ReasonsAreTrue}
-use Rattle.koat_cli.specs.declared.status.Status.{Status}
-use Rattle.koat_cli.specs.Checks.{IsProofOf}
-use Rattle.koat_cli.specs.Outputs.{status_of}
+use Rattle.call_plans.specs.declared.status.Status.{Status}
+use Rattle.call_plans.specs.Plans.{Tells}
+use Rattle.koat_cli.specs.Found.{FindsTimes, status_of}
+use Rattle.koat_cli.specs.Commands.Prove.{StatesProof, prove_answers}
+use Rattle.koat_cli.proofs.Timed.{timed_told}
 
 -- the text of the proof file of what was found is what is answered
-pub proof_said : (p : Program) (pivots : ℕ) (o : Outcome) (s : Status) (x : List ℕ) → IsValid p
+pub proof_told : (p : Program) (pivots : ℕ) (o : Outcome) (s : Status) (x : List ℕ) → IsValid p
     → IsAnalysis p pivots (report_of o) → ReportHolds p (report_of o) → ReasonsAreTrue p pivots (report_of o)
-    → HasLemmas p pivots o → s ≡ status_of (report_of o) → x ≡ text_of p (file_of_outcome o) → IsProofOf p pivots s x
-proof_said p pivots o s x valid found holds reasons lemmas ends result_is =
+    → HasLemmas p pivots o → s ≡ status_of (report_of o) → x ≡ text_of p (file_of_outcome o)
+    → Tells (prove_answers pivots p) s x
+proof_told p pivots o s x valid found holds reasons lemmas ends result_is =
     let is : IsOutcomeOf p pivots o = record { found = found; lemmas = lemmas } in
-    record {
+    timed_told (FindsTimes p pivots) (StatesProof p pivots) (list_all is_timed (report_of o).times) s x ends (record {
       outcome = o;
       proved = record {
         found = record { found = found; true_on_all_runs = holds; reasons = reasons };
@@ -29,5 +34,5 @@ proof_said p pivots o s x valid found holds reasons lemmas ends result_is =
         accepted = proved-accepted.accepted p pivots o valid is;
         result_is = record { text = sym result_is; within = proved-accepted.within p pivots o valid is };
       };
-      ends = ends;
-    }
+      times = refl;
+    })

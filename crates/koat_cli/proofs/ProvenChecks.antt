@@ -1,28 +1,36 @@
 -- What `prove` wrote of a program is the text of a proof file of it, which is accepted; so `check` accepts it.
-use Rattle.std.proofs.Common.{◌≡◌, ◌≢◌, ◌⊎◌, ℕ, ◌^◌, ◌<◌, ◌≤◌, List, ◌++◌, length, Option, Some, None, IsSome, refl, sym}
-use Rattle.std.proofs.Common.{◌∙◌, subst, inl, inr, true, false}
+use Rattle.std.proofs.Common.{◌≡◌, ◌≢◌, ◌⊎◌, ℕ, ◌≤◌, List, ◌++◌, length, Option, Some, None, IsSome, refl, sym}
+use Rattle.std.proofs.Common.{◌∙◌, ap, subst, inl, inr, true, false}
 use Rattle.std.proofs.lemmas.List.{append_cancel_left}
+use Rattle.std.specs.Prelude.{⊤}
+use Rattle.std.specs.FinMap.{get}
 use Rattle.std.specs.Io.KnownBytes.{Appends}
-use Rattle.command_line.specs.Requests.{Prove, Check}
+use Rattle.command_line.specs.Requests.{OfProgram, OfPair}
+use Rattle.command_line.specs.declared.task.ProgramTask.TheVariants.{Prove}
+use Rattle.command_line.specs.declared.task.PairTask.TheVariants.{Check}
 use Rattle.its_reader.specs.its_text.Spelling.{SpellsWithin}
 use Rattle.model.specs.Programs.{Program}
 use Rattle.cert_types.specs.cert_program.Laws.{AcceptsFileFor}
 use Rattle.cert_text.specs.Spelled.{IsTextWithin}
+use Rattle.outcome.specs.declared.outcome_of.Outcome.{Outcome}
 use Rattle.analysis_certs.specs.ProvedFiles.{file_of_outcome}
-use Rattle.koat_cli.specs.declared.status.Status.{Status}
-use Rattle.koat_cli.specs.declared.status.Status.TheVariants.{Done, Unknown, WriteFault, Memory}
-use Rattle.koat_cli.specs.Calls.{Call, Put}
-use Rattle.koat_cli.specs.Checks.{IsProofOf}
-use Rattle.koat_cli.specs.OnFiles.{program_limit, OnProgram, IsNoProgram, Without, Of}
-use Rattle.koat_cli.specs.ProofTexts.{proofs, proof_limit}
-use Rattle.koat_cli.specs.Ends.{Ends}
-use Rattle.koat_cli.specs.Answering.{SpellsOne}
-use Rattle.koat_cli.specs.AnsweringTwo.{HasText}
-use Rattle.koat_cli.specs.ProvenChecks.{WroteProofText, WhatIsProvedIsAccepted}
-use Rattle.koat_cli.proofs.Answering.{same_held}
-use Rattle.koat_cli.proofs.AnsweringChecks.{checks_answered}
-use Rattle.koat_cli.proofs.Exclusions.{Determined}
-use Rattle.koat_cli.proofs.OneRequest.{answer_of, no_done, no_unknown}
+use Rattle.call_plans.specs.declared.status.Status.{Status}
+use Rattle.call_plans.specs.declared.status.Status.TheVariants.{Done, Unknown, Memory}
+use Rattle.call_plans.specs.Sorts.{Answer, sort_of}
+use Rattle.call_plans.specs.Calls.{Put}
+use Rattle.call_plans.specs.Gives.{Gives}
+use Rattle.call_plans.specs.Meanings.{Appended, Wrote}
+use Rattle.call_plans.specs.Endings.{Stands, EndsOn}
+use Rattle.call_plans.proofs.GivenFiles.{given}
+use Rattle.koat_cli.specs.Calls.{Call}
+use Rattle.koat_cli.specs.ProgramTexts.{program_limit, programs}
+use Rattle.koat_cli.specs.ProofTexts.{proof_limit}
+use Rattle.koat_cli.specs.Commands.Prove.{IsProved}
+use Rattle.koat_cli.specs.RequestPlans.{plan_of}
+use Rattle.koat_cli.specs.ProvenChecks.{WroteProofText, AsksToCheck, WhatIsProvedIsAccepted}
+use Rattle.koat_cli.proofs.CallsAnswered.{calls_answered}
+use Rattle.koat_cli.proofs.Determined.{Determined}
+use Rattle.koat_cli.proofs.EndsMean.{ends_mean}
 
 -- what was appended to disclosed bytes is one text
 one_appended : (before after : Option (List ℕ)) (x y : List ℕ) → IsSome before → Appends before after x → Appends before after y
@@ -34,69 +42,63 @@ one_appended None after x y result_is a b = absurd (different result_is)
 one_appended (Some old) None x y result_is a b = absurd a
 one_appended (Some old) (Some new) x y result_is a b = append_cancel_left old x y (sym a ∙ b)
 
--- a status with which something is proved isn't that of a fault or of running out of memory
-module _ (s : Status) where
-  no_fault : (s ≡ Done) ⊎ (s ≡ Unknown) → s ≢ WriteFault
-  no_fault (inl e) fault = apart (sym e ∙ fault)
-    where
-      apart : Done ≢ WriteFault
-      apart h = let no_way : ⊥ = cc in no_way
-  no_fault (inr e) fault = apart (sym e ∙ fault)
-    where
-      apart : Unknown ≢ WriteFault
-      apart h = let no_way : ⊥ = cc in no_way
+-- what is there is one
+there_one : (there : Option (List ℕ)) (a b : List ℕ) → there ≡ Some a → there ≡ Some b → a ≡ b
+there_one there a b left right = let e : Some a ≡ Some b = sym left ∙ right in cc
 
-  no_want : (s ≡ Done) ⊎ (s ≡ Unknown) → s ≢ Memory
-  no_want (inl e) want = apart (sym e ∙ want)
-    where
-      apart : Done ≢ Memory
-      apart h = let no_way : ⊥ = cc in no_way
-  no_want (inr e) want = apart (sym e ∙ want)
-    where
-      apart : Unknown ≢ Memory
-      apart h = let no_way : ⊥ = cc in no_way
+-- a status with which something is proved is that of an answer
+proved_answer : (s : Status) → (s ≡ Done) ⊎ (s ≡ Unknown) → sort_of s ≡ Answer
+proved_answer s (inl e) = ap sort_of e
+proved_answer s (inr e) = ap sort_of e
 
-module _ (bytes text : List ℕ) (w : WroteProofText bytes text) (short : length text ≤ proof_limit) where
-  -- nor that of a file that gives no program
-  no_program : (x : List ℕ) → (w.status ≡ Done) ⊎ (w.status ≡ Unknown)
-      → IsNoProgram w.call.shelf w.asked.file w.status x → ⊥
-  no_program x (inl e) h =
-      no_done w.call.shelf w.asked.file x (subst (λ (s : Status). IsNoProgram w.call.shelf w.asked.file s x) e h)
-  no_program x (inr e) h =
-      no_unknown w.call.shelf w.asked.file x (subst (λ (s : Status). IsNoProgram w.call.shelf w.asked.file s x) e h)
+-- the bytes spell a program, and the text is that of a file that is accepted for it
+record Accepted (bytes text : List ℕ) : Type 0 where
+  pub within : length bytes ≤ program_limit
+  pub program : Program
+  pub spelled : SpellsWithin bytes program
+  pub outcome : Outcome
+  pub text_is : IsTextWithin program text (file_of_outcome outcome)
+  pub accepted : AcceptsFileFor program (file_of_outcome outcome)
 
-  -- so the bytes spell a program, and what was written is the text of a file that is accepted for it
-  of_answer : (x : List ℕ) → x ≡ text → OnProgram w.call.shelf w.asked.file (λ p. IsProofOf p w.pivots) w.status x
-      → SpellsOne bytes (λ p. HasText (proofs p) text (AcceptsFileFor p))
-  of_answer x is (Without h) = absurd (no_program x w.proved h)
-  of_answer x is (Of h) =
-      let p = h.program in
-      let f = file_of_outcome h.said.outcome in
-      let same : h.given.bytes ≡ bytes =
-      same_held w.call.shelf.held w.asked.file bytes h.given.bytes w.asked.held h.given.fetched.held in
-      let spelled : SpellsWithin bytes p = subst (λ (b : List ℕ). SpellsWithin b p) same h.given.spelled in
-      let result_is : IsTextWithin p text f = subst (λ (t : List ℕ). IsTextWithin p t f) is h.said.proved.result_is in
+module _ (bytes text : List ℕ) (w : WroteProofText bytes text) where
+  -- by what was proved of the program that a file gives
+  by_proved : (p : Program) (gives : Gives programs w.call.shelf w.file ⊤ p) (o : Outcome) (x : List ℕ)
+      → IsProved p w.pivots o x → Appended w.put x → Accepted bytes text
+  by_proved p gives o x proved appended =
+      let same : gives.bytes ≡ bytes =
+      there_one (get w.files w.file) gives.bytes bytes
+      (given w.call.shelf.held w.files w.file gives.bytes w.on_shelf.held gives.held) w.held in
+      let is : x ≡ text = one_appended w.put.written_before w.put.written_after x text w.tells appended w.appended in
       record {
-        within = subst (λ (b : List ℕ). length b ≤ program_limit) same h.given.fetched.within;
+        within = subst (λ (b : List ℕ). length b ≤ program_limit) same gives.within;
         program = p;
-        spelled = spelled;
-        holds = record {
-          within = short;
-          thing = f;
-          stands = result_is;
-          holds = h.said.proved.accepted;
-        };
+        spelled = subst (λ (b : List ℕ). SpellsWithin b p) same gives.stands;
+        outcome = o;
+        text_is = subst (λ (t : List ℕ). IsTextWithin p t (file_of_outcome o)) is proved.result_is;
+        accepted = proved.accepted;
       }
 
-  accepted : SpellsOne bytes (λ p. HasText (proofs p) text (AcceptsFileFor p))
+  by_wrote : Wrote w.call.shelf w.put (plan_of (OfProgram Prove w.pivots w.file)) w.status → Accepted bytes text
+  by_wrote (p, (gives, (x, (inl told, appended)))) = by_proved p gives told.1.outcome x told.1.proved appended
+  by_wrote (p, (gives, (x, (inr (inl told), appended)))) = by_proved p gives told.1.outcome x told.1.proved appended
+  by_wrote (p, (gives, (x, (inr (inr never), appended)))) = absurd never
+
+  accepted : Accepted bytes text
   accepted =
-      let wrote = w.ends.wrote (no_fault w.status w.proved) (no_want w.status w.proved) in
-      of_answer wrote.text (one_appended w.put.written_before w.put.written_after wrote.text text w.tells wrote.appended w.appended)
-      (answer_of w.call (Prove w.pivots w.asked.file) w.status wrote.text w.asked.asked wrote.says)
+      by_wrote ((ends_mean w.status w.call w.put w.ends).answered (OfProgram Prove w.pivots w.file) w.asked
+      (proved_answer w.status w.proved))
+
+  -- so a check of it ends with `Done`
+  ends_done : length text ≤ proof_limit → (call : Call) (put : Put) (h : AsksToCheck call put bytes text) → EndsOn h.files (plan_of (OfPair Check h.file h.second)) Done
+  ends_done short call put h =
+      let a : Accepted bytes text = accepted in
+      Stands bytes h.held a.within a.program a.spelled
+      (Stands text h.second_held short (file_of_outcome a.outcome) a.text_is (inl (refl, a.accepted)))
 
 -- the law
 pub proved_accepted : Determined → WhatIsProvedIsAccepted
 proved_accepted laws = record {
   each = λ bytes text w short call put s h ends memory.
-      ((checks_answered laws).done call put bytes text s h ends memory).1 (accepted bytes text w short);
+      ((calls_answered laws).on_shelf call put h.files (OfPair Check h.file h.second) s Done h.asked h.on_shelf ends memory).1
+      (ends_done bytes text w short call put h);
 }

@@ -1,6 +1,6 @@
 -- The bytes of a run's text are those of one run of a program within the limits, and have no first fault; other bytes
 -- have one first fault at most.
-use Rattle.std.proofs.Common.{◌≡◌, ℕ, List, length, subst, sym, ◌∙◌}
+use Rattle.std.proofs.Common.{◌≡◌, ℕ, List, length, ap, subst, sym, ◌∙◌}
 use Rattle.model.specs.Programs.{Program}
 use Rattle.text_grammar.specs.text_core.Readers.{Fault}
 use Rattle.text_grammar.specs.text_core.Faults.{IsFirst}
@@ -13,6 +13,8 @@ use Rattle.run_replay.specs.declared.kind.RunKind.{RunKind}
 use Rattle.run_replay.specs.Runs.{Run}
 use Rattle.run_replay.specs.Texts.{runs_of}
 use Rattle.run_replay.specs.Spelled.{IsTextWithin}
+use Rattle.call_plans.specs.Lawful.{IsDecided}
+use Rattle.koat_cli.specs.RunTexts.{runs, run_refusal_text}
 use Rattle.run_replay.proofs.RunParts.{runs_lawful}
 use Rattle.run_replay.proofs.RunText.{written_stands}
 
@@ -41,3 +43,12 @@ pub one_first_fault : (p : Program) (bytes : List ℕ) (x y : Fault RunKind)
     → IsFirst (reader (runs_of p)) (length bytes) (tokens bytes) y → x ≡ y
 one_first_fault p bytes x y =
     (one_first_each (reader (runs_of p)) (reader_laws (runs_of p) (runs_lawful p))).each (length bytes) (tokens bytes) x y
+
+-- texts of runs are decided
+pub run_texts_decided : (p : Program) → IsDecided (runs p)
+run_texts_decided p = record {
+  one = one_run_of p;
+  one_refusal = λ bytes x y a b.
+      a.result_is ∙ (ap (λ (f : Fault RunKind). run_refusal_text f) (one_first_fault p bytes a.fault b.fault a.first b.first) ∙ sym b.result_is);
+  apart = λ bytes r x stands refused. no_first_fault p bytes r refused.fault stands refused.first;
+}

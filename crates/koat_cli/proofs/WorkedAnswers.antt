@@ -1,26 +1,28 @@
 -- What is answered to some words, and the figures of a report.
-use Rattle.std.proofs.Common.{◌≡◌, ℕ, List, [], ◌∷◌, get_or, None, refl, ap, arith, codes}
+use Rattle.std.proofs.Common.{◌≡◌, ◌≢◌, ℕ, List, [], ◌∷◌, get_or, Option, None, refl, ap, arith, codes, inl, inr}
+use Rattle.std.specs.Prelude.{⊤}
 use Rattle.std.specs.Fmt.{digits}
 use Rattle.its_writer.specs.Generated.{generated}
 use Rattle.its_writer.specs.Texts.{canonical_text}
 use Rattle.its_writer.proofs.GeneratedWithin.{generated_spelled}
 use Rattle.command_line.specs.Lines.{Words, Positional}
 use Rattle.command_line.specs.Numerals.{IsNumber}
-use Rattle.command_line.specs.Requests.{Analyse, Prove, Check, Replay, Generate, Selfrun, Facts, Asks}
+use Rattle.command_line.specs.Requests.{OfProgram, OfPair, OfNumber, Request, Asks}
+use Rattle.command_line.specs.declared.task.ProgramTask.TheVariants.{Analyse, Prove, Facts}
+use Rattle.command_line.specs.declared.task.PairTask.TheVariants.{Check, Replay}
+use Rattle.command_line.specs.declared.task.NumberTask.TheVariants.{Generate, Selfrun}
 use Rattle.command_line.proofs.Firsts.{gives_of}
 use Rattle.command_line.proofs.WorkedLines.{command_lines}
-use Rattle.outcome.specs.Views.{report_of}
-use Rattle.koat_cli.specs.declared.status.Status.{Status}
-use Rattle.koat_cli.specs.declared.status.Status.TheVariants.{Done, Unknown, Usage, ReadFault, No, RunRefused}
-use Rattle.koat_cli.specs.Calls.{Seen, Call}
+use Rattle.call_plans.specs.declared.status.Status.{Status}
+use Rattle.call_plans.specs.declared.status.Status.TheVariants.{Done, Unknown, Usage, ReadFault, No, RunRefused}
+use Rattle.call_plans.specs.Calls.{Seen}
+use Rattle.call_plans.proofs.Statuses.{OfPlan, of_plan}
+use Rattle.koat_cli.specs.Calls.{Call}
+use Rattle.koat_cli.specs.Answers.{Says, AnswersOf, ToRequest}
+use Rattle.koat_cli.specs.RequestPlans.{plan_of}
 use Rattle.koat_cli.specs.Report.{usage_text}
-use Rattle.koat_cli.specs.Answers.{ToRequest}
+use Rattle.koat_cli.proofs.OneRequest.{answer_of, never_usage_of}
 use Rattle.koat_cli.specs.WorkedAnswers.{Answered, FiguresAreWorkedOut, AnswersAreWorkedOut}
-use Rattle.koat_cli.proofs.OneRequest.{answer_of, never_usage_of, never_read_fault}
-use Rattle.koat_cli.proofs.CheckStatuses.{Tells as CheckTells, check_tells}
-use Rattle.koat_cli.proofs.ReplayStatuses.{Tells, replay_tells}
-use Rattle.koat_cli.proofs.Sayings.{of_no_check}
-use Rattle.std.specs.Prelude.{⊤}
 
 pub figures_worked : FiguresAreWorkedOut
 unfolding digits
@@ -30,7 +32,7 @@ figures_worked = record { figures = refl }
 no_loop : IsNumber 100 (codes "0") 0
 no_loop = record { some = λ e. cc; digits = refl; plain = refl; value = refl; in_range = omega arith }
 
-generate_asked : Asks (codes "generate" ∷ codes "0" ∷ []) (Generate 0)
+generate_asked : Asks (codes "generate" ∷ codes "0" ∷ []) (OfNumber Generate 0)
 generate_asked = record {
   others = codes "0" ∷ [];
   values = [];
@@ -40,7 +42,7 @@ generate_asked = record {
   parts = record { no_option = refl; word = codes "0"; one = refl; number = no_loop };
 }
 
-selfrun_asked : Asks (codes "selfrun" ∷ codes "0" ∷ []) (Selfrun 0)
+selfrun_asked : Asks (codes "selfrun" ∷ codes "0" ∷ []) (OfNumber Selfrun 0)
 selfrun_asked = record {
   others = codes "0" ∷ [];
   values = [];
@@ -51,104 +53,100 @@ selfrun_asked = record {
 }
 
 -- the call with these words
-abbrev call_with : Words → Seen → Call
-call_with words seen = record { words = words; shelf = seen }
+abbrev call_with : Words → Option ℕ → Seen → Call
+call_with words before seen = record { words = words; fetches_before = before; shelf = seen }
 
-generate : (seen : Seen) → Answered (codes "generate" ∷ codes "0" ∷ []) seen Done (canonical_text (generated 0))
-generate seen = ToRequest (Generate 0) generate_asked (record { result_is = refl; spelled = generated_spelled 0 (omega arith); ends = refl })
+-- a status that no row and no file of a request's plan has isn't answered
+module _ (call : Call) (r : Request) (asked : Asks call.words r) where
+  not_answered : (Holds : Status → Type 0) (s : Status) (x : List ℕ) → OfPlan Holds (plan_of r) → Says call s x → Holds s
+  not_answered Holds s x all said =
+      of_plan Holds call.shelf call.fetches_before (plan_of r) s x all (answer_of call r s x asked said)
 
-generate_known : (seen : Seen) (text : List ℕ) → ¬ (Answered (codes "generate" ∷ codes "0" ∷ []) seen Unknown text)
-generate_known seen text said =
-    let answer = answer_of (call_with (codes "generate" ∷ codes "0" ∷ []) seen) (Generate 0) Unknown text generate_asked said in
-    let e : Unknown ≡ Done = answer.ends in
-    cc
+  not_usage : (x : List ℕ) → ¬ (Says call Usage x)
+  not_usage x said = never_usage_of call r x (answer_of call r Usage x asked said)
 
--- its text begins with a bracket
-generate_its_text : (seen : Seen) (status : Status) → ¬ (Answered (codes "generate" ∷ codes "0" ∷ []) seen status usage_text)
-generate_its_text seen status said =
-    let answer = answer_of (call_with (codes "generate" ∷ codes "0" ∷ []) seen) (Generate 0) status usage_text generate_asked said in
-    let e : usage_text ≡ canonical_text (generated 0) = answer.result_is in
-    let bracket : 117 ≡ 40 = ap (λ (w : List ℕ). get_or w 0 0) e in
-    omega (arith, bracket)
+-- statuses but one
+abbrev IsNotUnknown : Status → Type 0
+IsNotUnknown Unknown = ⊥
+IsNotUnknown status = ⊤
 
-prove : (seen : Seen) (text : List ℕ) → ¬ (Answered (codes "prove" ∷ codes "--pivots=5" ∷ codes "p" ∷ []) seen Usage text)
-prove seen text said =
-    never_usage_of seen (Prove 5 (codes "p")) text
-    (answer_of (call_with (codes "prove" ∷ codes "--pivots=5" ∷ codes "p" ∷ []) seen) (Prove 5 (codes "p")) Usage text command_lines.proofs said)
-
--- what is answered to another request than one for a check isn't that a proof isn't accepted
 abbrev IsNotNo : Status → Type 0
 IsNotNo No = ⊥
 IsNotNo status = ⊤
 
-prove_accepted : (seen : Seen) (text : List ℕ) → ¬ (Answered (codes "prove" ∷ codes "--pivots=5" ∷ codes "p" ∷ []) seen No text)
-prove_accepted seen text said =
-    of_no_check IsNotNo tt tt tt tt tt tt tt seen (Prove 5 (codes "p")) No text (λ f q e. cc)
-    (answer_of (call_with (codes "prove" ∷ codes "--pivots=5" ∷ codes "p" ∷ []) seen) (Prove 5 (codes "p")) No text command_lines.proofs said)
+abbrev IsNotRunRefused : Status → Type 0
+IsNotRunRefused RunRefused = ⊥
+IsNotRunRefused status = ⊤
 
--- what is answered to a check
-check_answered : (seen : Seen) (status : Status) (text : List ℕ)
-    → Answered (codes "check" ∷ codes "p" ∷ codes "q" ∷ []) seen status text
-    → CheckTells seen (codes "p") (codes "q") status text
-check_answered seen status text said =
-    check_tells seen (codes "p") (codes "q") status text
-    (answer_of (call_with (codes "check" ∷ codes "p" ∷ codes "q" ∷ []) seen)
-    (Check (codes "p") (codes "q")) status text command_lines.check said)
+abbrev IsNotReadFault : Status → Type 0
+IsNotReadFault ReadFault = ⊥
+IsNotReadFault status = ⊤
 
-check : (seen : Seen) (text : List ℕ) → ¬ (Answered (codes "check" ∷ codes "p" ∷ codes "q" ∷ []) seen Usage text)
-check seen text said = check_answered seen Usage text said
+-- `generate 0`
+abbrev generate_words : Words
+generate_words = codes "generate" ∷ codes "0" ∷ []
 
-check_known : (seen : Seen) (text : List ℕ) → ¬ (Answered (codes "check" ∷ codes "p" ∷ codes "q" ∷ []) seen Unknown text)
-check_known seen text said = check_answered seen Unknown text said
+generate : (seen : Seen) → Answered generate_words seen.fetches_after seen Done (canonical_text (generated 0))
+generate seen =
+    ToRequest (OfNumber Generate 0) generate_asked
+    (refl, inl (refl, record { result_is = refl; spelled = generated_spelled 0 (omega arith) }))
 
-check_no_run : (seen : Seen) (text : List ℕ) → ¬ (Answered (codes "check" ∷ codes "p" ∷ codes "q" ∷ []) seen RunRefused text)
-check_no_run seen text said = check_answered seen RunRefused text said
+generate_fetched : (before : Option ℕ) (seen : Seen) (s : Status) (x : List ℕ) → seen.fetches_after ≢ before
+    → ¬ (Answered generate_words before seen s x)
+generate_fetched before seen s x other said =
+    other (answer_of (call_with generate_words before seen) (OfNumber Generate 0) s x generate_asked said).0
 
-analyse : (seen : Seen) (text : List ℕ) → ¬ (Answered (codes "analyse" ∷ codes "p" ∷ []) seen Usage text)
-analyse seen text said =
-    never_usage_of seen (Analyse 10000 (codes "p")) text
-    (answer_of (call_with (codes "analyse" ∷ codes "p" ∷ []) seen) (Analyse 10000 (codes "p")) Usage text command_lines.file_alone said)
+-- its text begins with a bracket
+no_usage_text : (s : Status) (before : Option ℕ) (seen : Seen)
+    → ¬ (AnswersOf (call_with generate_words before seen) (OfNumber Generate 0) s usage_text)
+no_usage_text s before seen (fetches, inl told) =
+    let bracket : 117 ≡ 40 = ap (λ (w : List ℕ). get_or w 0 0) told.1.result_is in omega (arith, bracket)
+no_usage_text s before seen (fetches, inr never) = never
 
-facts : (seen : Seen) (text : List ℕ) → ¬ (Answered (codes "facts" ∷ codes "p" ∷ []) seen Usage text)
-facts seen text said =
-    never_usage_of seen (Facts 10000 (codes "p")) text
-    (answer_of (call_with (codes "facts" ∷ codes "p" ∷ []) seen) (Facts 10000 (codes "p")) Usage text command_lines.facts said)
-
--- what is answered to a replay
-replay_answered : (seen : Seen) (status : Status) (text : List ℕ)
-    → Answered (codes "replay" ∷ codes "p" ∷ codes "--" ∷ codes "-q" ∷ []) seen status text
-    → Tells seen (codes "p") (codes "-q") status text
-replay_answered seen status text said =
-    replay_tells seen (codes "p") (codes "-q") status text
-    (answer_of (call_with (codes "replay" ∷ codes "p" ∷ codes "--" ∷ codes "-q" ∷ []) seen)
-    (Replay (codes "p") (codes "-q")) status text command_lines.replay said)
-
-replay : (seen : Seen) (text : List ℕ)
-    → ¬ (Answered (codes "replay" ∷ codes "p" ∷ codes "--" ∷ codes "-q" ∷ []) seen Usage text)
-replay seen text said = replay_answered seen Usage text said
-
-replay_known : (seen : Seen) (text : List ℕ)
-    → ¬ (Answered (codes "replay" ∷ codes "p" ∷ codes "--" ∷ codes "-q" ∷ []) seen Unknown text)
-replay_known seen text said = replay_answered seen Unknown text said
-
-selfrun : (seen : Seen) (text : List ℕ) → ¬ (Answered (codes "selfrun" ∷ codes "0" ∷ []) seen ReadFault text)
-selfrun seen text said =
-    let answer = answer_of (call_with (codes "selfrun" ∷ codes "0" ∷ []) seen) (Selfrun 0) ReadFault text selfrun_asked said in
-    never_read_fault (report_of answer.outcome) answer.ends
+generate_its_text : (before : Option ℕ) (seen : Seen) (s : Status) → ¬ (Answered generate_words before seen s usage_text)
+generate_its_text before seen s said =
+    no_usage_text s before seen
+    (answer_of (call_with generate_words before seen) (OfNumber Generate 0) s usage_text generate_asked said)
 
 pub answers_worked : AnswersAreWorkedOut
 answers_worked = record {
   generate = generate;
-  generate_known = generate_known;
+  generate_fetched = generate_fetched;
+  generate_known = λ before seen x said.
+      not_answered (call_with generate_words before seen) (OfNumber Generate 0) generate_asked IsNotUnknown Unknown x
+      (tt, tt) said;
   generate_its_text = generate_its_text;
-  prove = prove;
-  prove_accepted = prove_accepted;
-  check = check;
-  check_known = check_known;
-  check_no_run = check_no_run;
-  analyse = analyse;
-  facts = facts;
-  replay = replay;
-  replay_known = replay_known;
-  selfrun = selfrun;
+  prove = λ before seen x said.
+      not_usage (call_with (codes "prove" ∷ codes "--pivots=5" ∷ codes "p" ∷ []) before seen)
+      (OfProgram Prove 5 (codes "p")) command_lines.proofs x said;
+  prove_accepted = λ before seen x said.
+      not_answered (call_with (codes "prove" ∷ codes "--pivots=5" ∷ codes "p" ∷ []) before seen)
+      (OfProgram Prove 5 (codes "p")) command_lines.proofs IsNotNo No x (tt, (tt, λ p. (tt, (tt, tt)))) said;
+  check = λ before seen x said.
+      not_usage (call_with (codes "check" ∷ codes "p" ∷ codes "q" ∷ []) before seen)
+      (OfPair Check (codes "p") (codes "q")) command_lines.check x said;
+  check_known = λ before seen x said.
+      not_answered (call_with (codes "check" ∷ codes "p" ∷ codes "q" ∷ []) before seen)
+      (OfPair Check (codes "p") (codes "q")) command_lines.check IsNotUnknown Unknown x
+      (tt, (tt, λ p. (tt, (tt, λ f. (tt, (tt, tt)))))) said;
+  check_no_run = λ before seen x said.
+      not_answered (call_with (codes "check" ∷ codes "p" ∷ codes "q" ∷ []) before seen)
+      (OfPair Check (codes "p") (codes "q")) command_lines.check IsNotRunRefused RunRefused x
+      (tt, (tt, λ p. (tt, (tt, λ f. (tt, (tt, tt)))))) said;
+  analyse = λ before seen x said.
+      not_usage (call_with (codes "analyse" ∷ codes "p" ∷ []) before seen) (OfProgram Analyse 10000 (codes "p"))
+      command_lines.file_alone x said;
+  facts = λ before seen x said.
+      not_usage (call_with (codes "facts" ∷ codes "p" ∷ []) before seen) (OfProgram Facts 10000 (codes "p"))
+      command_lines.facts x said;
+  replay = λ before seen x said.
+      not_usage (call_with (codes "replay" ∷ codes "p" ∷ codes "--" ∷ codes "-q" ∷ []) before seen)
+      (OfPair Replay (codes "p") (codes "-q")) command_lines.replay x said;
+  replay_known = λ before seen x said.
+      not_answered (call_with (codes "replay" ∷ codes "p" ∷ codes "--" ∷ codes "-q" ∷ []) before seen)
+      (OfPair Replay (codes "p") (codes "-q")) command_lines.replay IsNotUnknown Unknown x
+      (tt, (tt, λ p. (tt, (tt, λ r. (tt, (tt, tt)))))) said;
+  selfrun = λ before seen x said.
+      not_answered (call_with (codes "selfrun" ∷ codes "0" ∷ []) before seen) (OfNumber Selfrun 0) selfrun_asked
+      IsNotReadFault ReadFault x (tt, (tt, tt)) said;
 }

@@ -4,8 +4,8 @@ use Rattle.std.proofs.Common.{arith, codes, inl, inr}
 use Rattle.std.proofs.lemmas.List.{length-take-le}
 use Rattle.outside_io.specs.Counts.{Rose}
 use Rattle.outside_io.specs.Putting.{AppendsPrefix}
-use Rattle.koat_cli.specs.declared.status.Status.{Status}
-use Rattle.koat_cli.specs.declared.status.Status.TheVariants.{Usage, ReadFault}
+use Rattle.call_plans.specs.declared.status.Status.{Status}
+use Rattle.call_plans.specs.declared.status.Status.TheVariants.{Usage, ReadFault}
 use Rattle.command_line.specs.Requests.{Request, Asks}
 use Rattle.koat_cli.specs.Report.{usage_text}
 use Rattle.koat_cli.specs.Answers.{Says, ToNothing, ToRequest}
@@ -18,7 +18,7 @@ none_asks request h = omega (arith, ap length h.command)
 
 -- so they get the usage text
 usage : Says without_words Usage usage_text
-usage = ToNothing none_asks (record { result_is = refl; ends = refl })
+usage = ToNothing none_asks (record { fetches = refl; result_is = refl; ends = refl })
 
 -- and no other
 only_text : (status : Status) (text : List ℕ) → Says without_words status text → text ≡ usage_text

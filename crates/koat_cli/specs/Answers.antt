@@ -1,39 +1,13 @@
--- The answer to each request, a line each: its status, and its text.
-use Rattle.std.specs.Prelude.{List, ℕ, ⊤}
-use Rattle.its_writer.specs.Generated.{generated}
+-- What a call answers: its status, and its text.
+use Rattle.std.specs.Prelude.{◌≡◌, List, ℕ}
 use Rattle.command_line.specs.Lines.{Words}
-use Rattle.command_line.specs.Requests.{Request, Analyse, Prove, Check, Replay, Generate, Selfrun, Facts, Asks}
-use Rattle.koat_cli.specs.declared.status.Status.{Status}
-use Rattle.koat_cli.specs.Calls.{Seen, Call}
-use Rattle.koat_cli.specs.OnFiles.{OnProgram}
-use Rattle.koat_cli.specs.OnTexts.{OnText, OnProgramFirst}
-use Rattle.koat_cli.specs.Outputs.{IsReportOf, IsReplayOf, IsGenerated, IsSummaryOf, IsFactsReportOf, IsUsage}
-use Rattle.koat_cli.specs.Checks.{IsProofOf, IsCheckOf}
-use Rattle.koat_cli.specs.ProofTexts.{proofs}
-use Rattle.koat_cli.specs.RunTexts.{runs}
-
--- what is answered of a request
-abbrev pub Answers : Seen → Request → Status → List ℕ → Type 0
-Answers seen (Analyse pivots file) status text = OnProgram seen file (λ program. IsReportOf program pivots) status text
-Answers seen (Prove pivots file) status text = OnProgram seen file (λ program. IsProofOf program pivots) status text
-Answers seen (Check file proof) status text =
-    OnProgramFirst seen file (λ program. OnText (proofs program) seen proof (IsCheckOf program)) status text
-Answers seen (Replay file run) status text =
-    OnProgramFirst seen file (λ program. OnText (runs program) seen run (IsReplayOf program)) status text
-Answers seen (Generate n) status text = IsGenerated n status text
-Answers seen (Selfrun n) status text = IsSummaryOf (generated n) status text
-Answers seen (Facts pivots file) status text =
-    OnProgram seen file (λ program. IsFactsReportOf program pivots) status text
-
--- a file is fetched for this request
-abbrev pub FetchesFile : Request → Type 0
-FetchesFile (Analyse pivots file) = ⊤
-FetchesFile (Prove pivots file) = ⊤
-FetchesFile (Check file proof) = ⊤
-FetchesFile (Replay file run) = ⊤
-FetchesFile (Generate n) = ⊥
-FetchesFile (Selfrun n) = ⊥
-FetchesFile (Facts pivots file) = ⊤
+use Rattle.command_line.specs.Requests.{Request, Asks}
+use Rattle.call_plans.specs.declared.status.Status.{Status}
+use Rattle.call_plans.specs.declared.status.Status.TheVariants.{Usage}
+use Rattle.call_plans.specs.Plans.{IsLast, OnPlan}
+use Rattle.koat_cli.specs.Calls.{Call}
+use Rattle.koat_cli.specs.Report.{usage_text}
+use Rattle.koat_cli.specs.RequestPlans.{plan_of}
 
 -- the words are no command line
 abbrev pub AsksForNothing : Words → Type 0
@@ -41,11 +15,21 @@ AsksForNothing words = (request : Request) → ¬ (Asks words request)
 
 -- no file is fetched for the words
 abbrev pub FetchesNothing : Words → Type 0
-FetchesNothing words = (request : Request) → Asks words request → ¬ (FetchesFile request)
+FetchesNothing words = (request : Request) → Asks words request → IsLast (plan_of request)
+
+-- what words get that ask for nothing: the usage text, and no file is fetched
+pub record IsUsage (call : Call) (status : Status) (text : List ℕ) : Type 0 where
+  pub fetches : call.shelf.fetches_after ≡ call.fetches_before
+  pub result_is : text ≡ usage_text
+  pub ends : status ≡ Usage
+
+-- this status and this text are answered of the request
+abbrev pub AnswersOf : Call → Request → Status → List ℕ → Type 0
+AnswersOf call request status text = OnPlan call.shelf call.fetches_before (plan_of request) status text
 
 -- with this status and this text a call answers: the usage text to words that are no command line, and to others what
--- is answered of their request
+-- the plan of their request answers
 pub data Says (call : Call) (status : Status) (text : List ℕ) : Type 0 where
-  ToNothing : AsksForNothing call.words → IsUsage status text → Says call status text
-  ToRequest : (request : Request) → Asks call.words request → Answers call.shelf request status text
+  ToNothing : AsksForNothing call.words → IsUsage call status text → Says call status text
+  ToRequest : (request : Request) → Asks call.words request → AnswersOf call request status text
       → Says call status text

@@ -1,8 +1,8 @@
 -- A call has at most one answer.
 use Rattle.std.specs.Prelude.{◌≡◌, ◌≢◌, List, ℕ, IsSome}
 use Rattle.outside_io.specs.Counts.{Rose}
-use Rattle.koat_cli.specs.declared.status.Status.{Status}
-use Rattle.koat_cli.specs.declared.status.Status.TheVariants.{Usage, ReadFault}
+use Rattle.call_plans.specs.declared.status.Status.{Status}
+use Rattle.call_plans.specs.declared.status.Status.TheVariants.{Usage, ReadFault}
 use Rattle.koat_cli.specs.Calls.{Call}
 use Rattle.koat_cli.specs.Answers.{FetchesNothing, Says}
 

@@ -1,27 +1,24 @@
--- what the contracts of the program cite: calls, texts, statuses, what commands write, and how calls end
+-- what the contracts of the program cite: calls, texts, what each command answers, the plans of requests, how calls end,
+-- and what their statuses mean
 pub mod Calls
 pub mod Report
 pub mod Figures
-pub mod Numbers
 pub mod ReplayTexts
-pub mod OnFiles
-pub mod OnTexts
-pub mod RunTexts
+pub mod ProgramTexts
 pub mod ProofTexts
-pub mod Outputs
-pub mod Checks
+pub mod RunTexts
 pub mod WithinBounds
-pub mod ProofEnds
+pub mod Found
+pub mod Commands
+pub mod RequestPlans
 pub mod Answers
 pub mod Ends
+pub mod WroteReport
+pub mod Means
 pub mod Processes
 pub mod Exclusion
-pub mod Answering
-pub mod AnsweringTwo
-pub mod AnsweringReplays
-pub mod AnsweringChecks
+pub mod CallsAnswered
 pub mod ProvenChecks
-pub mod MissingFiles
 pub mod AnalysisTexts
 -- values that were worked out by hand
 pub mod WorkedEnds
@@ -30,4 +27,3 @@ pub mod WorkedReplayTexts
 pub mod WorkedMissingFiles
 -- what the contracts of the functions inside cite
 pub mod Steps
-pub mod ProofSteps

@@ -2,10 +2,12 @@
 use Rattle.std.specs.Prelude.{◌≡◌}
 use Rattle.std.specs.Process.{exit_status}
 use Rattle.std.specs.declared.process.ExitCode.{ExitCode}
-use Rattle.koat_cli.specs.declared.status.Status.{Status}
-use Rattle.koat_cli.specs.Calls.{Call, Put}
-use Rattle.koat_cli.specs.Numbers.{number_of}
-use Rattle.koat_cli.specs.Ends.{Ends, Means}
+use Rattle.call_plans.specs.declared.status.Status.{Status}
+use Rattle.call_plans.specs.Calls.{Put}
+use Rattle.koat_cli.specs.Calls.{Call}
+use Rattle.call_plans.specs.Numbers.{number_of}
+use Rattle.koat_cli.specs.Ends.{Ends}
+use Rattle.koat_cli.specs.Means.{Means}
 
 -- the process ends with the number of the status with which the call ends, and this means what it does
 pub record Exits (code : ExitCode) (call : Call) (put : Put) : Type 0 where

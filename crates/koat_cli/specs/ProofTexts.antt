@@ -10,8 +10,8 @@ use Rattle.cert_text.specs.Spelled.{IsTextWithin}
 use Rattle.cert_text.specs.cert_lexer.declared.kind.ProofKind.{ProofKind}
 use Rattle.cert_text.specs.cert_lexer.Lexing.{tokens}
 use Rattle.check_text.specs.Texts.{proof_too_long_text, proof_refusal_text}
-use Rattle.koat_cli.specs.declared.status.Status.TheVariants.{ProofRefused}
-use Rattle.koat_cli.specs.OnTexts.{TextKind}
+use Rattle.call_plans.specs.declared.status.Status.TheVariants.{ProofRefused}
+use Rattle.call_plans.specs.Kinds.{TextKind}
 
 -- a proof's text has at most 67,108,864 bytes
 abbrev pub proof_limit : ℕ

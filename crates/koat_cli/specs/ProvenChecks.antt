@@ -1,14 +1,19 @@
 -- What `prove` writes is accepted by `check`.
-use Rattle.std.specs.Prelude.{◌≡◌, ◌≢◌, ◌⊎◌, ℕ, ◌≤◌, List, length, IsSome}
-use Rattle.std.specs.Io.KnownBytes.{Appends}
-use Rattle.command_line.specs.Requests.{Prove, Check}
-use Rattle.koat_cli.specs.declared.status.Status.{Status}
-use Rattle.koat_cli.specs.declared.status.Status.TheVariants.{Done, Unknown, Memory}
-use Rattle.koat_cli.specs.Calls.{Call, Put}
+use Rattle.std.specs.Prelude.{◌≡◌, ◌≢◌, ◌⊎◌, ℕ, ◌≤◌, List, length, Some, IsSome}
+use Rattle.std.specs.FinMap.{get}
+use Rattle.outside_io.specs.Files.{Files}
+use Rattle.command_line.specs.Lines.{Word}
+use Rattle.command_line.specs.Requests.{OfProgram, OfPair, Asks}
+use Rattle.command_line.specs.declared.task.ProgramTask.TheVariants.{Prove}
+use Rattle.command_line.specs.declared.task.PairTask.TheVariants.{Check}
+use Rattle.call_plans.specs.declared.status.Status.{Status}
+use Rattle.call_plans.specs.declared.status.Status.TheVariants.{Done, Unknown, Memory}
+use Rattle.call_plans.specs.Calls.{Put}
+use Rattle.call_plans.specs.Meanings.{Appended}
+use Rattle.koat_cli.specs.Calls.{Call}
 use Rattle.koat_cli.specs.ProofTexts.{proof_limit}
 use Rattle.koat_cli.specs.Ends.{Ends}
-use Rattle.koat_cli.specs.Answering.{AsksOfHeld}
-use Rattle.koat_cli.specs.AnsweringTwo.{AsksOfTwo}
+use Rattle.koat_cli.specs.CallsAnswered.{IsOnShelf}
 
 -- of a program in a file with these bytes `prove` wrote this text: a call requested it, with some number of pivots, the
 -- file being held and no count of faults rising; it ended with `Done` or `Unknown`; and the sink discloses that this
@@ -16,18 +21,33 @@ use Rattle.koat_cli.specs.AnsweringTwo.{AsksOfTwo}
 pub record WroteProofText (bytes text : List ℕ) : Type 0 where
   pub call : Call
   pub put : Put
+  pub files : Files
   pub pivots : ℕ
-  pub asked : AsksOfHeld call put bytes (Prove pivots)
+  pub file : Word
+  pub asked : Asks call.words (OfProgram Prove pivots file)
+  pub on_shelf : IsOnShelf call put files
+  pub held : get files file ≡ Some bytes
   pub status : Status
   pub proved : (status ≡ Done) ⊎ (status ≡ Unknown)
   pub ends : Ends status call put
   pub tells : IsSome put.written_before
-  pub appended : Appends put.written_before put.written_after text
+  pub appended : Appended put text
+
+-- the words request the check of one file against another, the shelf discloses that it holds them with these bytes, and
+-- no count of faults rises
+pub record AsksToCheck (call : Call) (put : Put) (bytes text : List ℕ) : Type 0 where
+  pub files : Files
+  pub file : Word
+  pub second : Word
+  pub asked : Asks call.words (OfPair Check file second)
+  pub on_shelf : IsOnShelf call put files
+  pub held : get files file ≡ Some bytes
+  pub second_held : get files second ≡ Some text
 
 -- what `prove` wrote of a program, if it has at most 67,108,864 bytes, is accepted by `check` of the same program:
 -- whichever call asks for it, the two files being held and no count of faults rising, ends with `Done`, if memory
 -- suffices
 pub record WhatIsProvedIsAccepted : Type 0 where
   pub each : (bytes text : List ℕ) → WroteProofText bytes text → length text ≤ proof_limit
-      → (call : Call) (put : Put) (s : Status) → AsksOfTwo call put Check bytes text → Ends s call put → s ≢ Memory
+      → (call : Call) (put : Put) (s : Status) → AsksToCheck call put bytes text → Ends s call put → s ≢ Memory
       → s ≡ Done

@@ -1,5 +1,7 @@
--- The texts that the program writes, except for those of programs and reports.
+-- The texts that the program writes, except for those of programs and reports; the usage text is that of the crate of
+-- the command line.
 use Rattle.std.specs.Prelude.{ℕ, List, ◌++◌, codes, decimal}
+pub use Rattle.command_line.specs.Usage.{usage_text}
 use Rattle.its_model.specs.text_core.Readers.{Fault}
 use Rattle.its_reader.specs.its_text.Kinds.{LimitKind, TooManyRules, TooManyArguments, TooManyVariables, TooManyAtoms}
 use Rattle.its_reader.specs.its_text.Kinds.{LongName}
@@ -8,17 +10,6 @@ use Rattle.its_reader.specs.its_text.Kinds.{Kind, NotAscii, Syntax, MissingSecti
 use Rattle.its_reader.specs.its_text.Kinds.{LeftNotVariable}
 use Rattle.its_reader.specs.its_text.Kinds.{LeftRepeated, ArityDiffers, NumberTooLarge, Limit, StartUnknown}
 use Rattle.its_reader.specs.its_text.Kinds.{Disjunction}
-
--- the text for words that ask for nothing: a line for each command
-abbrev pub usage_text : List ℕ
-usage_text =
-    codes "usage: koat analyse [--pivots N] FILE\n       koat prove [--pivots N] FILE\n       koat check FILE PROOF\n"
-    ++ codes "       koat replay FILE RUN\n"
-    ++ codes "       koat generate N\n       koat selfrun N\n       koat facts [--pivots N] FILE\n"
-
--- the text where a file can't be had
-abbrev pub read_fault_text : List ℕ
-read_fault_text = codes "read fault\n"
 
 -- the text where a program's file is too long
 abbrev pub too_long_text : List ℕ

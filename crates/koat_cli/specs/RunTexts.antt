@@ -13,8 +13,8 @@ use Rattle.run_replay.specs.Replays.{BadStep}
 use Rattle.run_replay.specs.Runs.{Run}
 use Rattle.run_replay.specs.Spelled.{IsTextWithin}
 use Rattle.run_replay.specs.Texts.{runs_of}
-use Rattle.koat_cli.specs.declared.status.Status.TheVariants.{RunRefused}
-use Rattle.koat_cli.specs.OnTexts.{TextKind}
+use Rattle.call_plans.specs.declared.status.Status.TheVariants.{RunRefused}
+use Rattle.call_plans.specs.Kinds.{TextKind}
 
 -- a run's text has at most 67,108,864 bytes
 abbrev pub run_limit : ℕ

@@ -1,26 +1,35 @@
 -- Worked values of what a fault of the sink leaves, for a call that gets the usage text.
 use Rattle.std.specs.Prelude.{ℕ, List, [], ◌++◌, None, Some, codes}
-use Rattle.koat_cli.specs.Calls.{Seen, Call, Put}
+use Rattle.call_plans.specs.Calls.{Seen, Put}
+use Rattle.koat_cli.specs.Calls.{Call}
 use Rattle.koat_cli.specs.Report.{usage_text}
 use Rattle.koat_cli.specs.Ends.{WroteInPart}
 
--- a shelf that doesn't disclose its contents, and had this many faults in a call
+-- a shelf that doesn't disclose its contents, from which nothing was fetched, and which had this many faults in a call
 abbrev pub untold : ℕ → Seen
-untold faults = record { held = None; faults_before = 0; faults_after = faults; taken = 0 }
+untold faults = record {
+  held = None;
+  faults_before = 0;
+  faults_after = faults;
+  fetches_after = Some 7;
+  taken = 0;
+}
 
 -- a call without words, on a shelf that had no fault
 abbrev pub without_words : Call
-without_words = record { words = []; shelf = untold 0 }
+without_words = record { words = []; fetches_before = Some 7; shelf = untold 0 }
 
 -- the same call on a shelf that had a fault in it
 abbrev pub behind_fault : Call
-behind_fault = record { words = []; shelf = untold 1 }
+behind_fault = record { words = []; fetches_before = Some 7; shelf = untold 1 }
 
 -- a put that left these bytes behind the text `old`, after which the sink counts so many faults; before it counted 3
 abbrev pub left_with : ℕ → List ℕ → Put
 left_with faults bytes = record {
   faults_before = 3;
   faults_after = faults;
+  puts_before = Some 5;
+  puts_after = Some 6;
   written_before = Some (codes "old ");
   written_after = Some bytes;
 }

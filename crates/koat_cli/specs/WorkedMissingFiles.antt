@@ -1,30 +1,47 @@
--- Worked values of the answers to a replay and to a check where a shelf lacks one of the two files.
+-- Worked values of the answers to an analysis, a replay and a check where a shelf lacks a file.
 use Rattle.std.specs.Prelude.{◌≡◌, ℕ, List, [], ◌∷◌, Some, codes}
 use Rattle.std.specs.FinMap.{empty, insert}
 use Rattle.command_line.specs.Lines.{Word}
-use Rattle.koat_cli.specs.declared.status.Status.{Status}
-use Rattle.koat_cli.specs.declared.status.Status.TheVariants.{ReadFault, ProgramRefused}
-use Rattle.koat_cli.specs.Calls.{Seen}
-use Rattle.koat_cli.specs.Report.{read_fault_text}
+use Rattle.call_plans.specs.declared.status.Status.{Status}
+use Rattle.call_plans.specs.declared.status.Status.TheVariants.{ReadFault, ProgramRefused}
+use Rattle.call_plans.specs.Calls.{Seen}
+use Rattle.call_plans.specs.OnFiles.{read_fault_text}
 use Rattle.koat_cli.specs.Answers.{Says}
 
--- a shelf without faults that discloses that it holds an empty file of this name, and no other
+-- a shelf without faults that discloses that it holds an empty file of this name, and no other; one file was fetched
+-- from it, after none before
 abbrev pub holding : Word → Seen
-holding name = record { held = Some (insert empty name []); faults_before = 0; faults_after = 0; taken = 0 }
+holding name = record {
+  held = Some (insert empty name []);
+  faults_before = 0;
+  faults_after = 0;
+  fetches_after = Some 1;
+  taken = 0;
+}
 
--- `replay p -- -q`, on a shelf of which this was seen, is answered with this status and this text
+-- `analyse p`, on a shelf of which this was seen, is answered with this status and this text
+abbrev pub Analysed : Seen → Status → List ℕ → Type 0
+Analysed seen status text =
+    Says (record { words = codes "analyse" ∷ codes "p" ∷ []; fetches_before = Some 0; shelf = seen }) status text
+
+-- so is `replay p -- -q`
 abbrev pub Replayed : Seen → Status → List ℕ → Type 0
 Replayed seen status text =
-    Says (record { words = codes "replay" ∷ codes "p" ∷ codes "--" ∷ codes "-q" ∷ []; shelf = seen }) status text
+    Says (record {
+      words = codes "replay" ∷ codes "p" ∷ codes "--" ∷ codes "-q" ∷ [];
+      fetches_before = Some 0;
+      shelf = seen;
+    }) status text
 
 -- and so is `check p q`
 abbrev pub Checked : Seen → Status → List ℕ → Type 0
 Checked seen status text =
-    Says (record { words = codes "check" ∷ codes "p" ∷ codes "q" ∷ []; shelf = seen }) status text
+    Says (record { words = codes "check" ∷ codes "p" ∷ codes "q" ∷ []; fetches_before = Some 0; shelf = seen })
+    status text
 
 -- the program of `replay p -- -q` is `p`, and its run `-q`: where `p` is missing, the answer is a fault of reading and
 -- no other, though `-q` exists and is no run; and where `p` exists and is empty, it is a refusal of `p` and no other,
--- though `-q` is missing; the same for `check p q` and its proof `q`
+-- though `-q` is missing; the same for `check p q` and its proof `q`, and for `analyse p` alone
 pub record FilesAreReadInOrder : Type 0 where
   pub no_program : Replayed (holding (codes "-q")) ReadFault read_fault_text
   pub no_program_alone : (status : Status) (text : List ℕ) → Replayed (holding (codes "-q")) status text
@@ -37,4 +54,10 @@ pub record FilesAreReadInOrder : Type 0 where
       → status ≡ ReadFault
   pub no_proof : Checked (holding (codes "p")) ProgramRefused (codes "program refused at 0: MissingSection\n")
   pub no_proof_alone : (status : Status) (text : List ℕ) → Checked (holding (codes "p")) status text
+      → status ≡ ProgramRefused
+  pub no_analysed : Analysed (holding (codes "q")) ReadFault read_fault_text
+  pub no_analysed_alone : (status : Status) (text : List ℕ) → Analysed (holding (codes "q")) status text
+      → status ≡ ReadFault
+  pub empty_analysed : Analysed (holding (codes "p")) ProgramRefused (codes "program refused at 0: MissingSection\n")
+  pub empty_analysed_alone : (status : Status) (text : List ℕ) → Analysed (holding (codes "p")) status text
       → status ≡ ProgramRefused

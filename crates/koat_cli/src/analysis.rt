@@ -6,10 +6,12 @@ ghost use Rattle.its_model.specs.Valid.{IsValid};
 ghost use Rattle.its_model.specs.Views.{program_of};
 ghost use Rattle.outcome.specs.Views.{report_of};
 ghost use Rattle.report_text.specs.Conditions.{is_known};
-ghost use Rattle.koat_cli.specs.Outputs.{IsReportOf, IsFactsReportOf, status_of as status_of_report};
+ghost use Rattle.call_plans.specs.Plans.{Tells};
+ghost use Rattle.koat_cli.specs.Commands.Analyse.{analyse_answers};
+ghost use Rattle.koat_cli.specs.Commands.Facts.{facts_answers};
+ghost use Rattle.koat_cli.specs.Found.{status_of as status_of_report};
 
-use crate::status::Status;
-use crate::status_text::StatusText;
+use call_plans::{Status, StatusText};
 use its_model::Program;
 use model::Memory;
 use outcome::{Outcome, TimeEntry};
@@ -20,7 +22,8 @@ use time_bounds::analyse;
 /// The report of the analysis of a program, with this many pivots for each linear program.
 pub(crate) fn report(alloc: Global, program: &Program, pivots: u32) -> Result<StatusText, Memory>
     requires { IsValid (program_of program.now) }
-    ensures { IfOk result (λ said. IsReportOf (program_of program.now) pivots said.status said.text.items) }
+    ensures { IfOk result (λ said.
+        Tells (analyse_answers pivots (program_of program.now)) said.status said.text.items) }
 {
     let found = analyse(alloc, program, pivots)?;
     let text = print(alloc, program, &found)?;
@@ -39,7 +42,7 @@ pub(crate) fn report_with_facts(
 ) -> Result<StatusText, Memory>
     requires { IsValid (program_of program.now) }
     ensures { IfOk result (λ said.
-        IsFactsReportOf (program_of program.now) pivots said.status said.text.items) }
+        Tells (facts_answers pivots (program_of program.now)) said.status said.text.items) }
 {
     let found = facts_report::analyse(alloc, program, pivots)?;
     let text = facts_report::print(alloc, program, &found)?;

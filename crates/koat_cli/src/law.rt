@@ -1,14 +1,13 @@
 //! Laws of the top call: a call has one answer, the status with which it ends follows from the request, and the text of
 //! an analysis determines its report; and worked values.
 
-ghost use Rattle.koat_cli.specs.Answering.{HeldFilesAreAnswered, NumbersAreAnswered};
-ghost use Rattle.koat_cli.specs.AnsweringReplays.{ReplaysAreAnswered};
-ghost use Rattle.koat_cli.specs.AnsweringChecks.{ChecksAreAnswered};
+ghost use Rattle.koat_cli.specs.CallsAnswered.{CallsAreAnswered};
 ghost use Rattle.koat_cli.specs.ProvenChecks.{WhatIsProvedIsAccepted};
 ghost use Rattle.koat_cli.specs.Exclusion.{AnswersExcludeEachOther};
 ghost use Rattle.koat_cli.specs.AnalysisTexts.{AnalysisTextsStateOneReport};
 ghost use Rattle.koat_cli.specs.WorkedEnds.{FaultsLeaveFirstBytes};
 ghost use Rattle.koat_cli.specs.WorkedAnswers.{FiguresAreWorkedOut, AnswersAreWorkedOut};
+ghost use Rattle.koat_cli.specs.WorkedMissingFiles.{FilesAreReadInOrder};
 ghost use Rattle.koat_cli.specs.WorkedReplayTexts.{ReplaysAreTexts, TalliesAreBounded};
 
 use run_replay::replays_are_decided;
@@ -23,47 +22,14 @@ pub fn answers_exclude_each_other()
     replays_are_decided();
 }
 
-/// The law on a call that requests the analysis of a file, where the shelf discloses that it holds the file, and no
-/// count of faults rises. It ends with `Done`, `Unknown`, `ProgramRefused` or `Memory`. If memory suffices, it ends
-/// with `Done` exactly where the file spells a program within the limits whose analysis has a time for every rule, with
-/// `Unknown` exactly where some rule of it has none, and with `ProgramRefused` exactly where the file spells none. Its
-/// contract is the law; it has no code but the law of replays.
-pub fn held_files_are_answered()
-    ensures { HeldFilesAreAnswered }
-{
-    replays_are_decided();
-}
-
-/// The law on calls about generated programs and on usage errors. If memory suffices and the sink doesn't fail, a call
-/// ends with `Usage` exactly where its words make no request; a call that requests a generated program ends with
-/// `Done`; and a call that requests the figures of its analysis ends with `Done` exactly where this has a time for
-/// every rule, and else with `Unknown`. Its contract is the law; it has no code but the law of replays.
-pub fn numbers_are_answered()
-    ensures { NumbersAreAnswered }
-{
-    replays_are_decided();
-}
-
-/// The law on a call that requests the replay of a run, where the shelf discloses that it holds both files, and no
-/// count of faults rises. It ends with `Done`, `ProgramRefused`, `RunRefused`, `NotARun` or `Memory`. If memory
-/// suffices, it ends with `ProgramRefused` exactly where the first file spells no program within the limits, with
-/// `RunRefused` exactly where it spells one and the second is the text of no run of it within the limits, with `Done`
-/// exactly where the second is that of a run in range, and with `NotARun` exactly where it is that of one with a bad
-/// step. Its contract is the law; it has no code but the law of replays.
-pub fn replays_are_answered()
-    ensures { ReplaysAreAnswered }
-{
-    replays_are_decided();
-}
-
-/// The law on a call that requests the check of a proof, where the shelf discloses that it holds both files, and no
-/// count of faults rises. It ends with `Done`, `ProgramRefused`, `ProofRefused`, `No` or `Memory`. If memory suffices,
-/// it ends with `ProgramRefused` exactly where the first file spells no program within the limits or is too long, with
-/// `ProofRefused` exactly where it spells one and the second is the text of no proof file of it within the limits or is
-/// too long, with `Done` exactly where the second is that of one that is accepted, and with `No` exactly where it is
-/// that of one that isn't. Its contract is the law; it has no code but the law of replays.
-pub fn checks_are_answered()
-    ensures { ChecksAreAnswered }
+/// The law on the status with which a call ends, if memory suffices. Where the shelf discloses its contents, and no count
+/// of faults rises, a call with a request ends with a status exactly where these contents say so by the plan of the
+/// request: with `ReadFault` where a file that is reached is lacking, with the status of a refusal where one is too long
+/// or its bytes stand for nothing, and with that of an answer where the files stand for what it is for. A call for which
+/// no file is fetched ends by its number alone, whatever the shelf discloses; and one ends with `Usage` exactly where its
+/// words make no request. Its contract is the law; it has no code but the law of replays.
+pub fn calls_are_answered()
+    ensures { CallsAreAnswered }
 {
     replays_are_decided();
 }
@@ -103,3 +69,11 @@ pub fn worked_replay_texts_hold()
     ensures texts { ReplaysAreTexts }
     ensures bounds { TalliesAreBounded }
 {}
+
+/// Worked values of the answers to an analysis, to a replay and to a check, where a shelf lacks a file: the first word is
+/// the program, and is read first. The function has no code but the law of replays: its contract is these values.
+pub fn worked_missing_files_hold()
+    ensures { FilesAreReadInOrder }
+{
+    replays_are_decided();
+}

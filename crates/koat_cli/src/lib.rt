@@ -10,29 +10,25 @@ mod analysis;
 mod figures;
 mod generated;
 mod law;
-mod missing_files;
 mod preparation;
 mod program;
-mod program_file;
-mod proof_in_file;
+mod program_reader;
+mod proof_reader;
 mod proving;
 mod refusal;
 mod replay_text;
 mod replaying;
-mod run_in_file;
+mod run_reader;
 mod run_refusal;
-mod status;
-mod status_text;
 mod top_call;
 
-pub use command_line::{Request, asks};
+pub use call_plans::Status;
+pub use command_line::{NumberTask, PairTask, ProgramTask, Request, asks};
 pub use law::{
-    analysis_texts_state_one_report, answers_exclude_each_other, checks_are_answered,
-    held_files_are_answered, numbers_are_answered, replays_are_answered,
-    what_is_proved_is_accepted, worked_answers_hold, worked_ends_hold, worked_replay_texts_hold,
+    analysis_texts_state_one_report, answers_exclude_each_other, calls_are_answered,
+    what_is_proved_is_accepted, worked_answers_hold, worked_ends_hold, worked_missing_files_hold,
+    worked_replay_texts_hold,
 };
-pub use missing_files::{missing_files_are_reported, worked_missing_files_hold};
 pub use program::run_program;
 pub use report_text::print as print_report;
-pub use status::Status;
 pub use top_call::run;

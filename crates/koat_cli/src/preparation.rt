@@ -1,42 +1,28 @@
-//! Prepares the program's answer, before it is written.
+//! Prepares the program's answer, before it is written: reads the files of the request, and answers by what they give.
 
 ghost use Rattle.std.specs.Prelude.{◌≡◌, ◌≤◌, ◌<◌, ◌^◌, length, map, string_bytes, IfOk};
-ghost use Rattle.koat_cli.specs.Answers.{FetchesNothing, Says};
-ghost use Rattle.koat_cli.specs.Calls.{call_of, seen_of};
-ghost use Rattle.koat_cli.specs.OnFiles.{OnProgram};
-ghost use Rattle.koat_cli.specs.OnTexts.{OnText, OnProgramFirst};
-ghost use Rattle.koat_cli.specs.Checks.{IsCheckOf, IsProofOf};
-ghost use Rattle.koat_cli.specs.Outputs.{IsReportOf, IsReplayOf, IsFactsReportOf};
-ghost use Rattle.koat_cli.specs.ProofTexts.{proofs};
-ghost use Rattle.koat_cli.specs.RunTexts.{runs};
-ghost use Rattle.koat_cli.specs.Steps.{IsSaid};
 ghost use Rattle.its_model.specs.Valid.{IsValid};
 ghost use Rattle.its_model.specs.Views.{program_of};
+ghost use Rattle.command_line.specs.Requests.{OfProgram, OfPair};
+ghost use Rattle.call_plans.specs.Calls.{seen_of};
+ghost use Rattle.call_plans.specs.Plans.{OnPlan, Tells};
+ghost use Rattle.koat_cli.specs.Answers.{FetchesNothing, Says};
+ghost use Rattle.koat_cli.specs.Calls.{call_of};
+ghost use Rattle.koat_cli.specs.RequestPlans.{plan_of, program_answers, second_plan, number_answers};
 
 use crate::analysis::{report, report_with_facts};
 use crate::generated::{generated, summary};
-use crate::program_file::{ProgramFile, program_in};
-use crate::proof_in_file::{ProofInFile, proof_in};
+use crate::program_reader::Programs;
+use crate::proof_reader::Proofs;
 use crate::proving::{checked, proved};
 use crate::replaying::replayed;
-use crate::run_in_file::{RunInFile, run_in};
-use crate::status::Status;
-use crate::status_text::{StatusText, status_with_text};
-use command_line::{Request, asks};
+use crate::run_reader::Runs;
+use call_plans::{Got, Status, StatusText, status_with_text, take};
+use command_line::{NumberTask, PairTask, ProgramTask, Request, asks, usage};
 use its_model::Program;
 use model::Memory;
 use outside_io::Shelf;
 use std::alloc::Global;
-
-/// The text for words without a request: a line for each command.
-const USAGE: &[u8] = b"usage: koat analyse [--pivots N] FILE
-       koat prove [--pivots N] FILE
-       koat check FILE PROOF
-       koat replay FILE RUN
-       koat generate N
-       koat selfrun N
-       koat facts [--pivots N] FILE
-";
 
 /// Prepares the status and the text of a call with these words. The shelf's contents don't change.
 pub(crate) fn prepare<F: Shelf>(
@@ -51,111 +37,85 @@ pub(crate) fn prepare<F: Shelf>(
         F.faults shelf.old < F.faults shelf.new → said.status ≡ Status.ReadFault) }
     ensures says { IfOk result (λ said.
         Says (call_of F.Shelf words.now shelf.old shelf.new) said.status said.text.items) }
-    ensures said { IfOk result (λ said. IsSaid said.status) }
 {
     match asks(alloc, words)? {
-        Some(Request::Analyse { pivots, file }) => analysis_of(alloc, file.as_str(), pivots, shelf),
-        Some(Request::Replay { file, run }) => {
-            replay_of(alloc, file.as_str(), run.as_str(), shelf)
+        Some(Request::OfProgram { task, pivots, file }) => {
+            on_program(alloc, task, pivots, &file, shelf)
         }
-        Some(Request::Generate { n }) => generated(alloc, n),
-        Some(Request::Selfrun { n }) => summary(alloc, n),
-        Some(Request::Facts { pivots, file }) => facts_of(alloc, file.as_str(), pivots, shelf),
-        Some(Request::Prove { pivots, file }) => proof_of(alloc, file.as_str(), pivots, shelf),
-        Some(Request::Check { file, proof }) => {
-            check_of(alloc, file.as_str(), proof.as_str(), shelf)
+        Some(Request::OfPair { task, file, second }) => {
+            on_pair(alloc, task, &file, &second, shelf)
         }
-        None => status_with_text(alloc, Status::Usage, USAGE),
+        Some(Request::OfNumber { task, n }) => of_number(alloc, task, n),
+        None => status_with_text(alloc, Status::Usage, usage()),
     }
 }
 
-// The report on the program in a file, or the answer where the file gives none.
-fn analysis_of<F: Shelf>(
+// What is answered of the program in a file.
+fn on_program<F: Shelf>(
     alloc: Global,
-    file: &str,
+    task: ProgramTask,
     pivots: u32,
+    file: &String,
     shelf: &mut F,
 ) -> Result<StatusText, Memory>
     ensures keeps_files { F.held shelf.new ≡ F.held shelf.old }
     ensures keeps_count { F.faults shelf.old ≤ F.faults shelf.new }
     ensures fault { IfOk result (λ said.
         F.faults shelf.old < F.faults shelf.new → said.status ≡ Status.ReadFault) }
-    ensures says { IfOk result (λ said. OnProgram (seen_of F.Shelf shelf.old shelf.new) file.now
-        (λ program. IsReportOf program pivots) said.status said.text.items) }
+    ensures says { IfOk result (λ said. OnPlan (seen_of F.Shelf shelf.old shelf.new) (F.fetches shelf.old)
+        (plan_of (OfProgram task pivots (string_bytes file.now))) said.status said.text.items) }
 {
-    match program_in(alloc, file, shelf)? {
-        ProgramFile::Answer(said) => Ok(said),
-        ProgramFile::Program(program) => report(alloc, &program, pivots),
+    match take(alloc, &Programs, file, shelf)? {
+        Got::Answer(said) => Ok(said),
+        Got::Thing(program) => of_program(alloc, task, pivots, &program),
     }
 }
 
-// The facts at the locations of the program in a file with the report that they give, or the answer where the file
-// gives none.
-fn facts_of<F: Shelf>(
+// What is answered of a program.
+fn of_program(
     alloc: Global,
-    file: &str,
+    task: ProgramTask,
     pivots: u32,
-    shelf: &mut F,
-) -> Result<StatusText, Memory>
-    ensures keeps_files { F.held shelf.new ≡ F.held shelf.old }
-    ensures keeps_count { F.faults shelf.old ≤ F.faults shelf.new }
-    ensures fault { IfOk result (λ said.
-        F.faults shelf.old < F.faults shelf.new → said.status ≡ Status.ReadFault) }
-    ensures says { IfOk result (λ said. OnProgram (seen_of F.Shelf shelf.old shelf.new) file.now
-        (λ program. IsFactsReportOf program pivots) said.status said.text.items) }
-{
-    match program_in(alloc, file, shelf)? {
-        ProgramFile::Answer(said) => Ok(said),
-        ProgramFile::Program(program) => report_with_facts(alloc, &program, pivots),
-    }
-}
-
-// The proof file of the analysis of the program in a file, or the answer where the file gives none.
-fn proof_of<F: Shelf>(
-    alloc: Global,
-    file: &str,
-    pivots: u32,
-    shelf: &mut F,
-) -> Result<StatusText, Memory>
-    ensures keeps_files { F.held shelf.new ≡ F.held shelf.old }
-    ensures keeps_count { F.faults shelf.old ≤ F.faults shelf.new }
-    ensures fault { IfOk result (λ said.
-        F.faults shelf.old < F.faults shelf.new → said.status ≡ Status.ReadFault) }
-    ensures says { IfOk result (λ said. OnProgram (seen_of F.Shelf shelf.old shelf.new) file.now
-        (λ program. IsProofOf program pivots) said.status said.text.items) }
-{
-    match program_in(alloc, file, shelf)? {
-        ProgramFile::Answer(said) => Ok(said),
-        ProgramFile::Program(program) => proved(alloc, &program, pivots),
-    }
-}
-
-// The verdict on a proof of the program in a file, or the answer where a file gives none.
-fn check_of<F: Shelf>(
-    alloc: Global,
-    file: &str,
-    proof: &str,
-    shelf: &mut F,
-) -> Result<StatusText, Memory>
-    ensures keeps_files { F.held shelf.new ≡ F.held shelf.old }
-    ensures keeps_count { F.faults shelf.old ≤ F.faults shelf.new }
-    ensures fault { IfOk result (λ said.
-        F.faults shelf.old < F.faults shelf.new → said.status ≡ Status.ReadFault) }
-    ensures says { IfOk result (λ said. OnProgramFirst (seen_of F.Shelf shelf.old shelf.new) file.now
-        (λ program. OnText (proofs program) (seen_of F.Shelf shelf.old shelf.new) proof.now (IsCheckOf program))
-        said.status said.text.items) }
-{
-    match program_in(alloc, file, shelf)? {
-        ProgramFile::Answer(said) => Ok(said),
-        ProgramFile::Program(program) => check_on(alloc, &program, proof, shelf),
-    }
-}
-
-// The verdict on the proof in a file for a program, or the answer where the file gives none.
-fn check_on<F: Shelf>(
-    alloc: Global,
     program: &Program,
-    file: &str,
+) -> Result<StatusText, Memory>
+    requires { IsValid (program_of program.now) }
+    ensures { IfOk result (λ said.
+        Tells (program_answers task pivots (program_of program.now)) said.status said.text.items) }
+{
+    match task {
+        ProgramTask::Analyse => report(alloc, program, pivots),
+        ProgramTask::Prove => proved(alloc, program, pivots),
+        ProgramTask::Facts => report_with_facts(alloc, program, pivots),
+    }
+}
+
+// What is answered of the program in a file and what a second file has about it.
+fn on_pair<F: Shelf>(
+    alloc: Global,
+    task: PairTask,
+    file: &String,
+    second: &String,
+    shelf: &mut F,
+) -> Result<StatusText, Memory>
+    ensures keeps_files { F.held shelf.new ≡ F.held shelf.old }
+    ensures keeps_count { F.faults shelf.old ≤ F.faults shelf.new }
+    ensures fault { IfOk result (λ said.
+        F.faults shelf.old < F.faults shelf.new → said.status ≡ Status.ReadFault) }
+    ensures says { IfOk result (λ said. OnPlan (seen_of F.Shelf shelf.old shelf.new) (F.fetches shelf.old)
+        (plan_of (OfPair task (string_bytes file.now) (string_bytes second.now))) said.status said.text.items) }
+{
+    match take(alloc, &Programs, file, shelf)? {
+        Got::Answer(said) => Ok(said),
+        Got::Thing(program) => on_second(alloc, task, &program, second, shelf),
+    }
+}
+
+// What is answered of a program and what a file has about it.
+fn on_second<F: Shelf>(
+    alloc: Global,
+    task: PairTask,
+    program: &Program,
+    second: &String,
     shelf: &mut F,
 ) -> Result<StatusText, Memory>
     requires valid { IsValid (program_of program.now) }
@@ -164,34 +124,34 @@ fn check_on<F: Shelf>(
     ensures keeps_count { F.faults shelf.old ≤ F.faults shelf.new }
     ensures fault { IfOk result (λ said.
         F.faults shelf.old < F.faults shelf.new → said.status ≡ Status.ReadFault) }
-    ensures says { IfOk result (λ said. OnText (proofs (program_of program.now))
-        (seen_of F.Shelf shelf.old shelf.new) file.now (IsCheckOf (program_of program.now))
-        said.status said.text.items) }
+    ensures says { IfOk result (λ said. OnPlan (seen_of F.Shelf shelf.old shelf.new) (F.fetches shelf.old)
+        (second_plan task (program_of program.now) (string_bytes second.now)) said.status said.text.items) }
 {
-    match proof_in(alloc, program, file, shelf)? {
-        ProofInFile::Answer(said) => Ok(said),
-        ProofInFile::Proof(proof) => checked(alloc, program, &proof),
+    match task {
+        PairTask::Check => check_on(alloc, program, second, shelf),
+        PairTask::Replay => replay_on(alloc, program, second, shelf),
     }
 }
 
-// A run beside the bounds of the program in a file, or the answer where a file gives none.
-fn replay_of<F: Shelf>(
+// The verdict on the proof in a file for a program, or the answer where the file gives none.
+fn check_on<F: Shelf>(
     alloc: Global,
-    file: &str,
-    run: &str,
+    program: &Program,
+    file: &String,
     shelf: &mut F,
 ) -> Result<StatusText, Memory>
+    requires valid { IsValid (program_of program.now) }
+    requires few { length (program_of program.now).symbols < 2 ^ 32 }
     ensures keeps_files { F.held shelf.new ≡ F.held shelf.old }
     ensures keeps_count { F.faults shelf.old ≤ F.faults shelf.new }
     ensures fault { IfOk result (λ said.
         F.faults shelf.old < F.faults shelf.new → said.status ≡ Status.ReadFault) }
-    ensures says { IfOk result (λ said. OnProgramFirst (seen_of F.Shelf shelf.old shelf.new) file.now
-        (λ program. OnText (runs program) (seen_of F.Shelf shelf.old shelf.new) run.now (IsReplayOf program))
-        said.status said.text.items) }
+    ensures says { IfOk result (λ said. OnPlan (seen_of F.Shelf shelf.old shelf.new) (F.fetches shelf.old)
+        (second_plan PairTask.Check (program_of program.now) (string_bytes file.now)) said.status said.text.items) }
 {
-    match program_in(alloc, file, shelf)? {
-        ProgramFile::Answer(said) => Ok(said),
-        ProgramFile::Program(program) => replay_on(alloc, &program, run, shelf),
+    match take(alloc, &Proofs { program }, file, shelf)? {
+        Got::Answer(said) => Ok(said),
+        Got::Thing(proof) => checked(alloc, program, &proof),
     }
 }
 
@@ -199,7 +159,7 @@ fn replay_of<F: Shelf>(
 fn replay_on<F: Shelf>(
     alloc: Global,
     program: &Program,
-    file: &str,
+    file: &String,
     shelf: &mut F,
 ) -> Result<StatusText, Memory>
     requires { IsValid (program_of program.now) }
@@ -207,11 +167,22 @@ fn replay_on<F: Shelf>(
     ensures keeps_count { F.faults shelf.old ≤ F.faults shelf.new }
     ensures fault { IfOk result (λ said.
         F.faults shelf.old < F.faults shelf.new → said.status ≡ Status.ReadFault) }
-    ensures says { IfOk result (λ said. OnText (runs (program_of program.now)) (seen_of F.Shelf shelf.old shelf.new)
-        file.now (IsReplayOf (program_of program.now)) said.status said.text.items) }
+    ensures says { IfOk result (λ said. OnPlan (seen_of F.Shelf shelf.old shelf.new) (F.fetches shelf.old)
+        (second_plan PairTask.Replay (program_of program.now) (string_bytes file.now)) said.status said.text.items) }
 {
-    match run_in(alloc, program, file, shelf)? {
-        RunInFile::Answer(said) => Ok(said),
-        RunInFile::Run(run) => replayed(alloc, program, &run),
+    match take(alloc, &Runs { program }, file, shelf)? {
+        Got::Answer(said) => Ok(said),
+        Got::Thing(run) => replayed(alloc, program, &run),
+    }
+}
+
+// What is answered of a number.
+fn of_number(alloc: Global, task: NumberTask, n: u32) -> Result<StatusText, Memory>
+    requires { n ≤ 100 }
+    ensures { IfOk result (λ said. Tells (number_answers task n) said.status said.text.items) }
+{
+    match task {
+        NumberTask::Generate => generated(alloc, n),
+        NumberTask::Selfrun => summary(alloc, n),
     }
 }

@@ -3,12 +3,13 @@
 ghost use Rattle.std.specs.Prelude.{◌≡◌, ◌≢◌, ◌≤◌, [], drop, IfErr, IfOk, IsSome};
 ghost use Rattle.std.specs.IoError.{error_kind};
 ghost use Rattle.std.specs.Process.{exit_status};
-ghost use Rattle.koat_cli.specs.Calls.{call_of, put_of};
-ghost use Rattle.koat_cli.specs.Numbers.{number_of};
+ghost use Rattle.call_plans.specs.Calls.{put_of};
+ghost use Rattle.call_plans.specs.Numbers.{number_of};
+ghost use Rattle.koat_cli.specs.Calls.{call_of};
 ghost use Rattle.koat_cli.specs.Processes.{Exits};
 
-use crate::status::Status;
 use crate::top_call::run;
+use call_plans::Status;
 use outside_io::{Shelf, Sink};
 use std::alloc::Global;
 use std::io;

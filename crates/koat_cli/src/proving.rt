@@ -4,11 +4,12 @@ ghost use Rattle.std.specs.Prelude.{IfOk};
 ghost use Rattle.its_model.specs.Valid.{IsValid};
 ghost use Rattle.its_model.specs.Views.{program_of};
 ghost use Rattle.cert_types.specs.AnswerViews.{file_of};
-ghost use Rattle.koat_cli.specs.Checks.{IsCheckOf, IsProofOf};
+ghost use Rattle.call_plans.specs.Plans.{Tells};
+ghost use Rattle.koat_cli.specs.Commands.Check.{check_answers};
+ghost use Rattle.koat_cli.specs.Commands.Prove.{prove_answers};
 
 use crate::analysis::status_of;
-use crate::status::Status;
-use crate::status_text::StatusText;
+use call_plans::{Status, StatusText};
 use cert_text::print;
 use cert_types::ProofFile;
 use check_text::{Verdict, verdict_on};
@@ -21,7 +22,8 @@ use time_bounds::analyse;
 /// The proof file of the analysis of a program, with this many pivots for each linear program: its lemmas and its gaps.
 pub(crate) fn proved(alloc: Global, program: &Program, pivots: u32) -> Result<StatusText, Memory>
     requires { IsValid (program_of program.now) }
-    ensures { IfOk result (λ said. IsProofOf (program_of program.now) pivots said.status said.text.items) }
+    ensures { IfOk result (λ said.
+        Tells (prove_answers pivots (program_of program.now)) said.status said.text.items) }
 {
     let found = analyse(alloc, program, pivots)?;
     let status = status_of(&found);
@@ -38,7 +40,7 @@ pub(crate) fn checked(
 ) -> Result<StatusText, Memory>
     requires { IsValid (program_of program.now) }
     ensures { IfOk result (λ said.
-        IsCheckOf (program_of program.now) (file_of proof.now) said.status said.text.items) }
+        Tells (check_answers (program_of program.now) (file_of proof.now)) said.status said.text.items) }
 {
     match verdict_on(alloc, program, proof)? {
         Verdict::Accepted(text) => Ok(StatusText {

@@ -6,16 +6,16 @@ ghost use Rattle.its_model.specs.Views.{program_of};
 ghost use Rattle.run_replay.specs.ReplayAnswers.{IsReplay, sums_of};
 ghost use Rattle.run_replay.specs.Spelled.{IsWithin};
 ghost use Rattle.run_replay.specs.Views.{run_of};
-ghost use Rattle.koat_cli.specs.Outputs.{IsReplayOf};
+ghost use Rattle.call_plans.specs.Plans.{Tells};
+ghost use Rattle.koat_cli.specs.Commands.Replay.{replay_answers};
 
 use crate::replay_text::replay_text;
 use crate::run_refusal::bad_step;
-use crate::status::Status;
-use crate::status_text::StatusText;
+use call_plans::{Status, StatusText};
 use command_line::DEFAULT_PIVOTS;
 use its_model::Program;
 use model::Memory;
-use run_replay::{RunFile, Tally, replay};
+use run_replay::{RunFile, Tally, replay, replays_are_decided};
 use std::alloc::Global;
 use time_bounds::analyse;
 
@@ -28,7 +28,8 @@ pub(crate) fn replayed(
 ) -> Result<StatusText, Memory>
     requires valid { IsValid (program_of program.now) }
     requires within { IsWithin (program_of program.now) (run_of run.now) }
-    ensures { IfOk result (λ said. IsReplayOf (program_of program.now) (run_of run.now) said.status said.text.items) }
+    ensures { IfOk result (λ said.
+        Tells (replay_answers (program_of program.now) (run_of run.now)) said.status said.text.items) }
 {
     match replay(alloc, program, run) {
         Ok(tally) => beside_bounds(alloc, program, run, &tally),
@@ -49,8 +50,10 @@ fn beside_bounds(
     requires valid { IsValid (program_of program.now) }
     requires within { IsWithin (program_of program.now) (run_of run.now) }
     requires replayed { IsReplay (program_of program.now) (run_of run.now) (sums_of tally.now) }
-    ensures { IfOk result (λ said. IsReplayOf (program_of program.now) (run_of run.now) said.status said.text.items) }
+    ensures { IfOk result (λ said.
+        Tells (replay_answers (program_of program.now) (run_of run.now)) said.status said.text.items) }
 {
+    replays_are_decided();
     let found = analyse(alloc, program, DEFAULT_PIVOTS)?;
     let at = absolute_values(alloc, &run.start)?;
     Ok(StatusText {

@@ -1,14 +1,15 @@
 //! `run`: the top call.
 
 ghost use Rattle.std.specs.Prelude.{◌≡◌, ◌≤◌, map, string_bytes, IsSome};
-ghost use Rattle.koat_cli.specs.Calls.{call_of, put_of};
+ghost use Rattle.call_plans.specs.Calls.{put_of};
 ghost use Rattle.koat_cli.specs.Answers.{FetchesNothing};
-ghost use Rattle.koat_cli.specs.Ends.{Ends, Means};
+ghost use Rattle.koat_cli.specs.Calls.{call_of};
+ghost use Rattle.koat_cli.specs.Ends.{Ends};
+ghost use Rattle.koat_cli.specs.Means.{Means};
 
 use crate::preparation::prepare;
-use crate::status::Status;
+use call_plans::Status;
 use outside_io::{PutFailed, Shelf, Sink};
-use run_replay::replays_are_decided;
 use std::alloc::Global;
 
 /// Executes the command of the words after the program's name, and returns how it ended.
@@ -38,7 +39,8 @@ use std::alloc::Global;
 ///   the sources of its rules, too, so that more bounds are found; they are bounds of the program itself.
 /// - Other words get the usage text.
 ///
-/// The whole text is written by one put, and the status is this:
+/// Each file is fetched once, the second of two only after the first gave a program. The whole text is written by one
+/// put, and the status is this:
 ///
 /// - `Done`: with `analyse`, the file spells a program, and its report was written, in which every rule has a time. On
 ///   every run of the program, from any integers and by any choice of rules, each rule occurs at most as often as its
@@ -89,7 +91,6 @@ pub fn run<F: Shelf, S: Sink>(
     ensures keeps_sink_count { S.faults sink.old ≤ S.faults sink.new }
     ensures keeps_telling { IsSome (S.written sink.old) → IsSome (S.written sink.new) }
 {
-    replays_are_decided();
     let Ok(said) = prepare(alloc, words, shelf) else {
         return Status::Memory;
     };

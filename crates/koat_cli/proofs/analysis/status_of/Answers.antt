@@ -2,7 +2,7 @@ use Rattle.std.proofs.Common.{List, ◌∙◌, ap}
 use Rattle.std.specs.List.{list_all}
 use Rattle.outcome.specs.declared.entry.TimeEntry.{TimeEntry}
 use Rattle.report_text.specs.Conditions.{is_known}
-use Rattle.koat_cli.proofs.Sayings.{status_is}
+use Rattle.koat_cli.proofs.Timed.{status_is}
 use Rattle.koat_cli.proofs.analysis.status_of.Goals as goal
 
 pub returns : goal.returns

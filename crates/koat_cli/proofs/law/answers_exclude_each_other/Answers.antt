@@ -1,5 +1,5 @@
-use Rattle.koat_cli.proofs.DeterminedCalls.{determined}
-use Rattle.koat_cli.proofs.Exclusions.{answers_exclude}
+use Rattle.koat_cli.proofs.CallsAnswered.{answers_exclude}
+use Rattle.koat_cli.proofs.Determined.{determined}
 use Rattle.koat_cli.proofs.law.answers_exclude_each_other.Goals as goal
 
 pub returns : goal.returns

@@ -1,4 +1,4 @@
-use Rattle.koat_cli.proofs.DeterminedCalls.{determined}
+use Rattle.koat_cli.proofs.Determined.{determined}
 use Rattle.koat_cli.proofs.ProvenChecks.{proved_accepted}
 use Rattle.koat_cli.proofs.law.what_is_proved_is_accepted.Goals as goal
 

@@ -1,5 +1,27 @@
-use Rattle.koat_cli.specs.OnTexts.{NoText}
+use Rattle.std.proofs.Common.{string_bytes, refl}
+use Rattle.its_model.specs.Views.{program_of}
+use Rattle.cert_types.specs.AnswerViews.{file_of}
+use Rattle.call_plans.specs.Calls.{seen_of}
+use Rattle.call_plans.specs.OnFiles.{Without}
+use Rattle.cert_types.specs.cert_rules.Gaps.{ProofFile}
+use Rattle.call_plans.specs.Plans.{Cases, Answers}
+use Rattle.call_plans.proofs.Behind.{behind_ok, told_ok}
+use Rattle.koat_cli.specs.ProofTexts.{proofs}
+use Rattle.koat_cli.specs.Commands.Check.{check_answers}
 use Rattle.koat_cli.proofs.preparation.check_on.Goals as goal
 
 pub returns-in-Answer-clause-says : goal.returns-in-Answer-clause-says
-returns-in-Answer-clause-says g c = NoText (rw c.in-Answer.is at c.in_ok-said.ensures.file)
+returns-in-Answer-clause-says g c =
+    Without c.in_ok-said.ensures.counted (rw c.in-Answer.is at c.in_ok-said.ensures.gives)
+
+pub returns-in-Thing-clause-says : goal.returns-in-Thing-clause-says
+returns-in-Thing-clause-says g c =
+    let before = c.args.shelf.now in
+    let after = c.take.new.shelf in
+    let p = program_of c.args.program.now in
+    let table : ProofFile → Cases = λ thing. check_answers p thing in
+    behind_ok g.F.Shelf before after after (proofs p) (string_bytes c.args.file.now) (λ thing. Answers (table thing))
+    (file_of c.in-Thing.proof) c.checked.result c.in_ok-said.ensures.keeps_files c.in_ok-said.ensures.keeps_count
+    (rw c.in-Thing.is at c.in_ok-said.ensures.fault) c.in_ok-said.ensures.counted (λ last. refl)
+    (rw c.in-Thing.is at c.in_ok-said.ensures.gives)
+    (told_ok (seen_of g.F.Shelf after after) (g.F.Shelf.fetches after) (table (file_of c.in-Thing.proof)) c.checked.result refl c.checked.ensures)

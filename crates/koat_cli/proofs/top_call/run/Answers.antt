@@ -1,6 +1,7 @@
 use Rattle.std.proofs.Common.{List, ℕ, subst}
-use Rattle.std.specs.Io.KnownBytes.{Appends}
-use Rattle.koat_cli.specs.Calls.{call_of, put_of}
+use Rattle.call_plans.specs.Calls.{put_of}
+use Rattle.call_plans.specs.Meanings.{Appended}
+use Rattle.koat_cli.specs.Calls.{call_of}
 use Rattle.koat_cli.proofs.Endings.{ended_whole}
 use Rattle.koat_cli.proofs.EndsMean.{ends_mean}
 use Rattle.koat_cli.proofs.top_call.run.Goals as goal
@@ -10,6 +11,6 @@ returns-in-Ok-put-clause-means g c =
     let call = call_of g.F.Shelf c.args.words.now c.args.shelf.now c.prepare.new.shelf in
     let put = put_of g.S.Sink c.args.sink.now c.put.new.self in
     let said = c.in-Ok.said in
-    ends_mean c.replays_are_decided.ensures said.status call put
+    ends_mean said.status call put
     (ended_whole call put said.status said.text.items c.in-Ok.ensures.says c.in-Ok.ensures.fault
-    (subst (λ (text : List ℕ). Appends put.written_before put.written_after text) c.deref.ensures.value c.in-Ok-put.ensures.ok))
+    (subst (λ (text : List ℕ). Appended put text) c.deref.ensures.value c.in-Ok-put.ensures.ok) c.put.ensures.counted)

@@ -1,0 +1,33 @@
+-- What a file whose bytes were fetched gives.
+use Rattle.std.proofs.Common.{◌≡◌, ◌≤◌, ℕ, List, length, Result, IfOk, refl, sym, ◌∙◌, subst}
+use Rattle.std.proofs.lemmas.Result.{IfOk-weaker}
+use Rattle.outside_io.specs.Files.{IsHeld}
+use Rattle.call_plans.specs.declared.taking.Got.{Got}
+use Rattle.call_plans.specs.Calls.{Seen}
+use Rattle.call_plans.specs.Kinds.{TextKind}
+use Rattle.call_plans.specs.OnFiles.{Fetches}
+use Rattle.call_plans.specs.Steps.{IsGot}
+
+-- the bytes of a fetch are those that were fetched of the file
+fetches_of : (seen : Seen) (word file : List ℕ) (asked limit : ℕ) (items bytes : List ℕ) → word ≡ file → asked ≡ limit
+    → bytes ≡ items → IsHeld seen.held word items → seen.taken ≡ length items → length items ≤ asked
+    → Fetches seen file limit bytes
+fetches_of seen word file asked limit items bytes name most same held taken within = record {
+  held = subst (λ (b : List ℕ). IsHeld seen.held file b) (sym same)
+      (subst (λ (f : List ℕ). IsHeld seen.held f items) name held);
+  taken = subst (λ (b : List ℕ). seen.taken ≡ length b) (sym same) taken;
+  within = subst (λ (b : List ℕ). length b ≤ limit) (sym same) (subst (λ (n : ℕ). length items ≤ n) most within);
+}
+
+-- what bytes give wherever they are fetched, they give where they were
+pub got_of : {P Thing E : Type 0} (kind : TextKind P) (plain : Thing → P) (seen : Seen) (word file : List ℕ) (asked : ℕ)
+    (items bytes : List ℕ) (given : Result (Got Thing) E) → word ≡ file → asked ≡ kind.limit → bytes ≡ items
+    → IsHeld seen.held word items → seen.taken ≡ length items → length items ≤ asked
+    → IfOk given (λ got. (s : Seen) (f : List ℕ) → Fetches s f kind.limit bytes → IsGot kind plain s f got)
+    → IfOk given (λ got. IsGot kind plain seen file got)
+got_of {Thing = Thing} kind plain seen word file asked items bytes given name most same held taken within read =
+    IfOk-weaker given
+    (λ (got : Got Thing). (s : Seen) (f : List ℕ) → Fetches s f kind.limit bytes → IsGot kind plain s f got)
+    (λ (got : Got Thing). IsGot kind plain seen file got)
+    (λ got each. each seen file (fetches_of seen word file asked kind.limit items bytes name most same held taken within))
+    read

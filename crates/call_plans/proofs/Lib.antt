@@ -1,0 +1,11 @@
+-- laws of plans: tables, files, how a call ends, what its status means, and what is answered behind a file; worked values
+pub mod Rows
+pub mod GivenFiles
+pub mod HeldPlans
+pub mod OneEnding
+pub mod Meanings
+pub mod Statuses
+pub mod Faults
+pub mod Fetched
+pub mod Behind
+pub mod Worked

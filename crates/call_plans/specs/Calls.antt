@@ -1,0 +1,44 @@
+-- What a call sees of the shelf, and what it does to the sink.
+use Rattle.std.specs.Prelude.{ℕ, List, Option}
+use Rattle.outside_io.specs.Files.{Files}
+use Rattle.outside_io.specs.declared.shelf.Shelf as shelf
+use Rattle.outside_io.specs.declared.sink.Sink as sink
+
+-- what a call saw of the shelf: its contents, if disclosed, its count of faults before and after, its count of fetches
+-- after, if disclosed, and how many bytes its last fetch read
+pub record Seen : Type 0 where
+  pub held : Option Files
+  pub faults_before : ℕ
+  pub faults_after : ℕ
+  pub fetches_after : Option ℕ
+  pub taken : ℕ
+
+-- what was seen of a shelf that a call found so and left so, by what the shelf's type means
+abbrev pub seen_of : {F : Type 0} → shelf.Ghosts F → F → F → Seen
+seen_of means before after = record {
+  held = means.held before;
+  faults_before = means.faults before;
+  faults_after = means.faults after;
+  fetches_after = means.fetches after;
+  taken = means.taken after;
+}
+
+-- the sink's count of faults, its count of puts, if disclosed, and the written bytes, if disclosed, before and after
+pub record Put : Type 0 where
+  pub faults_before : ℕ
+  pub faults_after : ℕ
+  pub puts_before : Option ℕ
+  pub puts_after : Option ℕ
+  pub written_before : Option (List ℕ)
+  pub written_after : Option (List ℕ)
+
+-- what was put into a sink that a call found so and left so, by what the sink's type means
+abbrev pub put_of : {S : Type 0} → sink.Ghosts S → S → S → Put
+put_of means before after = record {
+  faults_before = means.faults before;
+  faults_after = means.faults after;
+  puts_before = means.puts before;
+  puts_after = means.puts after;
+  written_before = means.written before;
+  written_after = means.written after;
+}

@@ -1,0 +1,15 @@
+-- what calls are: statuses, kinds of text, plans, and how a plan is answered
+pub mod Numbers
+pub mod Sorts
+pub mod Calls
+pub mod Kinds
+pub mod Gives
+pub mod OnFiles
+pub mod Plans
+pub mod Meanings
+pub mod Endings
+pub mod Lawful
+-- values that were worked out by hand
+pub mod Worked
+-- what the contracts of the functions inside cite
+pub mod Steps

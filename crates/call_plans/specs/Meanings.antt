@@ -1,0 +1,35 @@
+-- What a status with which a call ends means, by its plan.
+use Rattle.std.specs.Prelude.{◌⊎◌, ℕ, List}
+use Rattle.std.specs.Io.KnownBytes.{Appends}
+use Rattle.outside_io.specs.Fetching.{MayFail}
+use Rattle.call_plans.specs.declared.status.Status.{Status}
+use Rattle.call_plans.specs.Calls.{Seen, Put}
+use Rattle.call_plans.specs.Gives.{Gives}
+use Rattle.call_plans.specs.OnFiles.{IsOverLimit, IsBad}
+use Rattle.call_plans.specs.Plans.{Plan, Answers, Reads, Tells, IsLast}
+
+-- this text was appended, whole
+abbrev pub Appended : Put → List ℕ → Type 0
+Appended put x = Appends put.written_before put.written_after x
+
+-- all files of the plan gave what it reads, and a text was appended, whole, of a row with this status
+abbrev pub Wrote : Seen → Put → Plan → Status → Type 0
+Wrote seen put (Answers cases) s = (x : List ℕ) × (Tells cases s x × Appended put x)
+Wrote seen put (Reads {T} kind file next) s =
+    (t : T) × (Gives kind seen file (IsLast (next t)) t × Wrote seen put (next t) s)
+
+-- the files before some file of the plan gave what it reads, and a text was appended, whole, that refuses this file: as
+-- too long, or because its bytes stand for nothing
+abbrev pub WroteRefusal : Seen → Put → Plan → Status → Type 0
+WroteRefusal seen put (Answers cases) s = ⊥
+WroteRefusal seen put (Reads {T} kind file next) s =
+    ((x : List ℕ) × ((IsOverLimit kind seen file s x ⊎ IsBad kind seen file s x) × Appended put x))
+    ⊎ ((t : T) × (Gives kind seen file (IsLast (next t)) t × WroteRefusal seen put (next t) s))
+
+-- the files before some file of the plan gave what it reads, and a fetch of this file may fail: the shelf had a fault
+-- in this call, or discloses that it lacks the file
+abbrev pub MayMiss : Seen → Plan → Type 0
+MayMiss seen (Answers cases) = ⊥
+MayMiss seen (Reads {T} kind file next) =
+    MayFail seen.held file seen.faults_before seen.faults_after
+    ⊎ ((t : T) × (Gives kind seen file (IsLast (next t)) t × MayMiss seen (next t)))

@@ -1,0 +1,104 @@
+-- Worked values of plans, with one toy kind of file.
+use Rattle.std.specs.Prelude.{◌≡◌, ◌<◌, ℕ, List, [], ◌∷◌, ◌++◌, Option, Some, None, length, codes, ⊤}
+use Rattle.std.specs.FinMap.{empty, insert}
+use Rattle.outside_io.specs.Files.{Files}
+use Rattle.call_plans.specs.declared.status.Status.{Status}
+use Rattle.call_plans.specs.declared.status.Status.TheVariants.{Done, Unknown, ReadFault, ProgramRefused, No}
+use Rattle.call_plans.specs.Calls.{Seen, Put}
+use Rattle.call_plans.specs.Kinds.{TextKind}
+use Rattle.call_plans.specs.OnFiles.{read_fault_text}
+use Rattle.call_plans.specs.Plans.{Plan, Answers, Reads, End, Case, OnPlan}
+use Rattle.call_plans.specs.Meanings.{Wrote, WroteRefusal, MayMiss}
+use Rattle.call_plans.specs.Endings.{EndsOn}
+
+-- texts of at most three bytes: an `n` before other bytes stands for their number, and other bytes are refused as `bad`
+abbrev pub counts : TextKind ℕ
+counts = record {
+  limit = 3;
+  refused = ProgramRefused;
+  too_long = codes "long";
+  StandsFor = λ bytes n. (rest : List ℕ) × ((bytes ≡ 110 ∷ rest) × (n ≡ length rest));
+  IsRefusedAs = λ bytes text. ((rest : List ℕ) → ¬ (bytes ≡ 110 ∷ rest)) × (text ≡ codes "bad");
+}
+
+-- `Done` with the text `none` for the number 0, and `Unknown` with the text `some` for others
+abbrev pub toy : Plan
+toy = Reads counts (codes "f")
+    (λ n. Answers (Case Done (n ≡ 0) (λ text. (n ≡ 0) × (text ≡ codes "none"))
+    (Case Unknown (0 < n) (λ text. (0 < n) × (text ≡ codes "some")) End)))
+
+-- a shelf without faults that discloses these contents, from which one file was fetched, after three before, and of it
+-- so many bytes were read
+abbrev pub shelf_with : Files → ℕ → Seen
+shelf_with files taken = record {
+  held = Some files;
+  faults_before = 2;
+  faults_after = 2;
+  fetches_after = Some 4;
+  taken = taken;
+}
+
+-- the contents with these bytes in the file `f`, and those with another file
+abbrev pub with_bytes : List ℕ → Files
+with_bytes bytes = insert empty (codes "f") bytes
+
+abbrev pub with_another : Files
+with_another = insert empty (codes "g") (codes "n")
+
+-- the toy plan answers so on a shelf with these contents
+abbrev pub Said : Files → ℕ → Status → List ℕ → Type 0
+Said files taken status text = OnPlan (shelf_with files taken) (Some 3) toy status text
+
+-- a lacking file is a fault of reading, one of four bytes too long, one without `n` bad, and others stand for numbers;
+-- each is answered with one status and its text; one fetch is counted for it, neither two nor none
+pub record PlansAreWorkedOut : Type 0 where
+  pub lacking : Said with_another 0 ReadFault read_fault_text
+  pub long : Said (with_bytes (codes "nnnn")) 0 ProgramRefused (codes "long")
+  pub bad : Said (with_bytes (codes "m")) 1 ProgramRefused (codes "bad")
+  pub none : Said (with_bytes (codes "n")) 1 Done (codes "none")
+  pub some : Said (with_bytes (codes "nop")) 3 Unknown (codes "some")
+  pub only_fault : (status : Status) (text : List ℕ) → Said with_another 0 status text → status ≡ ReadFault
+  pub only_bad : (status : Status) (text : List ℕ) → Said (with_bytes (codes "m")) 1 status text → text ≡ codes "bad"
+  pub only_none : (status : Status) (text : List ℕ) → Said (with_bytes (codes "n")) 1 status text → status ≡ Done
+  pub only_some : (text : List ℕ) → ¬ (Said (with_bytes (codes "nop")) 3 Done text)
+  pub bytes_read : (status : Status) (text : List ℕ) → ¬ (Said (with_bytes (codes "n")) 2 status text)
+  pub fetched_twice : (status : Status) (text : List ℕ)
+      → ¬ (OnPlan (shelf_with (with_bytes (codes "n")) 1) (Some 2) toy status text)
+  pub fetched_never : (status : Status) (text : List ℕ)
+      → ¬ (OnPlan (shelf_with (with_bytes (codes "n")) 1) (Some 4) toy status text)
+
+-- a sink without faults, into which one put wrote these bytes behind `old `
+abbrev pub wrote : List ℕ → Put
+wrote bytes = record {
+  faults_before = 0;
+  faults_after = 0;
+  puts_before = Some 0;
+  puts_after = Some 1;
+  written_before = Some (codes "old ");
+  written_after = Some (codes "old " ++ bytes);
+}
+
+-- with the status of a row a text of it was written, whole, on a file that gives what the row is for; with that of a
+-- refusal one that refuses the file; and a file may fail only where it is lacking
+pub record StatusesHaveMeanings : Type 0 where
+  pub done : Wrote (shelf_with (with_bytes (codes "n")) 1) (wrote (codes "none")) toy Done
+  pub in_part : ¬ (Wrote (shelf_with (with_bytes (codes "n")) 1) (wrote (codes "non")) toy Done)
+  pub nothing : ¬ (Wrote (shelf_with (with_bytes (codes "n")) 1) (wrote []) toy Done)
+  pub other_file : ¬ (Wrote (shelf_with (with_bytes (codes "no")) 2) (wrote (codes "none")) toy Done)
+  pub no_row : ¬ (Wrote (shelf_with (with_bytes (codes "n")) 1) (wrote (codes "none")) toy No)
+  pub refused : WroteRefusal (shelf_with (with_bytes (codes "m")) 1) (wrote (codes "bad")) toy ProgramRefused
+  pub refused_good : ¬ (WroteRefusal (shelf_with (with_bytes (codes "n")) 1) (wrote (codes "bad")) toy ProgramRefused)
+  pub missed : MayMiss (shelf_with with_another 0) toy
+  pub not_missed : ¬ (MayMiss (shelf_with (with_bytes (codes "n")) 1) toy)
+
+-- the contents of the shelf determine the status
+pub record PlansEnd : Type 0 where
+  pub lacking : EndsOn with_another toy ReadFault
+  pub long : EndsOn (with_bytes (codes "nnnn")) toy ProgramRefused
+  pub bad : EndsOn (with_bytes (codes "m")) toy ProgramRefused
+  pub none : EndsOn (with_bytes (codes "n")) toy Done
+  pub some : EndsOn (with_bytes (codes "nop")) toy Unknown
+  pub only_fault : ¬ (EndsOn with_another toy Done)
+  pub only_refused : ¬ (EndsOn (with_bytes (codes "m")) toy Done)
+  pub only_done : ¬ (EndsOn (with_bytes (codes "n")) toy Unknown)
+  pub only_known : ¬ (EndsOn (with_bytes (codes "nop")) toy Done)

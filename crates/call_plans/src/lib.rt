@@ -1,0 +1,19 @@
+//! Plans of calls: which files a call reads, one behind the other, of which kinds, and by which table it answers.
+//!
+//! Builds on `model` and `outside_io`. A command is one line of a table of plans. How a call ends, what its status means
+//! and when it comes are defined and proved here once for every plan: a file is lacking, too long, refused, or stands
+//! for something, and the next file is fetched behind it alone. [`take`] fetches a file and reads it by a [`Reader`].
+#![tactic(auto)]
+
+mod law;
+mod reader;
+mod status;
+mod status_text;
+mod taking;
+
+pub use law::worked_plans_hold;
+pub use model::Memory;
+pub use reader::{Read, Reader};
+pub use status::Status;
+pub use status_text::{StatusText, status_with_text};
+pub use taking::{Got, take};

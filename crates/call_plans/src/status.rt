@@ -1,0 +1,44 @@
+//! How the program ends.
+
+/// The status with which the program ends. Its number is its place in this list, from 0.
+#[derive(Clone, Copy, Debug, PartialEq, Eq)]
+pub enum Status {
+    /// With `analyse`, the report was written, with `facts`, the facts and the report, and with `prove`, the proof
+    /// file; every rule has a time. With `selfrun`, its figures were written, and every rule of the generated program
+    /// has a time. With `check`, the proof is accepted, and its facts were written. With `replay`, the tally along the
+    /// run was written, and with `generate`, the program's text.
+    Done,
+    /// With `analyse`, the report was written, with `facts`, the facts and the report, with `prove`, the proof file,
+    /// and with `selfrun`, its figures; some rule has no time.
+    Unknown,
+    /// The words are no command line.
+    Usage,
+    /// A file couldn't be read.
+    ReadFault,
+    /// The text couldn't be written whole.
+    WriteFault,
+    /// Memory ran out. Nothing was written.
+    Memory,
+    /// The program text is refused.
+    ProgramRefused,
+    /// With `check`, the program was read, and the proof text is refused.
+    ProofRefused,
+    /// With `check`, both were read, and the proof isn't accepted.
+    No,
+    /// With `replay`, the program was read, and the run text is refused.
+    RunRefused,
+    /// With `replay`, both were read, and the steps are no run within 128 bits.
+    NotARun,
+}
+
+impl Status {
+    ghost use Rattle.std.specs.Prelude.{◌≡◌};
+    ghost use Rattle.call_plans.specs.Numbers.{number_of};
+
+    /// The number with which the process ends, from 0 to 10.
+    pub fn code(self) -> u8
+        ensures { result ≡ number_of self }
+    {
+        self as u8
+    }
+}

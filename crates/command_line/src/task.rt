@@ -1,0 +1,30 @@
+//! What commands do, by the form of their operands: a command is one task of one form.
+
+/// What is done with the program in a file.
+#[derive(Clone, Copy, Debug, PartialEq, Eq)]
+pub enum ProgramTask {
+    /// `analyse`: its analysis.
+    Analyse,
+    /// `prove`: the proofs of what its analysis finds.
+    Prove,
+    /// `facts`: the facts that are kept at its locations, and its analysis with them.
+    Facts,
+}
+
+/// What is done with the program in a file and another file about it.
+#[derive(Clone, Copy, Debug, PartialEq, Eq)]
+pub enum PairTask {
+    /// `check`: the check of the proofs in the second file against the program.
+    Check,
+    /// `replay`: the replay of the run in the second file, of the program.
+    Replay,
+}
+
+/// What is done with a number.
+#[derive(Clone, Copy, Debug, PartialEq, Eq)]
+pub enum NumberTask {
+    /// `generate`: the generated program of the number.
+    Generate,
+    /// `selfrun`: the figures of the analysis of that program.
+    Selfrun,
+}

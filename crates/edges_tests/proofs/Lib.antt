@@ -1,0 +1,2 @@
+-- a count that never rises
+pub mod NoRise

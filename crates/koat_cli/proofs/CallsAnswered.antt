@@ -1,0 +1,94 @@
+-- The contents of the shelf determine how a call ends, and a call has one answer.
+use Rattle.std.proofs.Common.{◌≡◌, ◌≢◌, ◌↔◌, ℕ, List, Option, Some, None, IsSome, refl, sym, ◌∙◌, subst, true, false}
+use Rattle.outside_io.specs.Counts.{Rose}
+use Rattle.outside_io.specs.Files.{Files}
+use Rattle.command_line.specs.Requests.{Request, Asks}
+use Rattle.call_plans.specs.declared.status.Status.{Status}
+use Rattle.call_plans.specs.declared.status.Status.TheVariants.{Usage, ReadFault, Memory}
+use Rattle.call_plans.specs.Calls.{Seen, Put}
+use Rattle.call_plans.specs.Plans.{IsLast}
+use Rattle.call_plans.specs.Endings.{EndsOn, IsHonest}
+use Rattle.call_plans.proofs.Faults.{honest_without_rise, honest_other}
+use Rattle.call_plans.proofs.OneEnding.{exactly_where, answer_unique, last_unique, last_exactly}
+use Rattle.koat_cli.specs.Calls.{Call}
+use Rattle.koat_cli.specs.RequestPlans.{plan_of}
+use Rattle.koat_cli.specs.Answers.{AsksForNothing, FetchesNothing, AnswersOf, Says, ToNothing, ToRequest}
+use Rattle.koat_cli.specs.Ends.{Ends, WroteWhole}
+use Rattle.koat_cli.specs.Exclusion.{AreOneAnswer, AnswersExcludeEachOther}
+use Rattle.koat_cli.specs.CallsAnswered.{IsOnShelf, EndsWell, CallsAreAnswered}
+use Rattle.koat_cli.proofs.Determined.{Determined}
+use Rattle.koat_cli.proofs.LawfulPlans.{plans_lawful}
+use Rattle.koat_cli.proofs.OneRequest.{answer_of, usage_for_nothing}
+
+-- a call that ends well wrote its text
+wrote : (call : Call) (put : Put) (s : Status) → EndsWell s call put → WroteWhole s call put
+wrote call put s h = h.ends.wrote h.no_write_fault h.memory
+
+-- where there is no request, the usage text comes
+nothing_gets_usage : (call : Call) (s : Status) (x : List ℕ) → AsksForNothing call.words → Says call s x → s ≡ Usage
+nothing_gets_usage call s x none (ToNothing nothing h) = h.ends
+nothing_gets_usage call s x none (ToRequest r asked h) = absurd (none r asked)
+
+usage : (call : Call) (put : Put) (s : Status) → EndsWell s call put → (s ≡ Usage) ↔ AsksForNothing call.words
+usage call put s h =
+    let w = wrote call put s h in (
+      (λ e. usage_for_nothing call w.text (subst (λ (t : Status). Says call t w.text) e w.says)),
+      (λ none. nothing_gets_usage call s w.text none w.says),
+    )
+
+module _ (laws : Determined) where
+  -- the status follows from the contents of the shelf
+  on_shelf : (call : Call) (put : Put) (files : Files) (r : Request) (s t : Status) → Asks call.words r
+      → IsOnShelf call put files → Ends s call put → s ≢ Memory → (s ≡ t) ↔ EndsOn files (plan_of r) t
+  on_shelf call put files r s t asked on ends memory =
+      let w : WroteWhole s call put = ends.wrote (λ e. on.no_write_fault (ends.write_fault e).fault) memory in
+      exactly_where call.shelf files call.fetches_before (plan_of r) on.held (plans_lawful laws r) s w.text
+      (honest_without_rise call.shelf on.no_read_fault s) (answer_of call r s w.text asked w.says) t
+
+  -- and from the table alone where no file is read
+  without_file : (call : Call) (put : Put) (files : Files) (r : Request) (s t : Status) → Asks call.words r
+      → IsLast (plan_of r) → EndsWell s call put → (s ≡ t) ↔ EndsOn files (plan_of r) t
+  without_file call put files r s t asked last h =
+      let w = wrote call put s h in
+      last_exactly call.shelf files call.fetches_before (plan_of r) s w.text last (plans_lawful laws r)
+      (answer_of call r s w.text asked w.says) t
+
+  -- the law
+  pub calls_answered : CallsAreAnswered
+  calls_answered = record { on_shelf = on_shelf; without_file = without_file; usage = usage }
+
+-- two answers of a call are one where two answers of its request are
+says_unique : (call : Call) (s t : Status) (x y : List ℕ)
+    → ((r : Request) → Asks call.words r → AnswersOf call r s x → AnswersOf call r t y → (s ≡ t) × (x ≡ y))
+    → Says call s x → Says call t y → AreOneAnswer s t x y
+says_unique call s t x y one (ToNothing none h) (ToNothing nothing k) =
+    record { status = h.ends ∙ sym k.ends; text = h.result_is ∙ sym k.result_is }
+says_unique call s t x y one (ToNothing none h) (ToRequest r asked k) = absurd (none r asked)
+says_unique call s t x y one (ToRequest r asked h) said =
+    let both = one r asked h (answer_of call r t y asked said) in record { status = both.0; text = both.1 }
+
+module _ (laws : Determined) (call : Call) (s t : Status) (x y : List ℕ) where
+  -- where a shelf discloses its contents, but for faults that came with a rise of its count
+  held_one : (held : Option Files) → call.shelf.held ≡ held → IsSome held → IsHonest call.shelf s
+      → IsHonest call.shelf t → Says call s x → Says call t y → AreOneAnswer s t x y
+  held_one None e some honest also = absurd (let never : ⊥ = cc in never)
+  held_one (Some files) e some honest also =
+      says_unique call s t x y (λ r asked.
+      answer_unique call.shelf files call.fetches_before (plan_of r) e (plans_lawful laws r) s t x y honest also)
+
+  told_one : IsSome call.shelf.held → IsHonest call.shelf s → IsHonest call.shelf t → Says call s x → Says call t y
+      → AreOneAnswer s t x y
+  told_one some = held_one call.shelf.held refl some
+
+-- the law
+pub answers_exclude : Determined → AnswersExcludeEachOther
+answers_exclude laws = record {
+  other_words = λ call t x y a b. nothing_gets_usage call t y (usage_for_nothing call x a) b;
+  without_file = λ call s t x y nothing.
+      says_unique call s t x y (λ r asked.
+      last_unique call.shelf call.fetches_before (plan_of r) s t x y (nothing r asked) (plans_lawful laws r));
+  without_faults = λ call s t x y some steady.
+      told_one laws call s t x y some (honest_without_rise call.shelf steady s) (honest_without_rise call.shelf steady t);
+  read_faults_aside = λ call s t x y some other also.
+      told_one laws call s t x y some (honest_other call.shelf s other) (honest_other call.shelf t also);
+}

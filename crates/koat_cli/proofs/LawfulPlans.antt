@@ -1,0 +1,123 @@
+-- The plan of each request is lawful, and its statuses are of their sorts.
+use Rattle.std.proofs.Common.{◌≡◌, ℕ, List, refl, sym, ◌∙◌, inl, inr}
+use Rattle.std.specs.Prelude.{⊤}
+use Rattle.model.specs.Programs.{Program}
+use Rattle.its_reader.specs.its_text.Spelling.{SpellsWithin}
+use Rattle.its_writer.specs.Generated.{generated}
+use Rattle.command_line.specs.declared.task.ProgramTask.{ProgramTask}
+use Rattle.command_line.specs.declared.task.PairTask.{PairTask}
+use Rattle.command_line.specs.declared.task.NumberTask.{NumberTask}
+use Rattle.command_line.specs.Lines.{Word}
+use Rattle.command_line.specs.Requests.{Request, OfProgram, OfPair, OfNumber, default_pivots}
+use Rattle.command_line.specs.declared.task.ProgramTask.TheVariants.{Analyse, Prove, Facts}
+use Rattle.command_line.specs.declared.task.PairTask.TheVariants.{Check, Replay}
+use Rattle.command_line.specs.declared.task.NumberTask.TheVariants.{Generate, Selfrun}
+use Rattle.cert_types.specs.cert_rules.Gaps.{ProofFile}
+use Rattle.cert_types.specs.cert_program.Laws.{AcceptsFileFor}
+use Rattle.check_text.specs.Verdicts.{IsAcceptance, IsRefusal}
+use Rattle.outcome.specs.Views.{report_of}
+use Rattle.run_replay.specs.Runs.{Run}
+use Rattle.call_plans.specs.declared.status.Status.{Status}
+use Rattle.call_plans.specs.declared.status.Status.TheVariants.{No, NotARun}
+use Rattle.call_plans.specs.Plans.{End, Case, Comes, IsLast}
+use Rattle.call_plans.specs.Lawful.{AreRows, IsLawful, HasSorts}
+use Rattle.koat_cli.specs.Found.{FindsTimes}
+use Rattle.koat_cli.specs.Commands.Analyse.{StatesReport}
+use Rattle.koat_cli.specs.Commands.Prove.{StatesProof}
+use Rattle.koat_cli.specs.Commands.Facts.{FindsTimesWithFacts, StatesFacts}
+use Rattle.koat_cli.specs.Commands.Check.{check_answers}
+use Rattle.koat_cli.specs.Commands.Replay.{IsInRange, HasBadStep, StatesBadStep, replay_answers}
+use Rattle.koat_cli.specs.Commands.Selfrun.{StatesFigures}
+use Rattle.koat_cli.specs.RequestPlans.{program_answers, second_plan, number_answers, plan_of}
+use Rattle.koat_cli.proofs.Determined.{Determined}
+use Rattle.koat_cli.proofs.OneText.{times_apart, report_text_unique, facts_text_unique, figures_unique, proof_text_unique}
+use Rattle.koat_cli.proofs.OneText.{tally_text_unique, bad_step_text_unique, in_range_apart, facts_times_apart}
+use Rattle.koat_cli.proofs.ProgramAnswers.{program_texts_decided}
+use Rattle.koat_cli.proofs.ProofAnswers.{proof_texts_decided, one_refusal, one_acceptance, refused_not_accepted}
+use Rattle.koat_cli.proofs.RunAnswers.{run_texts_decided}
+use Rattle.koat_cli.proofs.Timed.{timed_rows}
+
+-- the rows of a check
+accepted_alone : (p : Program) (f : ProofFile) (s : Status) → AcceptsFileFor p f
+    → ¬ (Comes (Case No (¬ (AcceptsFileFor p f)) (IsRefusal p f) End) s)
+accepted_alone p f s accepts (inl h) = h.1 accepts
+accepted_alone p f s accepts (inr never) = never
+
+check_rows : (p : Program) (f : ProofFile) → AreRows (check_answers p f)
+check_rows p f = (
+  record { one = one_acceptance p f; comes = λ x a. a.accepted.accepted; alone = accepted_alone p f },
+  (record { one = one_refusal p f; comes = λ x a. refused_not_accepted p f x a; alone = λ s h never. never }, tt),
+)
+
+module _ (laws : Determined) where
+  -- of a replay
+  in_range_alone : (p : Program) (r : Run) (s : Status) → IsInRange p r
+      → ¬ (Comes (Case NotARun (HasBadStep p r) (StatesBadStep p r) End) s)
+  in_range_alone p r s good (inl h) = in_range_apart laws p r good h.1
+  in_range_alone p r s good (inr never) = never
+
+  replay_rows : (p : Program) (r : Run) → AreRows (replay_answers p r)
+  replay_rows p r = (
+    record { one = tally_text_unique laws p r; comes = λ x a. a.in_range; alone = in_range_alone p r },
+    (record { one = bad_step_text_unique laws p r; comes = λ x a. (a.bad, a.first); alone = λ s h never. never }, tt),
+  )
+
+  -- of what is answered of a program
+  program_rows : (task : ProgramTask) (n : ℕ) (p : Program) → AreRows (program_answers task n p)
+  program_rows Analyse n p =
+      timed_rows (FindsTimes p n) (StatesReport p n) (times_apart laws p n) (report_text_unique laws p n)
+      (λ all x h. record { report = h.report; found = h.found.found; times = h.times })
+  program_rows Prove n p =
+      timed_rows (FindsTimes p n) (StatesProof p n) (times_apart laws p n) (proof_text_unique laws p n)
+      (λ all x h. record { report = report_of h.outcome; found = h.proved.found.found; times = h.times })
+  program_rows Facts n p =
+      timed_rows (FindsTimesWithFacts p n) (StatesFacts p n) (facts_times_apart laws p n) (facts_text_unique laws p n)
+      (λ all x h. record {
+        facts = h.facts;
+        kept = h.found.kept;
+        finds = record { report = h.report; found = h.found.found; times = h.times };
+      })
+
+  -- and of a number
+  number_rows : (task : NumberTask) (n : ℕ) → AreRows (number_answers task n)
+  number_rows Generate n =
+      (record { one = λ x y a b. a.result_is ∙ sym b.result_is; comes = λ x a. tt; alone = λ s h never. never }, tt)
+  number_rows Selfrun n =
+      timed_rows (FindsTimes (generated n) default_pivots) (StatesFigures (generated n))
+      (times_apart laws (generated n) default_pivots) (figures_unique laws (generated n))
+      (λ all x h. record { report = report_of h.outcome; found = h.found.found; times = h.times })
+
+  second_lawful : (task : PairTask) (p : Program) (second : Word) (spelling : List ℕ) → SpellsWithin spelling p
+      → IsLawful (second_plan task p second)
+  second_lawful Check p second spelling spelled =
+      (proof_texts_decided spelling p spelled, λ bytes f stands. check_rows p f)
+  second_lawful Replay p second spelling spelled = (run_texts_decided p, λ bytes r stands. replay_rows p r)
+
+  -- the plan of each request is lawful
+  pub plans_lawful : (request : Request) → IsLawful (plan_of request)
+  plans_lawful (OfProgram task n file) =
+      (program_texts_decided laws, λ bytes p stands. program_rows task n p)
+  plans_lawful (OfPair task file second) =
+      (program_texts_decided laws, λ bytes p stands. second_lawful task p second bytes stands)
+  plans_lawful (OfNumber task n) = number_rows task n
+
+-- its statuses are of their sorts
+second_sorted : (task : PairTask) (p : Program) (second : Word) → HasSorts (second_plan task p second)
+second_sorted Check p second = (refl, λ f. (refl, (refl, tt)))
+second_sorted Replay p second = (refl, λ r. (refl, (refl, tt)))
+
+program_sorted : (task : ProgramTask) (n : ℕ) (file : Word) → HasSorts (plan_of (OfProgram task n file))
+program_sorted Analyse n file = (refl, λ p. (refl, (refl, tt)))
+program_sorted Prove n file = (refl, λ p. (refl, (refl, tt)))
+program_sorted Facts n file = (refl, λ p. (refl, (refl, tt)))
+
+pub plans_sorted : (request : Request) → HasSorts (plan_of request)
+plans_sorted (OfProgram task n file) = program_sorted task n file
+plans_sorted (OfPair task file second) = (refl, λ p. second_sorted task p second)
+plans_sorted (OfNumber Generate n) = (refl, tt)
+plans_sorted (OfNumber Selfrun n) = (refl, (refl, tt))
+
+-- a second file is read behind the first of two
+pub second_not_last : (task : PairTask) (p : Program) (second : Word) → ¬ (IsLast (second_plan task p second))
+second_not_last Check p second last = last
+second_not_last Replay p second last = last

@@ -1,0 +1,6 @@
+use Rattle.koat_cli.proofs.Determined.{determined}
+use Rattle.koat_cli.proofs.WorkedMissingFiles.{files_read_in_order}
+use Rattle.koat_cli.proofs.law.worked_missing_files_hold.Goals as goal
+
+pub returns : goal.returns
+returns c = files_read_in_order (determined c.replays_are_decided.ensures)

@@ -1,6 +1,0 @@
-use Rattle.koat_cli.proofs.DeterminedCalls.{determined}
-use Rattle.koat_cli.proofs.WorkedMissingFiles.{files_read_in_order}
-use Rattle.koat_cli.proofs.missing_files.worked_missing_files_hold.Goals as goal
-
-pub returns : goal.returns
-returns c = files_read_in_order (determined c.replays_are_decided.ensures)

@@ -1,0 +1,32 @@
+use Rattle.std.proofs.Common.{string_bytes, refl}
+use Rattle.its_model.specs.Views.{program_of}
+use Rattle.its_reader.proofs.its_text.ValidPrograms.{spelled_valid}
+use Rattle.call_plans.specs.Calls.{seen_of}
+use Rattle.call_plans.specs.OnFiles.{Without}
+use Rattle.model.specs.Programs.{Program}
+use Rattle.call_plans.specs.Plans.{Cases, Answers}
+use Rattle.call_plans.proofs.Behind.{behind_ok, told_ok}
+use Rattle.koat_cli.specs.ProgramTexts.{programs}
+use Rattle.koat_cli.specs.RequestPlans.{program_answers}
+use Rattle.koat_cli.proofs.preparation.on_program.Goals as goal
+
+pub returns-in-Answer-clause-says : goal.returns-in-Answer-clause-says
+returns-in-Answer-clause-says g c =
+    Without c.in_ok-said.ensures.counted (rw c.in-Answer.is at c.in_ok-said.ensures.gives)
+
+pub of_program-requires : goal.of_program-requires
+of_program-requires g c =
+    let given = rw c.in-Thing.is at c.in_ok-said.ensures.gives in
+    spelled_valid given.bytes (program_of c.in-Thing.program) given.stands
+
+pub returns-in-Thing-clause-says : goal.returns-in-Thing-clause-says
+returns-in-Thing-clause-says g c =
+    let before = c.args.shelf.now in
+    let after = c.take.new.shelf in
+    let p = program_of c.in-Thing.program in
+    let table : Program → Cases = λ q. program_answers c.args.task c.args.pivots q in
+    behind_ok g.F.Shelf before after after programs (string_bytes c.args.file.now) (λ q. Answers (table q)) p
+    c.of_program.result c.in_ok-said.ensures.keeps_files c.in_ok-said.ensures.keeps_count
+    (rw c.in-Thing.is at c.in_ok-said.ensures.fault) c.in_ok-said.ensures.counted (λ last. refl)
+    (rw c.in-Thing.is at c.in_ok-said.ensures.gives)
+    (told_ok (seen_of g.F.Shelf after after) (g.F.Shelf.fetches after) (table p) c.of_program.result refl c.of_program.ensures)

@@ -1,0 +1,42 @@
+-- The status with which a call ends, by its request and by the contents of the shelf.
+use Rattle.std.specs.Prelude.{◌≡◌, ◌≢◌, ◌↔◌, Some}
+use Rattle.outside_io.specs.Counts.{Rose}
+use Rattle.outside_io.specs.Files.{Files}
+use Rattle.command_line.specs.Requests.{Request, Asks}
+use Rattle.call_plans.specs.declared.status.Status.{Status}
+use Rattle.call_plans.specs.declared.status.Status.TheVariants.{Usage, WriteFault, Memory}
+use Rattle.call_plans.specs.Calls.{Put}
+use Rattle.call_plans.specs.Plans.{IsLast}
+use Rattle.call_plans.specs.Endings.{EndsOn}
+use Rattle.koat_cli.specs.Calls.{Call}
+use Rattle.koat_cli.specs.RequestPlans.{plan_of}
+use Rattle.koat_cli.specs.Answers.{AsksForNothing}
+use Rattle.koat_cli.specs.Ends.{Ends}
+
+-- the shelf discloses these contents, and neither its count of faults nor that of the sink rises
+pub record IsOnShelf (call : Call) (put : Put) (files : Files) : Type 0 where
+  pub held : call.shelf.held ≡ Some files
+  pub no_read_fault : ¬ (Rose call.shelf.faults_before call.shelf.faults_after)
+  pub no_write_fault : ¬ (Rose put.faults_before put.faults_after)
+
+-- a call ends so, neither with the status of a fault of the sink nor because memory ran out
+pub record EndsWell (status : Status) (call : Call) (put : Put) : Type 0 where
+  pub no_write_fault : status ≢ WriteFault
+  pub ends : Ends status call put
+  pub memory : status ≢ Memory
+
+-- With which status a call ends, if memory suffices. Where the shelf discloses its contents, and no count of faults
+-- rises, a call with a request ends with a status exactly where the contents say so by the request's plan: with that of
+-- a fault of reading where a file that is reached is lacking, with that of a refusal where one is too long or its bytes
+-- stand for nothing, and with that of a row where the files stand for what the row is for. A call with a request for
+-- which no file is read ends with a status exactly where its table says so, whatever the shelf discloses. And a call
+-- ends with `Usage` exactly where its words make no request.
+pub record CallsAreAnswered : Type 0 where
+  pub on_shelf : (call : Call) (put : Put) (files : Files) (request : Request) (s t : Status)
+      → Asks call.words request → IsOnShelf call put files → Ends s call put → s ≢ Memory
+      → (s ≡ t) ↔ EndsOn files (plan_of request) t
+  pub without_file : (call : Call) (put : Put) (files : Files) (request : Request) (s t : Status)
+      → Asks call.words request → IsLast (plan_of request) → EndsWell s call put
+      → (s ≡ t) ↔ EndsOn files (plan_of request) t
+  pub usage : (call : Call) (put : Put) (s : Status) → EndsWell s call put
+      → (s ≡ Usage) ↔ AsksForNothing call.words

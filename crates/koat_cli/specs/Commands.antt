@@ -1,0 +1,8 @@
+-- What each command answers, a file a command: with which statuses, exactly when, and with which texts.
+pub mod Analyse
+pub mod Prove
+pub mod Facts
+pub mod Check
+pub mod Replay
+pub mod Generate
+pub mod Selfrun

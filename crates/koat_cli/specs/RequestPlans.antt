@@ -1,0 +1,44 @@
+-- The plan of each request: which files it reads, and by which table it answers.
+use Rattle.std.specs.Prelude.{ℕ}
+use Rattle.model.specs.Programs.{Program}
+use Rattle.command_line.specs.declared.task.ProgramTask.{ProgramTask}
+use Rattle.command_line.specs.declared.task.PairTask.{PairTask}
+use Rattle.command_line.specs.declared.task.NumberTask.{NumberTask}
+use Rattle.command_line.specs.Lines.{Word}
+use Rattle.command_line.specs.Requests.{Request, OfProgram, OfPair, OfNumber}
+use Rattle.command_line.specs.declared.task.ProgramTask.TheVariants.{Analyse, Prove, Facts}
+use Rattle.command_line.specs.declared.task.PairTask.TheVariants.{Check, Replay}
+use Rattle.command_line.specs.declared.task.NumberTask.TheVariants.{Generate, Selfrun}
+use Rattle.call_plans.specs.Plans.{Cases, Plan, Answers, Reads}
+use Rattle.koat_cli.specs.ProgramTexts.{programs}
+use Rattle.koat_cli.specs.ProofTexts.{proofs}
+use Rattle.koat_cli.specs.RunTexts.{runs}
+use Rattle.koat_cli.specs.Commands.Analyse.{analyse_answers}
+use Rattle.koat_cli.specs.Commands.Prove.{prove_answers}
+use Rattle.koat_cli.specs.Commands.Facts.{facts_answers}
+use Rattle.koat_cli.specs.Commands.Check.{check_answers}
+use Rattle.koat_cli.specs.Commands.Replay.{replay_answers}
+use Rattle.koat_cli.specs.Commands.Generate.{generate_answers}
+use Rattle.koat_cli.specs.Commands.Selfrun.{selfrun_answers}
+
+-- what is answered of a program
+abbrev pub program_answers : ProgramTask → ℕ → Program → Cases
+program_answers Analyse pivots program = analyse_answers pivots program
+program_answers Prove pivots program = prove_answers pivots program
+program_answers Facts pivots program = facts_answers pivots program
+
+-- the plan behind the program of the first of two files
+abbrev pub second_plan : PairTask → Program → Word → Plan
+second_plan Check program second = Reads (proofs program) second (λ proof. Answers (check_answers program proof))
+second_plan Replay program second = Reads (runs program) second (λ run. Answers (replay_answers program run))
+
+-- what is answered of a number
+abbrev pub number_answers : NumberTask → ℕ → Cases
+number_answers Generate n = generate_answers n
+number_answers Selfrun n = selfrun_answers n
+
+-- the plan of a request
+abbrev pub plan_of : Request → Plan
+plan_of (OfProgram task pivots file) = Reads programs file (λ program. Answers (program_answers task pivots program))
+plan_of (OfPair task file second) = Reads programs file (λ program. second_plan task program second)
+plan_of (OfNumber task n) = Answers (number_answers task n)

@@ -1,0 +1,55 @@
+//! Reads the text of a proof's file for a program.
+
+ghost use Rattle.std.specs.Prelude.{◌<◌, ◌^◌, length};
+ghost use Rattle.its_model.specs.Valid.{IsValid};
+ghost use Rattle.its_model.specs.Views.{program_of};
+ghost use Rattle.cert_types.specs.AnswerViews.{file_of};
+ghost use Rattle.cert_types.specs.cert_rules.Gaps as plain;
+ghost use Rattle.koat_cli.specs.ProofTexts.{proofs};
+
+use call_plans::{Read, Reader, Status};
+use cert_text::read;
+use cert_types::ProofFile;
+use check_text::refusal_text;
+use its_model::Program;
+use model::Memory;
+use std::alloc::Global;
+
+/// The reader of proof files for a program, each of at most 67,108,864 bytes.
+#[derive(Drop)]
+pub(crate) struct Proofs<'a> {
+    /// The program.
+    pub(crate) program: &'a Program,
+}
+
+impl<'a> Reader for Proofs<'a> {
+    type Thing = ProofFile;
+
+    ghost Plain = { plain.ProofFile };
+
+    ghost kind = { λ reader. proofs (program_of reader.program.now) };
+
+    ghost plain = { file_of };
+
+    ghost ready = { λ reader. IsValid (program_of reader.program.now)
+        × (length (program_of reader.program.now).symbols < 2 ^ 32) };
+
+    fn limit(&self) -> u64 {
+        67_108_864
+    }
+
+    fn refused(&self) -> Status {
+        Status::ProofRefused
+    }
+
+    fn too_long(&self) -> &'static [u8] {
+        b"proof refused: too long\n"
+    }
+
+    fn read(&self, alloc: Global, bytes: &[u8]) -> Result<Read<ProofFile>, Memory> {
+        match read(alloc, self.program, bytes) {
+            Ok(proof) => Ok(Read::Thing(proof)),
+            Err(error) => Ok(Read::Refusal(refusal_text(alloc, &error)?)),
+        }
+    }
+}
