@@ -33,7 +33,7 @@ def pages():
 def words_of_the_sources():
     """Each word that the sources of the crates, their folders or the scripts for measuring have."""
     found = set(os.listdir(os.path.join(examples.TOP, "crates")) + os.listdir(os.path.join(examples.TOP, "bench")))
-    for part in ("src/**/*.rt", "specs/*.antt"):
+    for part in ("src/**/*.rt", "specs/**/*.antt"):
         for path in glob.glob(os.path.join(examples.TOP, "crates", "*", part), recursive=True):
             found.update(re.findall(r"[A-Za-z_]\w*", read(path)))
     return found
