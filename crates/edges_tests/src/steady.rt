@@ -5,7 +5,7 @@ ghost use Rattle.std.specs.Prelude.{◌≡◌, ◌≢◌, map, string_bytes};
 ghost use Rattle.outside_io.specs.SteadyShelf.{held_files};
 ghost use Rattle.command_line.specs.Requests.{Request, Asks};
 ghost use Rattle.koat_cli.specs.RequestPlans.{plan_of};
-ghost use Rattle.koat_cli.specs.call_plans.Endings.{EndsOn};
+ghost use Rattle.call_plans.specs.Endings.{EndsOn};
 
 use koat_cli::{Status, run};
 use outside_io::{Held, SteadyShelf, SteadySink};
