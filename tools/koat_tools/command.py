@@ -43,16 +43,19 @@ INTERRUPTED = 130
 
 def seconds(text):
     """A number of seconds over 0."""
-    number = float(text)
+    try:
+        number = float(text)
+    except ValueError:
+        number = 0
     if not 0 < number < math.inf:
-        raise ValueError
+        raise argparse.ArgumentTypeError(f"`{text}` is no number of seconds over 0")
     return number
 
 
 def counted(text):
     """A number from 0 to 1,000,000."""
     if not re.fullmatch("[0-9]{1,7}", text) or int(text) > 1000000:
-        raise ValueError
+        raise argparse.ArgumentTypeError(f"`{text}` is no number from 0 to 1000000 in plain digits")
     return int(text)
 
 
@@ -92,7 +95,7 @@ def positive(text):
     """A number from 1 to 1,000,000."""
     number = counted(text)
     if number < 1:
-        raise ValueError
+        raise argparse.ArgumentTypeError("it is at least 1")
     return number
 
 
@@ -100,12 +103,12 @@ def kth(text):
     """K/N, which means every Nth file from the Kth on, K from 0."""
     found = re.fullmatch("([0-9]{1,6})/([0-9]{1,6})", text)
     if not found or not 0 <= int(found.group(1)) < int(found.group(2)):
-        raise ValueError
+        raise argparse.ArgumentTypeError(f"`{text}` isn't K/N with K from 0 to N - 1, such as 0/10")
     return int(found.group(1)), int(found.group(2))
 
 
 def _many_words(one):
-    one.add_argument("paths", nargs="*", metavar="PATH", help="files, and folders with files that end in .koat or .its")
+    one.add_argument("paths", nargs="*", default=[], metavar="PATH", help="files, and folders with files that end in .koat or .its")
     one.add_argument("--jobs", metavar="N", type=positive, default=os.cpu_count() or 1, help="how many calls at once")
     one.add_argument("--memory", metavar="MIB", type=positive, help="how much memory each call may hold")
     one.add_argument("--resume", metavar="FILE", help="where the lines go; what stands there isn't asked again")
@@ -124,7 +127,7 @@ def _serve_words(one):
 
 def _gallery_words(one):
     one.add_argument("folder", metavar="FOLDER", help="it is made where it isn't there")
-    one.add_argument("paths", nargs="*", metavar="PATH", help="other programs than the examples")
+    one.add_argument("paths", nargs="*", default=[], metavar="PATH", help="other programs than the examples")
     one.add_argument("--jobs", metavar="N", type=positive, default=os.cpu_count() or 1, help="how many calls at once")
 
 

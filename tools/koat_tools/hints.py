@@ -315,6 +315,8 @@ def _at_relation(before):
         return AND
     if _has_relation(before):
         return CHAIN
+    if _in_guard(before) and _enclosing(before).lower() == "not":
+        return NO_NOT
     return "a comparison doesn't stand in brackets" if _in_guard(before) else GUARD
 
 

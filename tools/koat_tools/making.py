@@ -65,13 +65,15 @@ def make_folder(path):
 
 def _whys(answer, is_with_facts, pivots, seconds):
     """What shows each bound. Where no proof comes of it, nothing does, and a line says so."""
+    written = answer.program
     try:
         if is_with_facts:
             answer = with_facts(answer, pivots, seconds)
         data = analyser.prove(answer, pivots, seconds)
         said = analyser.check(answer, data, seconds)
         stated = [it for it in said[1:] if not it.startswith("gap ")]
-        return whys.whys(answer.program, proofs.read(data.decode("latin-1")), stated) if said[0] == "accepted" else {}
+        proof = proofs.read(data.decode("latin-1")) if said[0] == "accepted" else None
+        return whys.whys(answer.program, proof, stated, written) if proof else {}
     except (Stop, proofs.ProofError, LookupError, AttributeError) as fault:
         print(f"show: the page says nothing of why bounds hold: {fault}", file=sys.stderr)
         return {}

@@ -24,7 +24,8 @@ def files(paths):
             continue
         for where, folders, names in os.walk(path):
             folders.sort()
-            found.update({os.path.join(where, it): True for it in sorted(names) if it.endswith(ENDINGS)})
+            inside = [os.path.join(where, it) for it in sorted(names) if it.endswith(ENDINGS)]
+            found.update({it: True for it in inside if os.path.isfile(it) or not os.path.exists(it)})
     return list(found)
 
 

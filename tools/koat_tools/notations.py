@@ -260,8 +260,8 @@ def labels(place):
             place.before[2].text == "RULES"):
         return CONDITION_BEHIND
     if place.begins_rule() and not place.in_guard() and re.match(r"[%;]", place.rest):
-        is_rule = re.match(rf"[%;]\s*{programs.NAME}\s*\(", place.rest)
-        return "nothing stands between two rules" if is_rule else COMMENTS
+        is_rule = re.match(rf"[%;]\s*({programs.NAME}\s*\(|\))", place.rest)
+        return "nothing stands behind a rule or between two" if is_rule else COMMENTS
     if place.begins_rule() and place.here == "." and not re.match(r"\.\d", place.rest):
         return "nothing stands behind a rule or between two, no dots either"
     return None
@@ -298,7 +298,7 @@ def operators(place):
         return "an expression has no cases: write a rule for each"
     if place.here == "*" and place.last in ("(", ",") and re.match(r"\*\s*[,)]", place.rest):
         return FREE
-    if place.here == "&" and not place.has_relation():
+    if place.here == "&" and not place.has_relation() and place.last not in ("TRUE", "true"):
         return "there are no operations on bits"
     if re.match(r"\\/", place.rest):
         return "a guard has no `||`: write the rule twice, once with each side"

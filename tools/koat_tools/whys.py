@@ -7,9 +7,12 @@ from . import polynomials, sentences
 FACT = re.compile(r"((?:time|size|cost) [0-9]+(?:\.[0-9]+)?): (.*)")
 
 
-def whys(program, proof, stated):
-    """For each label of a bound that a lemma states, the sentences on what shows it."""
+def whys(program, proof, stated, written=None):
+    """For each label of a bound that a lemma states, the sentences on what shows it. Where the program has facts in its
+    guards, `written` is the one without them."""
     left, found, of_lemmas = list(stated), {}, []
+    for rule, own in zip(program.rules, (written or program).rules):
+        rule.written = {" ".join(it.text.split()) for it in polynomials.comparisons(own.guard)}
     for lemma in proof.lemmas:
         labels = sentences.places(program, lemma, of_lemmas)
         own, left = left[:len(labels)], left[len(labels):]
@@ -163,8 +166,11 @@ def _difference(before, after):
 
 
 def _by(rule, multipliers):
-    """The comparisons of the guard that show it."""
+    """The comparisons of the guard that show it, and the facts."""
     used = {text: True for (_, text), it in zip(polynomials.rows(rule), multipliers) if it}
     if not used:
         return ""
-    return ", by " + " and ".join(f"the guard's {it}" if at == 0 else it for at, it in enumerate(used))
+    guard = [it for it in used if " ".join(it.split()) in rule.written]
+    facts = [it for it in used if it not in guard]
+    return ", by " + " and ".join([f"the guard's {it}" if at == 0 else it for at, it in enumerate(guard)]
+                                  + [f"the fact {it}" if at == 0 else it for at, it in enumerate(facts)])

@@ -35,11 +35,11 @@ def data_of_run(text):
     return json.loads(re.search('<script type="application/json" id="steps">(.*?)</script>', text, re.S).group(1))
 
 
-def whys_of(name):
+def whys_of(name, written=None):
     folder = os.path.join(examples.HERE, "proofs", name)
     program = programs.read(examples.text(name, ".koat").encode())
     with open(folder + ".proof", encoding="utf-8") as proof, open(folder + ".checked", encoding="utf-8") as checked:
-        return whys.whys(program, proofs.read(proof.read()), checked.read().splitlines()[1:])
+        return whys.whys(program, proofs.read(proof.read()), checked.read().splitlines()[1:], written)
 
 
 def answer_of(name, comment=b""):
@@ -120,6 +120,13 @@ class Pages(unittest.TestCase):
             self.assertIn(f"<li>{line}</li>", text)
         self.assertEqual(text.count("<li>So the bound is"), len(answer.report.entries()))
         self.assertNotIn("<summary>why</summary>", page.page(answer))
+
+    def test_facts_are_told_from_the_guards_of_the_text(self):
+        written = programs.read(examples.text("gcd", ".koat").replace("A > B && B >= 1", "A > B").encode())
+        told = whys_of("gcd", written)["time 2"]
+        for line in ("Rule 2 lowers it: A - 1 - (A - B - 1) = B >= 1, by the fact B >= 1.",
+                     "Before rule 2 it is bounded from below: A - 1 >= 1, by the guard's A > B and the fact B >= 1."):
+            self.assertIn(line, told)
 
     def test_a_run_is_stepped_through(self):
         told = data_of_run(page.page(answer_of("gcd"), page.Beside(run=runs.Run([6, 4], [(1, []), (2, []), (3, []), (4, [])]))))
