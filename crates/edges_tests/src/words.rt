@@ -10,66 +10,75 @@ const LINES: &[(&[&str], &str)] = &[
     (&["analyse", "p", "--"], ANALYSE_P),
     (
         &["analyse", "-"],
-        "Some(Analyse { pivots: 10000, file: \"-\" })",
+        "Some(OfProgram { task: Analyse, pivots: 10000, file: \"-\" })",
     ),
     (
         &["analyse", ""],
-        "Some(Analyse { pivots: 10000, file: \"\" })",
+        "Some(OfProgram { task: Analyse, pivots: 10000, file: \"\" })",
     ),
     (
         &["analyse", "--", "-p"],
-        "Some(Analyse { pivots: 10000, file: \"-p\" })",
+        "Some(OfProgram { task: Analyse, pivots: 10000, file: \"-p\" })",
     ),
     (
         &["analyse", "--", "--"],
-        "Some(Analyse { pivots: 10000, file: \"--\" })",
+        "Some(OfProgram { task: Analyse, pivots: 10000, file: \"--\" })",
     ),
     (
         &["analyse", "--pivots", "0", "p"],
-        "Some(Analyse { pivots: 0, file: \"p\" })",
+        "Some(OfProgram { task: Analyse, pivots: 0, file: \"p\" })",
     ),
     (
         &["analyse", "p", "--pivots", "70"],
-        "Some(Analyse { pivots: 70, file: \"p\" })",
+        "Some(OfProgram { task: Analyse, pivots: 70, file: \"p\" })",
     ),
     (
         &["analyse", "p", "--pivots=5"],
-        "Some(Analyse { pivots: 5, file: \"p\" })",
+        "Some(OfProgram { task: Analyse, pivots: 5, file: \"p\" })",
     ),
     (
         &["analyse", "--pivots=1000000", "p"],
-        "Some(Analyse { pivots: 1000000, file: \"p\" })",
+        "Some(OfProgram { task: Analyse, pivots: 1000000, file: \"p\" })",
     ),
     (
         &["analyse", "--pivots=3", "--", "--pivots=4"],
-        "Some(Analyse { pivots: 3, file: \"--pivots=4\" })",
+        "Some(OfProgram { task: Analyse, pivots: 3, file: \"--pivots=4\" })",
     ),
     (
         &["prove", "--pivots", "9", "--", "p"],
-        "Some(Prove { pivots: 9, file: \"p\" })",
+        "Some(OfProgram { task: Prove, pivots: 9, file: \"p\" })",
     ),
     (
         &["prove", "p"],
-        "Some(Prove { pivots: 10000, file: \"p\" })",
+        "Some(OfProgram { task: Prove, pivots: 10000, file: \"p\" })",
     ),
     (
         &["check", "p", "q"],
-        "Some(Check { file: \"p\", proof: \"q\" })",
+        "Some(OfPair { task: Check, file: \"p\", second: \"q\" })",
     ),
     (
         &["replay", "-", "--", "-q"],
-        "Some(Replay { file: \"-\", run: \"-q\" })",
+        "Some(OfPair { task: Replay, file: \"-\", second: \"-q\" })",
     ),
-    (&["generate", "0"], "Some(Generate { n: 0 })"),
-    (&["generate", "--", "5"], "Some(Generate { n: 5 })"),
-    (&["selfrun", "100"], "Some(Selfrun { n: 100 })"),
+    (
+        &["generate", "0"],
+        "Some(OfNumber { task: Generate, n: 0 })",
+    ),
+    (
+        &["generate", "--", "5"],
+        "Some(OfNumber { task: Generate, n: 5 })",
+    ),
+    (
+        &["selfrun", "100"],
+        "Some(OfNumber { task: Selfrun, n: 100 })",
+    ),
     (
         &["facts", "p", "--pivots", "70"],
-        "Some(Facts { pivots: 70, file: \"p\" })",
+        "Some(OfProgram { task: Facts, pivots: 70, file: \"p\" })",
     ),
     (
         &["facts", "--", "-p"],
-        "Some(Facts { pivots: 10000, file: \"-p\" })",
+        "Some(OfProgram { task: Facts, pivots: 10000, file: \"-p\" })",
     ),
     (&[], "None"),
     (&["analyse"], "None"),
@@ -118,7 +127,7 @@ const LINES: &[(&[&str], &str)] = &[
     (&["fact", "p"], "None"),
 ];
 
-const ANALYSE_P: &str = "Some(Analyse { pivots: 10000, file: \"p\" })";
+const ANALYSE_P: &str = "Some(OfProgram { task: Analyse, pivots: 10000, file: \"p\" })";
 
 fn words_of(alloc: Global, words: &[&str]) -> Result<Vec<String>, AllocError> {
     let mut all = Vec::new(alloc);
