@@ -82,7 +82,7 @@ class Parallel(unittest.TestCase):
                      os.path.join(room, "log"), "--resume-failed", "env", f"KOAT={STAND_IN}", show, "many", "--jobs", "1",
                      "{}", ":::", *names]
             said = [subprocess.run(words, stdout=subprocess.PIPE, stderr=subprocess.DEVNULL, check=False,
-                                   env={**os.environ, "HOME": room}).stdout for _ in range(2)]
+                                   env={**os.environ, "HOME": room, "SHELL": "/bin/sh"}).stdout for _ in range(2)]
             with open(os.path.join(room, "hosts"), encoding="utf-8") as file:
                 hosts = set(file.read().split())
         told = [json.loads(it) for it in said[0].splitlines()]
