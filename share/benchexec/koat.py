@@ -1,8 +1,9 @@
 """Tool-info module of koat for BenchExec: `<benchmark tool="koat">` with this folder in PYTHONPATH.
 
 The options of a run definition are koat's words before the file, such as `analyse` or `facts --pivots 20000`; without
-options it is `facts`. The result is `bounded`, `unknown`, or an error with its reason; `<column title="total">total</column>`
-shows the bound of all steps.
+options it is `facts`. The result is `bounded`, `unknown`, or an error with its reason;
+`<column title="total">total</column>` shows the bound on what all steps cost together: on their number, where no rule
+has a cost.
 """
 
 import benchexec.result as result

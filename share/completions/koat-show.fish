@@ -1,5 +1,5 @@
 # Completions of `koat-show` for fish.
-set -l commands explain lint json class at run proof page many serve gallery
+set -l commands explain lint json class at run proof page many serve gallery endless
 complete -c koat-show -f
 complete -c koat-show -n "not __fish_seen_subcommand_from $commands" -a "$commands"
 complete -c koat-show -n "__fish_seen_subcommand_from $commands" -F

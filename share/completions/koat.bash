@@ -4,7 +4,7 @@ _koat() {
     local ending='!*.@(koat|its)'
     COMPREPLY=()
     if [ "$COMP_CWORD" = 1 ]; then
-        COMPREPLY=($(compgen -W 'facts analyse prove check replay generate selfrun --help --version' -- "$word"))
+        COMPREPLY=($(compgen -W 'facts analyse prove check replay lasso lp generate selfrun --help --version' -- "$word"))
         return
     fi
     case $before:$command:$word in
@@ -12,8 +12,10 @@ _koat() {
         *:analyse:-* | *:prove:-* | *:facts:-*) COMPREPLY=($(compgen -W '--pivots' -- "$word")) && return ;;
         *:generate:* | *:selfrun:*) return ;;
     esac
+    [ "$command" != lp ] || ending='!*.lp'
     [ "$COMP_CWORD" = 2 ] || [ "$command" != check ] || ending='!*.proof'
     [ "$COMP_CWORD" = 2 ] || [ "$command" != replay ] || ending='!*.run'
+    [ "$COMP_CWORD" = 2 ] || [ "$command" != lasso ] || ending='!*.lasso'
     local IFS=$'\n'
     compopt -o filenames 2>/dev/null
     shopt -q extglob || { local on=1 && shopt -s extglob; }

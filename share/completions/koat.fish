@@ -1,5 +1,5 @@
 # Completions of `koat` for fish.
-set -l commands facts analyse prove check replay generate selfrun
+set -l commands facts analyse prove check replay lasso lp generate selfrun
 complete -c koat -f
 complete -c koat -n "not __fish_seen_subcommand_from $commands" -l help -d 'Commands and statuses'
 complete -c koat -n "not __fish_seen_subcommand_from $commands" -l version -d 'Version, sources, proved or not'
@@ -8,7 +8,9 @@ complete -c koat -n "not __fish_seen_subcommand_from $commands" -a analyse -d 'B
 complete -c koat -n "not __fish_seen_subcommand_from $commands" -a prove -d 'The proof of the bounds, as a proof file'
 complete -c koat -n "not __fish_seen_subcommand_from $commands" -a check -d 'Whether a proof file is accepted'
 complete -c koat -n "not __fish_seen_subcommand_from $commands" -a replay -d 'The steps of a run, counted beside the bounds'
+complete -c koat -n "not __fish_seen_subcommand_from $commands" -a lasso -d 'Whether a run can be repeated without end'
+complete -c koat -n "not __fish_seen_subcommand_from $commands" -a lp -d 'The exact end of a linear program'
 complete -c koat -n "not __fish_seen_subcommand_from $commands" -a generate -d 'A program of 2*N + 1 rules'
 complete -c koat -n "not __fish_seen_subcommand_from $commands" -a selfrun -d 'The number of bounds of that program'
 complete -c koat -n "__fish_seen_subcommand_from facts analyse prove" -l pivots -x -d 'Pivots of each linear program'
-complete -c koat -n "__fish_seen_subcommand_from facts analyse prove check replay" -F
+complete -c koat -n "__fish_seen_subcommand_from facts analyse prove check replay lasso lp" -F

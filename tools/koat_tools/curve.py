@@ -1,7 +1,9 @@
-"""The curve of the bound of all steps beside the longest of some random runs, as a picture with its numbers."""
+"""The curve of the total beside some random runs, as a picture with its numbers. The total bounds what all steps cost
+together: how many there are, where no rule has a cost."""
 
 import html
 import random
+from dataclasses import dataclass
 
 from . import bounds, runs
 
@@ -13,38 +15,51 @@ WIDE = 500
 
 
 def points(program, report):
-    """For each size of the inputs the bound of all steps, and the longest run from random inputs of at most that size;
-    `True` where that one was cut off."""
+    """For each size of the inputs the total, and the most that random runs from inputs of at most that size cost, which
+    is the number of their steps where no rule has a cost; `True` where one of these runs was cut off."""
     found, draws = [], random.Random(0)
     for size in SIZES:
-        longest = 0
+        most, is_cut = 0, False
         for seed in range(RUNS):
             start = [size if seed == 0 else draws.randint(0, size) for _ in program.inputs]
-            longest = max(longest, len(runs.made(program, start, MOST, seed).steps))
-        found.append((size, bounds.value(report.total, {name: size for name in program.inputs}), longest, longest == MOST))
+            run = runs.made(program, start, MOST, seed)
+            most, is_cut = max(most, sum(runs.costs(program, run, MOST))), is_cut or len(run.steps) == MOST
+        found.append((size, bounds.value(report.total, {name: size for name in program.inputs}), most, is_cut))
     return found
 
 
+@dataclass
+class Words:
+    """How the numbers are headed: the whole section, and those of the runs."""
+
+    head: str
+    run: str
+
+
+STEPS, COSTS = Words("All steps", "longest run"), Words("What all steps cost", "dearest run")
+
+
 def section(program, report):
-    """The section of a page; nothing where there is no bound of all steps, or no input."""
+    """The section of a page; nothing where there is no total, or no input."""
     if report.total is None or not program.inputs:
         return ""
-    found = points(program, report)
+    found, words = points(program, report), COSTS if report.costs else STEPS
     rows = "".join(f'<tr><th scope="row">{size}</th><td data-head="at most">{bounds.value_text(bound)}</td>'
-                   f'<td data-head="longest run">{longest}{" or more" if is_cut else ""}</td></tr>'
-                   for size, bound, longest, is_cut in found)
-    names = " = ".join(program.inputs)
-    return ('<section aria-labelledby="curve"><h2 id="curve">All steps, by the inputs</h2>'
-            f'<p class="help">The line is the bound where all inputs are n; a dot is the longest of {RUNS} runs made at '
-            f"random from inputs of at most n, a triangle one that was cut off after {MOST} steps. The longest of all runs "
-            "may be far above.</p>"
-            f'<div class="curve">{_drawn(found)}</div>'
-            "<details><summary>the numbers</summary><table><caption class=\"unseen\">all steps by the inputs</caption>"
+                   f'<td data-head="{words.run}">{most:,}{" or more" if is_cut else ""}</td></tr>'
+                   for size, bound, most, is_cut in found)
+    names, kind = " = ".join(program.inputs), words.run.split()[0]
+    return (f'<section aria-labelledby="curve"><h2 id="curve">{words.head}, by the inputs</h2>'
+            f'<p class="help">The line is the bound where all inputs are n; a dot is the {kind} of {RUNS} runs made at '
+            f"random from inputs of at most n, a triangle says that one of them was cut off after {MOST} "
+            f"steps. The {kind} of all runs may be far above.</p>"
+            f'<div class="curve">{_drawn(found, words)}</div>'
+            f'<details><summary>the numbers</summary><table><caption class="unseen">{words.head.lower()} by the inputs'
+            "</caption>"
             f'<thead><tr><th scope="col" class="seen">{html.escape(names)}</th><th scope="col">at most</th>'
-            f'<th scope="col">longest run</th></tr></thead><tbody>{rows}</tbody></table></details></section>')
+            f'<th scope="col">{words.run}</th></tr></thead><tbody>{rows}</tbody></table></details></section>')
 
 
-def _drawn(found):
+def _drawn(found, words):
     """The picture, of at most two scales: by numbers, or by their lengths where they differ widely."""
     greatest = max(max(bound, longest) for _, bound, longest, _ in found)
     least = min([it for _, bound, longest, _ in found for it in (bound, longest) if it] or [1])
@@ -65,8 +80,8 @@ def _drawn(found):
     feet = "".join(f'<text x="{across(it):.1f}" y="{HEIGHT - BOTTOM + 18}" text-anchor="middle">{it}</text>'
                    for it in SIZES if it % 4 == 0)
     scale = "; each line upwards is a power of the one below" if is_wide else ""
-    return (f'<svg viewBox="0 0 {WIDTH} {HEIGHT}" role="img" aria-label="the bound of all steps and the longest random '
-            f'run, from inputs of 0 to {SIZES[-1]}{scale}; the numbers follow">{sides}{feet}'
+    return (f'<svg viewBox="0 0 {WIDTH} {HEIGHT}" role="img" aria-label="{words.head.lower()}: the bound and the '
+            f'{words.run} of some at random, from inputs of 0 to {SIZES[-1]}{scale}; the numbers follow">{sides}{feet}'
             f'<text x="{WIDTH - 12}" y="{HEIGHT - 2}" text-anchor="end">n</text>'
             f'<polyline points="{line}"/>{dots}</svg>')
 

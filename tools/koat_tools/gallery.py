@@ -45,11 +45,21 @@ def _shown(path, asked, version):
 def _row(command, answer, with_facts, asked, version):
     report = answer.report
     name = making.write_page(asked.folder, answer, with_facts, asked.pivots, asked.seconds, version)
-    if report.total is None:
-        missing = ", ".join(str(it.rule) for it in report.times if it.why)
-        return _line(command, f"no time for rule {missing}", name)
-    steps = "step" if report.total_text == "1" else "steps"
-    return _line(command, f"{report.total_text} {steps}, {growth.text(growth.growth(report.total))}", name)
+    return _line(command, said(report), name)
+
+
+def said(report):
+    """The total with its class, or which rules it lacks: those without a cost whose times are missing, and those whose
+    costs are."""
+    if report.total is not None:
+        total = f"a cost of {report.total_text}" if report.costs else (
+            report.total_text + (" step" if report.total_text == "1" else " steps"))
+        return f"{total}, {growth.text(growth.growth(report.total))}"
+    costed = {it.rule for it in report.costs}
+    times = [str(it.rule) for it in report.times if it.why and it.rule not in costed]
+    costs = [str(it.rule) for it in report.costs if it.why]
+    return ", ".join(f"no {what} rule {', '.join(rules)}"
+                     for what, rules in (("time for", times), ("bound on the cost of", costs)) if rules)
 
 
 def _line(command, said, name):
@@ -95,9 +105,9 @@ def index(shown, version):
 <body>
 <main>
 <h1>A gallery of programs</h1>
-<p><b>analyse</b> and <b>facts</b> are koat's commands; steps are bounded in the inputs' absolute values. Each answer
-leads to its page, which says why each bound holds and steps through a run; a second one is there where facts give
-another.</p>
+<p><b>analyse</b> and <b>facts</b> are koat's commands; steps, or what they cost where rules have costs, are bounded
+in the inputs' absolute values. Each answer leads to its page, which says why each bound holds and steps through a run;
+a second one is there where facts give another.</p>
 {parts}</main>
 <footer><p>{page.version_text(version)}</p></footer>
 </body>

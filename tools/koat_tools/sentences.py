@@ -41,7 +41,7 @@ def _gap(gap):
 
 
 def tally(program, facts):
-    """How many rules have a time by the facts of a proof that was accepted, and what that says of all steps."""
+    """How many rules have a time by the facts of a proof that was accepted, and how many steps a run has by that."""
     found = [FACT.match(it) for it in facts]
     times = {}
     for it in found:
@@ -49,9 +49,9 @@ def tally(program, facts):
             times.setdefault(int(it.group(2)), it.group(4))
     count = len(program.rules)
     if len(times) < count:
-        return f"It states a time for {len(times)} of {count} rules, so it bounds no total of all steps."
+        return f"It states a time for {len(times)} of {count} rules, so it bounds no number of steps."
     parts = [times[it.number] for it in program.rules if times[it.number] != "0"]
-    return f"It states a time for each rule: all steps together are at most {' + '.join(parts) or '0'}."
+    return f"It states a time for each rule: a run has at most {' + '.join(parts) or '0'} steps."
 
 
 def places(program, node, stated):

@@ -1,14 +1,15 @@
 import glob
 import os
 import re
+import runpy
 import unittest
 
 import examples
 from koat_tools import bounds, programs, reasons, reports
 
 DOCUMENTS = ["README.md", "CONTRIBUTING.md", "examples/README.md"] + [f"docs/{name}.md" for name in (
-    "architecture", "claims", "contributing", "DECISIONS", "definitions", "format", "front-ends", "glossary",
-    "proof-format", "report", "run-files", "running", "trust")]
+    "architecture", "claims", "contributing", "DECISIONS", "definitions", "format", "front-ends", "glossary", "lasso",
+    "lp", "proof-format", "report", "run-files", "running", "trust")]
 FOLDERS = ["", "examples", "examples/reasons", "docs"]
 PATH = r"`((?:examples|reasons|docs|tools|bench)/[\w./-]+|[\w-]+\.(?:koat|md))`"
 
@@ -38,9 +39,15 @@ class Documents(unittest.TestCase):
         for name in DOCUMENTS:
             for path in re.findall(PATH, document(name)):
                 there = any(os.path.exists(os.path.join(examples.TOP, it, path)) for it in FOLDERS)
-                if path not in ("NAME.koat", "loop.koat") and not there:
+                if path not in ("NAME.koat", "loop.koat", "stays.koat") and not there:
                     lacking.append((name, path))
         self.assertEqual(lacking, [])
+
+    def test_the_linear_program_has_its_answer(self):
+        slow = runpy.run_path(os.path.join(examples.TOP, "bench", "slow_lp.py"))
+        text = examples.text("prices", ".lp")
+        self.assertEqual(slow["answer"](text.encode()), (0, examples.text("prices", ".lp.txt")))
+        self.assertIn(f"```\n{text}```", document("docs/lp.md"))
 
     def test_rows_of_tables_have_as_many_cells_as_their_heads(self):
         differ = []
@@ -84,6 +91,8 @@ class Documents(unittest.TestCase):
             if not any(it.kind == kind and it.facts.get("limit") == limits.get(name) for it in whys):
                 lacking.append(name)
         self.assertEqual(lacking, [])
+        costs = reports.read(examples.text(os.path.join("reasons", "cost"))).costs
+        self.assertEqual([(it.label, it.why.kind) for it in costs], [("cost 1", "loose"), ("cost 2", "untimed")])
         added = reports.read(examples.text(os.path.join("reasons", "invariant_added")))
         self.assertEqual((added.verdict, added.times[1].text), ("bounded", "N"))
 

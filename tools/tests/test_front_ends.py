@@ -53,7 +53,7 @@ class FrontEnds(unittest.TestCase):
         source, program = self.put("ask.c", block("c")), os.path.join(self.room, "ask")
         self.assertEqual(self.called("gcc", "-Wall", "-Wextra", "-Werror", "-o", program, source)[0], 0)
         self.assertEqual([self.called(program, it) for it in (examples.path("gcd"), "bad.koat", "slow.koat")],
-                         [(0, "all steps: A + B + 2\n"), (6, ""), (124, "")])
+                         [(0, "at most: A + B + 2\n"), (6, ""), (124, "")])
 
     @unittest.skipUnless(shutil.which("java"), "java isn't there")
     def test_java(self):

@@ -13,13 +13,14 @@ RUN = examples.path("gcd", ".run")
 # Words, and the line that stands behind `koat: ` where the program ends with status 2.
 WORDS = [
     ([], "a command is missing: begin with `koat facts FILE`; `koat --help` names the others"),
-    ([""], "`` is no command: they are analyse, prove, check, replay, generate, selfrun, facts"),
+    ([""], "`` is no command: they are analyse, prove, check, replay, generate, selfrun, facts, lasso, lp"),
     (["analyze", GCD], "`analyze` is no command; is `analyse` meant?"),
     (["Analyse", GCD], "`Analyse` is no command; is `analyse` meant?"),
     (["anaylse", GCD], "`anaylse` is no command; is `analyse` meant?"),
     (["fact", GCD], "`fact` is no command; is `facts` meant?"),
     (["gen", "3"], "`gen` is no command; is `generate` meant?"),
-    (["verify", GCD], "`verify` is no command: they are analyse, prove, check, replay, generate, selfrun, facts"),
+    (["verify", GCD],
+     "`verify` is no command: they are analyse, prove, check, replay, generate, selfrun, facts, lasso, lp"),
     (["explain", GCD], "`explain` is no command of koat, but one of its tools: `tools/show explain ..`"),
     (["exlpain", GCD], "`exlpain` is no command; is `tools/show explain` meant?"),
     (["help"], "`help` is no command; is `--help` meant?"),
@@ -37,6 +38,14 @@ WORDS = [
     (["generate", "101"], "`generate` takes one number from 0 to 100, and not `101`"),
     (["generate", "007"], "`generate` takes one number from 0 to 100, and not `007`"),
     (["selfrun", "-1"], "`selfrun` takes one number from 0 to 100, and not `-1`"),
+    (["lasso"], "`lasso` takes two files, FILE and RUN: FILE is missing"),
+    (["lasso", GCD], "`lasso` takes two files, FILE and RUN: RUN is missing"),
+    (["lasso", "a", "b", "c"], "`c` is one word too many: `lasso` takes two files, FILE and RUN"),
+    (["lasso", "--pivots", "5", "a", "b"], "`lasso` has no option `--pivots`"),
+    (["laso", GCD, RUN], "`laso` is no command; is `lasso` meant?"),
+    (["lp"], "`lp` takes one FILE: FILE is missing"),
+    (["lp", "a", "b"], "`b` is one word too many: `lp` takes one FILE"),
+    (["lp", "--pivots=5", "a"], "`lp` has no option `--pivots`"),
     (["--versoin"], "`--versoin` is no command; is `--version` meant?"),
     (["--hlep"], "`--hlep` is no command; is `--help` meant?"),
     (["--help", "facts"], "`--help` stands alone"),
@@ -97,7 +106,9 @@ class Words(unittest.TestCase):
 
     def test_words_that_are_a_command_line_get_none(self):
         taken = (["analyse", GCD], ["facts", GCD, "--pivots", "0"], ["prove", "--pivots=1000000", "--", GCD],
-                 ["check", GCD, RUN], ["replay", "--", GCD, RUN], ["generate", "0"], ["selfrun", "100"], ["analyse", "-"], ["analyse", "gr\u00fc\u00dfe.koat"])
+                 ["check", GCD, RUN], ["replay", "--", GCD, RUN], ["lasso", GCD, "-"], ["lasso", "--", GCD, RUN],
+                 ["generate", "0"], ["selfrun", "100"], ["lp", "-"], ["analyse", "-"],
+                 ["analyse", "gr\u00fc\u00dfe.koat"])
         self.assertEqual([answered(it, 2)[2] for it in taken], [""] * len(taken))
 
 
@@ -108,10 +119,13 @@ class Files(unittest.TestCase):
         wanted = {
             ("analyse", missing): f"the program `{missing}` can't be read: there is no such file",
             ("facts", ""): "the program `` can't be read: there is no such file",
+            ("lp", missing): f"the linear program `{missing}` can't be read: there is no such file",
             ("prove", folder): f"the program `{folder}` can't be read: it is a folder",
             ("check", GCD, missing): f"the proof `{missing}` can't be read: there is no such file",
             ("check", missing, missing): f"the program `{missing}` can't be read: there is no such file",
             ("replay", GCD, missing): f"the run `{missing}` can't be read: there is no such file",
+            ("lasso", GCD, missing): f"the lasso `{missing}` can't be read: there is no such file",
+            ("lasso", missing, missing): f"the program `{missing}` can't be read: there is no such file",
             ("analyse", f"{GCD}/x"): "can't be read: a file stands where its path needs a folder",
             ("analyse", GCD[:-5]): f"can't be read: there is no such file; is `{GCD}` meant?",
             ("analyse", "--", "-odd"): "the program `-odd` can't be read: there is no such file",
@@ -150,7 +164,7 @@ class Launcher(unittest.TestCase):
 
     def test_help_names_the_usage_and_every_status(self):
         said = examples.text("../launch/help", "")
-        for word in ("analyse", "prove", "check", "replay", "generate", "selfrun", "facts", "--pivots"):
+        for word in ("analyse", "prove", "check", "replay", "generate", "selfrun", "facts", "lasso", "lp", "--pivots"):
             self.assertIn(word, said)
         for status in [*range(11), 70, 127]:
             self.assertRegex(said, rf"\b{status} ")

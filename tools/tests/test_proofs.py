@@ -68,9 +68,9 @@ class Proofs(unittest.TestCase):
     def test_how_many_rules_have_a_time(self):
         program = programs.read(COUNTER)
         self.assertEqual(sentences.tally(program, ["time 0: 1", "time 2: A", "time 2: A + 1", "size 1.1: A"]),
-                         "It states a time for 1 of 4 rules, so it bounds no total of all steps.")
+                         "It states a time for 1 of 4 rules, so it bounds no number of steps.")
         self.assertEqual(sentences.tally(program, ["time 1: 1", "time 2: A", "time 4: 0", "time 3: 2^A"]),
-                         "It states a time for each rule: all steps together are at most 1 + A + 2^A.")
+                         "It states a time for each rule: a run has at most 1 + A + 2^A steps.")
         self.assertIn("for 0 of 4 rules", sentences.tally(program, []))
 
     def test_each_kind_of_lemma_has_its_sentences(self):
@@ -106,7 +106,7 @@ class Proofs(unittest.TestCase):
         lines = out.splitlines()
         self.assertEqual((status, lines[-2:]), (0, [
             "koat's checker accepts this proof",
-            "It states a time for each rule: all steps together are at most 1 + A + B + 1."]))
+            "It states a time for each rule: a run has at most 1 + A + B + 1 steps."]))
         self.assertEqual([it for it in lines if it.startswith("lemma")][1], "lemma 2: rule 2 is used at most A times")
 
     def test_a_proof_that_is_not_accepted(self):

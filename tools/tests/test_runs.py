@@ -6,7 +6,7 @@ import tempfile
 import unittest
 
 import examples
-from koat_tools import programs, runs
+from koat_tools import bounds, programs, reports, runs
 from test_command import STAND_IN, script, shown
 
 LOOP = b"(STARTTERM (FUNCTIONSYMBOLS l0))(RULES l0(A) -> Com_1(l1(A)) l1(A) -> Com_1(l1(A-1)) :|: A >= 1)"
@@ -23,7 +23,7 @@ class Runs(unittest.TestCase):
         self.assertEqual(runs.text(runs.made(programs.read(LOOP), [3], 2, 0)).count("step"), 2)
 
     def test_rules_are_computed(self):
-        rule = runs._Rule(programs.read(FREE).rules[0])
+        rule = runs.UsableRule(programs.read(FREE).rules[0])
         self.assertEqual((rule.names, rule.free), (["A", "B"], ["Y", "Z", "W", "TRUE"]))
         told = [rule.after([2, 5], it) for it in ([0, 3, 3, 7], [0, 2, 2, 7], [0, 3, 4, 7], [0, 3, 3, 6])]
         self.assertEqual(told, [[4, -4], None, None, None])
@@ -32,9 +32,9 @@ class Runs(unittest.TestCase):
     def test_no_part_of_a_step_passes_128_bits(self):
         for rule, last in (("f(A) -> Com_1(f(A)) :|: A^3 >= 1", 2**42), ("f(A) -> Com_1(f(A^3-A^3))", 2**42),
                            ("f(A) -> Com_1(f(A*0)) :|: A^2*8 > 0 && -A <= A", 2**62 - 1)):
-            it = runs._Rule(programs.read(f"(STARTTERM (FUNCTIONSYMBOLS f))(RULES {rule})".encode()).rules[0])
+            it = runs.UsableRule(programs.read(f"(STARTTERM (FUNCTIONSYMBOLS f))(RULES {rule})".encode()).rules[0])
             self.assertEqual([it.after([value], []) is None for value in (last, 2**62)], [False, True], rule)
-        power = runs._Rule(programs.read(b"(STARTTERM (FUNCTIONSYMBOLS f))(RULES f(A) -> Com_1(f(A^999)))").rules[0])
+        power = runs.UsableRule(programs.read(b"(STARTTERM (FUNCTIONSYMBOLS f))(RULES f(A) -> Com_1(f(A^999)))").rules[0])
         self.assertEqual([power.after([it], []) for it in (-1, 0, 1, 2)], [[-1], [0], [1], None])
 
     def test_steps_follow_each_other(self):
@@ -43,7 +43,7 @@ class Runs(unittest.TestCase):
             run = runs.made(program, [1, -1], 30, seed)
             symbol, values = program.start, run.start
             for number, free in run.steps:
-                rule = runs._Rule(program.rule(number))
+                rule = runs.UsableRule(program.rule(number))
                 after = rule.after(values, free)
                 if rule.source != symbol or after is None:
                     broken.append((seed, number))
@@ -73,7 +73,33 @@ class Runs(unittest.TestCase):
                           (["C=1"], [f"A={2**63}"], ["--steps", "1000001"], ["--seed", "-1"])], [13, 13, 2, 2])
 
 
+def labelled(name):
+    return reports.read(examples.text(name)).labelled()
+
+
+def counted(program, run, labels):
+    """The numbers of a run beside the values of these bounds at its start."""
+    start = {name: abs(it) for name, it in zip(program.inputs, run.start)}
+    spent = list(zip([rule for rule, _ in run.steps], runs.costs(program, run, len(run.steps))))
+    numbers = {"total": sum(cost for _, cost in spent)}
+    for rule in program.rules:
+        of_rule = [cost for number, cost in spent if number == rule.number]
+        numbers.update({f"time {rule.number}": len(of_rule), f"cost {rule.number}": sum(of_rule)})
+        after = [values for number, _, values in runs.states(program, run, len(run.steps)) if number == rule.number]
+        numbers.update({f"size {rule.number}.{place}": max((abs(it[place - 1]) for it in after), default=0)
+                        for place in range(1, len(rule.updates) + 1)})
+    return {label: (numbers[label], str(bounds.value(bound, start))) for label, _, bound in labels}
+
+
 class Replays(unittest.TestCase):
+    def test_examples_are_counted_as_koat_counts_them(self):
+        for name in ("gcd", "stars"):
+            program = programs.read(examples.text(name, ".koat").encode())
+            run = runs.run_of(examples.text(name, ".run").encode())
+            self.assertEqual(examples.text(name, ".run").encode(), runs.text(run).encode(), name)
+            told = runs.read(examples.text(name, ".run.txt"), [it for it, _, _ in labelled(name)])
+            self.assertEqual((told.steps, told.beside), (len(run.steps), counted(program, run, labelled(name))), name)
+
     def test_what_koat_writes_is_read(self):
         labels = ["time 1", "time 2", "total", "size 1.1", "size 2.1"]
         text = COUNTED.replace("3 of 3\nt", "3 of unknown\nt").replace("2 of 3", "2 of 2^127 or more")

@@ -9,17 +9,17 @@ use Rattle.int_laws.proofs.RingLaws.{mul-add_ℤ, zero-mul_ℤ}
 use Rattle.int_laws.proofs.SumLaws.{sum_to-same, sum_to-add, sum_to-single, sum_to-zero}
 use Rattle.linear_forms.specs.LinearProgram.{LinearProgram}
 use Rattle.simplex_core.specs.Tableau.{Tableau, unknowns, cost_row}
-use Rattle.simplex_core.proofs.Invariant.{IsTableauOf}
 use Rattle.simplex_core.proofs.Points.{CommonScale, common_scale, point, dot-point}
 use Rattle.simplex_core.proofs.Rays.{ray, ray_value}
+use Rattle.bland_end.proofs.Canonical.{IsCanonical}
 use Rattle.bland_end.proofs.Kernels.{cost_at, Vanishes}
 
 -- a common multiple of the scales of a tableau's rows
-abbrev pub scales_of : (p : LinearProgram) (t : Tableau) → IsTableauOf p t → CommonScale p.rows t.scale
+abbrev pub scales_of : (p : LinearProgram) (t : Tableau) → IsCanonical p t → CommonScale p.rows t.scale
 scales_of p t h = common_scale p.rows t.scale (λ i l. h.positive i (omega arith))
 
 -- numbers times a direction: the column's own term, and one for each row
-pub direction-dot : (p : LinearProgram) (t : Tableau) (s : CommonScale p.rows t.scale) (c : ℕ) (a : ℕ → ℤ) → IsTableauOf p t
+pub direction-dot : (p : LinearProgram) (t : Tableau) (s : CommonScale p.rows t.scale) (c : ℕ) (a : ℕ → ℤ) → IsCanonical p t
     → c < suc (unknowns p)
     → dot (suc (unknowns p)) a (ray p t s c) ≡ a c *ℤ s.d +ℤ sum_to p.rows (λ i. a (t.basis i) *ℤ ray_value p t s c i)
 direction-dot p t s c a h l =
@@ -41,7 +41,7 @@ direction-dot p t s c a h l =
     both v w a b e f = omega (arith, ints)
 
 -- the same where of the basic columns only that of row i counts
-pub direction-own : (p : LinearProgram) (t : Tableau) (s : CommonScale p.rows t.scale) (c i : ℕ) (a : ℕ → ℤ) → IsTableauOf p t
+pub direction-own : (p : LinearProgram) (t : Tableau) (s : CommonScale p.rows t.scale) (c i : ℕ) (a : ℕ → ℤ) → IsCanonical p t
     → c < suc (unknowns p) → i < p.rows → ((k : ℕ) → k < p.rows → k ≢ i → a (t.basis k) ≡ pos 0)
     → dot (suc (unknowns p)) a (ray p t s c) ≡ a c *ℤ s.d +ℤ a (t.basis i) *ℤ ray_value p t s c i
 direction-own p t s c i a h l m zero =
@@ -50,7 +50,7 @@ direction-own p t s c i a h l m zero =
     (sum_to-single p.rows i (λ k. a (t.basis k) *ℤ ray_value p t s c k) m (λ k n d. zero-mul_ℤ _ _ (zero k n d)))
 
 -- the same where no basic column counts
-pub direction-none : (p : LinearProgram) (t : Tableau) (s : CommonScale p.rows t.scale) (c : ℕ) (a : ℕ → ℤ) → IsTableauOf p t
+pub direction-none : (p : LinearProgram) (t : Tableau) (s : CommonScale p.rows t.scale) (c : ℕ) (a : ℕ → ℤ) → IsCanonical p t
     → c < suc (unknowns p) → ((k : ℕ) → k < p.rows → a (t.basis k) ≡ pos 0)
     → dot (suc (unknowns p)) a (ray p t s c) ≡ a c *ℤ s.d
 direction-none p t s c a h l zero =
@@ -62,7 +62,7 @@ direction-none p t s c a h l zero =
     plus_zero z = omega (arith, ints)
 
 -- a direction vanishes at its tableau
-pub direction-vanishes : (p : LinearProgram) (t : Tableau) (s : CommonScale p.rows t.scale) (c : ℕ) → IsTableauOf p t
+pub direction-vanishes : (p : LinearProgram) (t : Tableau) (s : CommonScale p.rows t.scale) (c : ℕ) → IsCanonical p t
     → c < suc (unknowns p) → Vanishes p t (ray p t s c)
 direction-vanishes p t s c h l i m =
     direction-own p t s c i (t.entry i) h l m (λ k n d. h.other i k (omega arith) n (λ e. d (sym e)))
@@ -75,7 +75,7 @@ direction-vanishes p t s c h l i m =
         (constant (pos 0) ⊖ variable 0) (variable 2 ⊗ variable 1) (variable 3) f refl
 
 -- what a cost row gives at a direction of its tableau
-pub direction-cost : (p : LinearProgram) (t : Tableau) (s : CommonScale p.rows t.scale) (q c : ℕ) → IsTableauOf p t
+pub direction-cost : (p : LinearProgram) (t : Tableau) (s : CommonScale p.rows t.scale) (q c : ℕ) → IsCanonical p t
     → q < 3 → c < suc (unknowns p) → cost_at p t q (ray p t s c) ≡ t.entry (cost_row p q) c *ℤ s.d
 direction-cost p t s q c h few l =
     direction-none p t s c (t.entry (cost_row p q)) h l (λ k n. h.other (cost_row p q) k (omega arith) n (omega arith))

@@ -19,6 +19,7 @@ use Rattle.simplex_core.proofs.Choices.{tie}
 use Rattle.simplex_core.proofs.Leaving.{basis-apart}
 use Rattle.bland_end.specs.Bases.{IsBasic, HaveSameBasis}
 use Rattle.bland_end.proofs.Kernels.{cost_at}
+use Rattle.bland_end.proofs.Canonical.{IsCanonical, tableau-canonical}
 use Rattle.bland_end.proofs.Directions.{scales_of, direction-dot, direction-vanishes, direction-cost}
 use Rattle.bland_end.proofs.Steps.{AreZeroBefore, HasZeroSide, Step, weaker, zeros-after, zeros-before, basic-after}
 use Rattle.bland_end.proofs.Steps.{basic-before, basic-entered, not-basic, side-after, side-before}
@@ -168,6 +169,9 @@ module _ (p : LinearProgram) (a b : ℕ) (w : Walk p a b) (some_step : a < b) (s
     is_y : IsTableauOf p Y
     is_y = w.tableau y ly (omega arith)
 
+    canonical_y : IsCanonical p Y
+    canonical_y = tableau-canonical p Y is_y
+
     step_x : Step p X (w.column x) (w.row x) q
     step_x = subst (λ k. Step p X (w.column x) (w.row x) k) (one-chooser p a b w some_step same x lx mx) (w.step x lx mx)
 
@@ -175,7 +179,7 @@ module _ (p : LinearProgram) (a b : ℕ) (w : Walk p a b) (some_step : a < b) (s
     step_y = subst (λ k. Step p Y s (w.row y) k) (one-chooser p a b w some_step same y ly my) (w.step y ly my)
 
     abbrev scales : CommonScale p.rows Y.scale
-    scales = scales_of p Y is_y
+    scales = scales_of p Y canonical_y
 
     inside : s < suc (unknowns p)
     inside = let l = step_y.column in omega arith
@@ -258,7 +262,7 @@ module _ (p : LinearProgram) (a b : ℕ) (w : Walk p a b) (some_step : a < b) (s
     -- what cost row q of x gives at the direction isn't below 0
     not-falling : pos 0 ≤ℤ cost_at p X q (ray p Y scales s)
     not-falling =
-        subst (λ z. pos 0 ≤ℤ z) (sym (direction-dot p Y scales s (X.entry (cost_row p q)) is_y inside))
+        subst (λ z. pos 0 ≤ℤ z) (sym (direction-dot p Y scales s (X.entry (cost_row p q)) canonical_y inside))
         (sum _ _ (mul-nonneg_ℤ _ _ (cost-nonneg s lesser (y, ly, my, refl)) (weaker _ scales.positive)) (sum_to-nonneg p.rows term term-nonneg))
       where
         sum : (v z : ℤ) → pos 0 ≤ℤ v → pos 0 ≤ℤ z → pos 0 ≤ℤ (v +ℤ z)
@@ -267,7 +271,7 @@ module _ (p : LinearProgram) (a b : ℕ) (w : Walk p a b) (some_step : a < b) (s
     -- what cost row q of y gives there is
     falling : cost_at p Y q (ray p Y scales s) <ℤ pos 0
     falling =
-        less (Y.entry (cost_row p q) s) scales.d _ (direction-cost p Y scales q s is_y step_y.few inside) step_y.negative scales.positive
+        less (Y.entry (cost_row p q) s) scales.d _ (direction-cost p Y scales q s canonical_y step_y.few inside) step_y.negative scales.positive
       where
         less : (z d v : ℤ) → v ≡ z *ℤ d → z <ℤ pos 0 → pos 0 <ℤ d → v <ℤ pos 0
         less z d v e h k = below v (z *ℤ d) ((pos 0 -ℤ z) *ℤ d) e (mul-positive_ℤ (pos 0 -ℤ z) d (opposite z h) k)
@@ -284,7 +288,7 @@ module _ (p : LinearProgram) (a b : ℕ) (w : Walk p a b) (some_step : a < b) (s
     contradiction =
         clash _ _ _ _ falling not-falling (is_x.positive (cost_row p q) (let n = step_x.few in omega arith))
         (is_y.positive (cost_row p q) (let n = step_x.few in omega arith))
-        ((shares-any p a b w y x ly (omega arith) lx (omega arith)).costs q (ray p Y scales s) (direction-vanishes p Y scales s is_y inside))
+        ((shares-any p a b w y x ly (omega arith) lx (omega arith)).costs q (ray p Y scales s) (direction-vanishes p Y scales s canonical_y inside))
       where
         clash : (v z m n : ℤ) → v <ℤ pos 0 → pos 0 ≤ℤ z → pos 0 <ℤ m → pos 0 <ℤ n → v *ℤ m ≡ z *ℤ n → ⊥
         clash v z m n h k f g e =

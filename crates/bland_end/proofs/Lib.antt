@@ -1,4 +1,5 @@
 -- That no basis comes twice, and how many bases there are.
+pub mod Canonical
 pub mod Kernels
 pub mod Directions
 pub mod SameBases
@@ -7,10 +8,13 @@ pub mod Fractions
 pub mod Walks
 pub mod Fickle
 pub mod Sequences
+pub mod Pivoted
 pub mod Ranks
 pub mod Counts
 pub mod Binomials
 pub mod Budgets
+pub mod OneEnd
 pub mod WorkedBases
+pub mod WorkedPivots
 -- the lemmas of the crates below, which callers name through this one
 pub use Rattle.simplex_core.proofs as simplex_core

@@ -7,15 +7,14 @@ use Rattle.int_laws.proofs.Identities.{identity, identity_by_two}
 use Rattle.int_laws.proofs.OrderLaws.{mul-cancel_ℤ}
 use Rattle.linear_forms.specs.LinearProgram.{LinearProgram}
 use Rattle.simplex_core.specs.Tableau.{Tableau, unknowns, cost_row}
-use Rattle.simplex_core.proofs.Invariant.{IsTableauOf}
 use Rattle.simplex_core.proofs.Points.{CommonScale}
 use Rattle.simplex_core.proofs.Rays.{ray, ray_value}
-use Rattle.simplex_core.proofs.Leaving.{basis-apart}
 use Rattle.bland_end.specs.Bases.{HaveSameBasis}
+use Rattle.bland_end.proofs.Canonical.{IsCanonical, basic-unique}
 use Rattle.bland_end.proofs.Kernels.{cost_at, Shares}
 use Rattle.bland_end.proofs.Directions.{scales_of, direction-own, direction-none, direction-vanishes, direction-cost}
 
-module _ (p : LinearProgram) (t u : Tableau) (h : IsTableauOf p t) (g : IsTableauOf p u) (same : HaveSameBasis p t u)
+module _ (p : LinearProgram) (t u : Tableau) (h : IsCanonical p t) (g : IsCanonical p u) (same : HaveSameBasis p t u)
     (shares : Shares p t u) where
   -- rows that are solved for the same unknown have the same fractions
   pub rows-same : (i k c : ℕ) → c < suc (unknowns p) → i < p.rows → k < p.rows → t.basis i ≡ u.basis k
@@ -32,7 +31,7 @@ module _ (p : LinearProgram) (t u : Tableau) (h : IsTableauOf p t) (g : IsTablea
           let found = same.there (t.basis j) (j, lj, refl) in
           ap (λ (n : ℕ). u.entry k n) (sym found.2)
           ∙ g.other k found.0 (omega arith) found.1
-          (λ f. d (basis-apart p t j i h lj li (sym found.2 ∙ (ap (λ (n : ℕ). u.basis n) (sym f) ∙ sym e))))
+          (λ f. d (basic-unique p t j i h lj li (sym found.2 ∙ (ap (λ (n : ℕ). u.basis n) (sym f) ∙ sym e))))
 
       vanishes : u.entry k c *ℤ s.d +ℤ u.scale k *ℤ ((pos 0 -ℤ t.entry i c) *ℤ s.q i) ≡ pos 0
       vanishes =

@@ -2,16 +2,13 @@
 use Rattle.std.proofs.Common.{◌≡◌, ℕ, zero, suc, ◌<◌, ◌≤◌, ap, arith, refl, sym, ◌∙◌, subst, ◌⊎◌, inl, inr}
 use Rattle.std.proofs.Common.{Option, Some, None}
 use Rattle.std.proofs.lemmas.Bool.{cases_lt}
-use Rattle.std.specs.Prelude.{◌*ℤ◌}
 use Rattle.linear_forms.specs.LinearProgram.{LinearProgram}
-use Rattle.simplex_core.specs.Tableau.{Tableau, unknowns, cost_row, first_tableau, pivot}
+use Rattle.simplex_core.specs.Tableau.{Tableau, first_tableau, pivot}
 use Rattle.simplex_core.specs.Bland.{next, next_of, tableau_at}
 use Rattle.simplex_core.proofs.SequenceLaws.{tableau_at-is_tableau}
 use Rattle.bland_end.specs.Bases.{HaveSameBasis}
-use Rattle.bland_end.proofs.Kernels.{Shares}
-use Rattle.bland_end.proofs.SameBases.{rows-same, costs-same}
 use Rattle.bland_end.proofs.Steps.{Step, column_of, row_of, chooser_of, next-step}
-use Rattle.bland_end.proofs.Walks.{Walk, shares-any}
+use Rattle.bland_end.proofs.Walks.{Walk}
 use Rattle.bland_end.proofs.Fickle.{impossible}
 
 -- a tableau that is there, or the first
@@ -74,26 +71,3 @@ unfolding sequence-walk
 never-twice p a b t u l h k same =
     impossible p a b (sequence-walk p a b u k) l
     (subst (λ v. HaveSameBasis p v (seen p b)) (sym (seen-is p a t h)) (subst (λ v. HaveSameBasis p t v) (sym (seen-is p b u k)) same))
-
-module _ (p : LinearProgram) (a b : ℕ) (t u : Tableau) (h : tableau_at p a ≡ Some t) (k : tableau_at p b ≡ Some u) where
-  -- at two tableaux of the sequence the same vanishes
-  sequence-shares : Shares p t u
-  unfolding sequence-walk
-  sequence-shares =
-      subst (λ v. Shares p v u) (seen-is p a t h) (subst (λ v. Shares p (seen p a) v) (seen-is p b u k) (go (cases_lt a b)))
-    where
-      go : (a < b) ⊎ (b ≤ a) → Shares p (seen p a) (seen p b)
-      go (inl l) = shares-any p 0 b (sequence-walk p 0 b u k) a b (omega arith) (omega arith) (omega arith) (omega arith)
-      go (inr l) = shares-any p 0 a (sequence-walk p 0 a t h) a b (omega arith) (omega arith) (omega arith) (omega arith)
-
-  -- with the same basis they have the same fractions in rows that are solved for the same unknown
-  pub sequence-rows : HaveSameBasis p t u → (i j c : ℕ) → i < p.rows → j < p.rows → t.basis i ≡ u.basis j → c ≤ unknowns p
-      → t.entry i c *ℤ u.scale j ≡ u.entry j c *ℤ t.scale i
-  sequence-rows same i j c li lj e lc =
-      rows-same p t u (tableau_at-is_tableau p a t h) (tableau_at-is_tableau p b u k) same sequence-shares i j c (omega arith) li lj e
-
-  -- and in the cost rows
-  pub sequence-costs : HaveSameBasis p t u → (q c : ℕ) → q < 3 → c < unknowns p
-      → t.entry (cost_row p q) c *ℤ u.scale (cost_row p q) ≡ u.entry (cost_row p q) c *ℤ t.scale (cost_row p q)
-  sequence-costs same q c few lc =
-      costs-same p t u (tableau_at-is_tableau p a t h) (tableau_at-is_tableau p b u k) same sequence-shares q c few (omega arith)

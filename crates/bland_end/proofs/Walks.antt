@@ -14,6 +14,7 @@ use Rattle.simplex_core.specs.Tableau.{Tableau, unknowns, cost_row, pivot}
 use Rattle.simplex_core.proofs.Regions.{pivot-other, pivot-other_scale}
 use Rattle.simplex_core.proofs.Invariant.{IsTableauOf}
 use Rattle.bland_end.specs.Bases.{HaveSameBasis}
+use Rattle.bland_end.proofs.Canonical.{tableau-canonical}
 use Rattle.bland_end.proofs.Kernels.{Shares, shares-self, shares-sym, shares-pivot}
 use Rattle.bland_end.proofs.SameBases.{costs-same}
 use Rattle.bland_end.proofs.Steps.{AreZeroBefore, IsBlocked, Step, factor_zero, weaker, blocked-after, not-blocked}
@@ -119,7 +120,8 @@ module _ (p : LinearProgram) (a b : ℕ) (w : Walk p a b) where
     ends-same : (k c : ℕ) → k < 3 → c < suc (unknowns p)
         → (w.at a).entry (cost_row p k) c *ℤ (w.at b).scale (cost_row p k) ≡ (w.at b).entry (cost_row p k) c *ℤ (w.at a).scale (cost_row p k)
     ends-same =
-        costs-same p (w.at a) (w.at b) (w.tableau a (omega arith) (omega arith)) (w.tableau b (omega arith) (omega arith)) same
+        costs-same p (w.at a) (w.at b) (tableau-canonical p (w.at a) (w.tableau a (omega arith) (omega arith)))
+        (tableau-canonical p (w.at b) (w.tableau b (omega arith) (omega arith))) same
         (shares-any a b (omega arith) (omega arith) (omega arith) (omega arith))
 
     -- the first column may enter at the end too

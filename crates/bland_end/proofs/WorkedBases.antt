@@ -68,6 +68,8 @@ counted = record {
   no_rows = λ n. refl;
   below = λ n e. ap below_limit (seventeen n e);
   above = λ n e. ap below_limit (eighteen n e);
+  greatest = refl;
+  past = refl;
 }
 
 pub compared : BasesAreCompared

@@ -1,4 +1,4 @@
--- How many bases a linear program has.
+-- A limit on how many bases a linear program has: the sets of as many unknowns as there are rows.
 use Rattle.std.specs.Prelude.{ℕ, zero, suc, ◌+◌, ◌^◌, nat_lt, Option, Some, None, if◌then◌else◌}
 use Rattle.linear_forms.specs.LinearProgram.{LinearProgram}
 
@@ -8,8 +8,8 @@ choose n zero = 1
 choose zero (suc k) = 0
 choose (suc n) (suc k) = choose n k + choose n (suc k)
 
--- how many sets of as many unknowns as there are rows there are, the artificial unknowns among them: at most so many
--- bases have the tableaux of a program
+-- how many sets of as many unknowns as there are rows there are, the artificial unknowns among them: a program has at
+-- most so many bases, since not each of these sets is one
 abbrev pub bases_of : LinearProgram → ℕ
 bases_of p = choose (p.columns + p.rows) p.rows
 

@@ -1,9 +1,10 @@
 -- What `solve_whole` answers: the end of the sequence of tableaux, or why it isn't reached.
-use Rattle.std.specs.Prelude.{◌≡◌, ◌^◌, ◌<◌, ◌≤◌, Result, MatchResult}
+use Rattle.std.specs.Prelude.{◌≡◌, ◌^◌, ◌<◌, ◌≤◌, Result, Ok, Err, MatchResult, ◌⊎◌}
 use Rattle.linear_forms.specs.LinearProgram.{LinearProgram}
 use Rattle.simplex_core.specs.declared.problem.Solved.{Solved}
 use Rattle.simplex_core.specs.Problem.{table_size, widest}
 use Rattle.simplex_core.specs.Outcome.{IsEnd, TripsRange}
+use Rattle.simplex_core.specs.Agreement.{IsSameEnd}
 use Rattle.bland_end.specs.declared.whole.WholeError.{WholeError}
 use Rattle.bland_end.specs.declared.whole.WholeError.TheVariants.{Range, Wide, TooMany, Memory}
 use Rattle.bland_end.specs.Counting.{bases_of}
@@ -20,3 +21,17 @@ IsWholeStop p Memory = Unit {0}
 abbrev pub IsWholeEnd : LinearProgram → Result Solved WholeError → Type 0
 IsWholeEnd p result =
     MatchResult result (λ s. (bases_of p < 2 ^ 32) × (table_size p ≤ widest) × IsEnd p (bases_of p) s) (IsWholeStop p)
+
+-- memory ran out
+abbrev pub IsWantOfMemory : WholeError → Type 0
+IsWantOfMemory (Range k) = ⊥
+IsWantOfMemory (Wide n) = ⊥
+IsWantOfMemory TooMany = ⊥
+IsWantOfMemory Memory = Unit {0}
+
+-- two answers are the same end or the same reason, or memory ran out in one of them
+abbrev pub IsSameWholeEnd : Result Solved WholeError → Result Solved WholeError → Type 0
+IsSameWholeEnd (Ok s) (Ok t) = IsSameEnd s t
+IsSameWholeEnd (Ok s) (Err e) = IsWantOfMemory e
+IsSameWholeEnd (Err d) (Ok t) = IsWantOfMemory d
+IsSameWholeEnd (Err d) (Err e) = (d ≡ e) ⊎ (IsWantOfMemory d ⊎ IsWantOfMemory e)

@@ -1,5 +1,5 @@
 -- Bases and their numbers, worked out by hand.
-use Rattle.std.specs.Prelude.{◌≡◌, ◌≢◌, ℕ, zero, suc, ◌+◌, pos, Some, None}
+use Rattle.std.specs.Prelude.{◌≡◌, ◌≢◌, ℕ, zero, suc, ◌+◌, ◌-◌, ◌^◌, pos, Some, None}
 use Rattle.linear_forms.specs.LinearProgram.{LinearProgram}
 use Rattle.simplex_core.specs.Tableau.{Tableau}
 use Rattle.simplex_core.specs.Bland.{tableau_at}
@@ -38,13 +38,15 @@ pub record SetsAreCounted : Type 0 where
   pub past : choose 2 3 ≡ 0
   pub empty : (n : ℕ) → choose n 0 ≡ 1
 
--- 2 rows and 3 columns have 10 bases, and no rows one basis; 17 rows have 2,333,606,220 with 17 columns, which is below
--- 2^32, and 4,537,567,650 with 18
+-- for 2 rows and 3 columns 10 is the limit, and for no rows 1; 17 rows have 2,333,606,220 with 17 columns, which is
+-- below 2^32, and 4,537,567,650 with 18; 2^32-1 is a limit, and 2^32 isn't
 pub record BasesAreCounted : Type 0 where
   pub few : bases_of (sums 2 3) ≡ 10
   pub no_rows : (n : ℕ) → bases_of (sums 0 n) ≡ 1
   pub below : (n : ℕ) → n ≡ 17 → below_limit (choose (n + 17) 17) ≡ Some 2333606220
   pub above : (n : ℕ) → n ≡ 18 → below_limit (choose (n + 17) 17) ≡ None
+  pub greatest : below_limit (2 ^ 32 - 1) ≡ Some (2 ^ 32 - 1)
+  pub past : below_limit (2 ^ 32) ≡ None
 
 -- of two rows the order doesn't matter for the basis, but the unknowns do
 pub record BasesAreCompared : Type 0 where

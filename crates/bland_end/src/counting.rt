@@ -1,4 +1,4 @@
-//! How many bases a linear program has.
+//! A limit on how many bases a linear program has.
 
 ghost use Rattle.std.specs.Prelude.{◌≡◌, ◌+◌};
 ghost use Rattle.simplex_core.specs.Problem.{program_of};
@@ -6,8 +6,8 @@ ghost use Rattle.bland_end.specs.Counting.{choose, bases_of, below_limit};
 
 use simplex_core::Problem;
 
-/// How many bases a linear program can have: of its columns and one artificial unknown for each row, so many sets of as
-/// many as there are rows. None exactly where there are at least 2^32.
+/// How many bases a linear program has at most: so many sets of as many unknowns as there are rows, of its columns and
+/// one artificial unknown for each row. None exactly where there are at least 2^32 of them.
 pub fn bases(problem: &Problem) -> Option<u32>
     ensures { result ≡ below_limit (bases_of (program_of problem.now)) }
 {
@@ -19,7 +19,7 @@ pub fn bases(problem: &Problem) -> Option<u32>
 }
 
 /// How many sets of `chosen` of `others` and `chosen` things there are, if there are fewer than 2^32. Where `chosen` is
-/// the lesser number, the loop ends after 17 turns: from 17 others on there are too many sets then.
+/// the lesser number, the loop ends after at most 17 turns: with 18 others the 17th turn already finds too many sets.
 fn count_sets(others: u32, chosen: u32) -> Option<u32>
     ensures { result ≡ below_limit (choose (others + chosen) chosen) }
 {

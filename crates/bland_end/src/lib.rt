@@ -9,7 +9,7 @@ mod whole;
 
 pub use counting::bases;
 pub use laws::{
-    bases_are_worked_out, bases_decide_tableaux, bases_suffice, no_basis_comes_twice,
-    pivots_are_few,
+    bases_are_worked_out, bases_decide_tableaux, bases_suffice, ends_are_one, no_basis_comes_twice,
+    pivots_are_few, pivots_are_worked_out,
 };
 pub use whole::{WholeError, solve_whole};

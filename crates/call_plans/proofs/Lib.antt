@@ -9,3 +9,4 @@ pub mod Faults
 pub mod Fetched
 pub mod Behind
 pub mod Worked
+pub mod WorkedPairs

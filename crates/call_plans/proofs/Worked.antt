@@ -23,10 +23,10 @@ use Rattle.call_plans.proofs.Faults.{honest_without_rise}
 use Rattle.call_plans.proofs.OneEnding.{answer_unique, ends_unique}
 
 -- the file `f` of these contents
-has : (bytes : List ℕ) → get (with_bytes bytes) (codes "f") ≡ Some bytes
+pub has : (bytes : List ℕ) → get (with_bytes bytes) (codes "f") ≡ Some bytes
 has bytes = get-insert nat_list_cmp_total empty (codes "f") bytes (codes "f")
 
-lacks : get with_another (codes "f") ≡ None
+pub lacks : get with_another (codes "f") ≡ None
 lacks = get-insert nat_list_cmp_total empty (codes "g") (codes "n") (codes "f") ∙ get-empty (slice_cmp nat_cmp) (codes "f")
 
 has_one : (bytes others : List ℕ) → get (with_bytes bytes) (codes "f") ≡ Some others → bytes ≡ others
@@ -43,7 +43,7 @@ never_more bytes few more =
     omega (arith, few, long)
 
 -- nothing has risen
-steady : ¬ (Rose 2 2)
+pub steady : ¬ (Rose 2 2)
 steady (inl more) = omega (arith, more)
 steady (inr most) = omega (arith, most)
 
@@ -55,7 +55,7 @@ rest_one : (rest others : List ℕ) → ◌≡◌ {A = List ℕ} (110 ∷ rest) 
 rest_one rest others e = cc
 
 -- the toy kind is decided
-counts_decided : IsDecided counts
+pub counts_decided : IsDecided counts
 counts_decided = record {
   one = λ bytes a b h k. h.1.1 ∙ (ap length (rest_one h.0 k.0 (sym h.1.0 ∙ k.1.0)) ∙ sym k.1.1);
   one_refusal = λ bytes x y h k. h.1 ∙ sym k.1;
@@ -83,7 +83,7 @@ toy_lawful = (
 )
 
 -- two disclosed counts that are the same
-some_one : (a b : ℕ) → ◌≡◌ {A = Option ℕ} (Some a) (Some b) → a ≡ b
+pub some_one : (a b : ℕ) → ◌≡◌ {A = Option ℕ} (Some a) (Some b) → a ≡ b
 some_one a b e = cc
 
 -- each file is answered
@@ -100,7 +100,7 @@ long = Without refl (OverLimit (record {
   ends = refl;
 }))
 
-not_n : (rest : List ℕ) → ¬ (◌≡◌ {A = List ℕ} (codes "m") (110 ∷ rest))
+pub not_n : (rest : List ℕ) → ¬ (◌≡◌ {A = List ℕ} (codes "m") (110 ∷ rest))
 not_n rest e = omega (arith, ap (λ (bytes : List ℕ). get_or bytes 0 0) e)
 
 bad : Said (with_bytes (codes "m")) 1 ProgramRefused (codes "bad")

@@ -11,5 +11,6 @@ pub mod Endings
 pub mod Lawful
 -- values that were worked out by hand
 pub mod Worked
+pub mod WorkedPairs
 -- what the contracts of the functions inside cite
 pub mod Steps

@@ -3,13 +3,15 @@
 /// The status with which the program ends. Its number is its place in this list, from 0.
 #[derive(Clone, Copy, Debug, PartialEq, Eq)]
 pub enum Status {
-    /// With `analyse`, the report was written, with `facts`, the facts and the report, and with `prove`, the proof
-    /// file; every rule has a time. With `selfrun`, its figures were written, and every rule of the generated program
-    /// has a time. With `check`, the proof is accepted, and its facts were written. With `replay`, the tally along the
-    /// run was written, and with `generate`, the program's text.
+    /// With `analyse`, the report was written, with `facts`, the facts and the report, with `prove`, the proof file, and
+    /// with `selfrun`, the figures of the generated program; every rule has a time, and every rule with a cost a bound on
+    /// it. With `check`, the proof is accepted, and its facts were written. With `replay`, the tally along the run was
+    /// written, with `lasso`, the rules of a turn that leads back, with `generate`, the program's text, and with `lp`, the
+    /// end of the simplex method.
     Done,
     /// With `analyse`, the report was written, with `facts`, the facts and the report, with `prove`, the proof file,
-    /// and with `selfrun`, its figures; some rule has no time.
+    /// and with `selfrun`, its figures; some rule has no time, or some rule with a cost no bound on it. With `lp`, the end
+    /// isn't reached, and why was written.
     Unknown,
     /// The words are no command line.
     Usage,
@@ -19,15 +21,16 @@ pub enum Status {
     WriteFault,
     /// Memory ran out. Nothing was written.
     Memory,
-    /// The program text is refused.
+    /// The program text is refused, or with `lp` that of the linear program.
     ProgramRefused,
     /// With `check`, the program was read, and the proof text is refused.
     ProofRefused,
     /// With `check`, both were read, and the proof isn't accepted.
     No,
-    /// With `replay`, the program was read, and the run text is refused.
+    /// With `replay` and `lasso`, the program was read, and the text of the run, or of the lasso, is refused.
     RunRefused,
-    /// With `replay`, both were read, and the steps are no run within 128 bits.
+    /// With `replay` and `lasso`, both were read, and the steps are no run within 128 bits; or, with `lasso`, its turn
+    /// leads elsewhere.
     NotARun,
 }
 

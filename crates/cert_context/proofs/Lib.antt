@@ -3,8 +3,8 @@ pub mod Cuts
 -- the prepared rows of rules
 pub mod Rows
 pub mod SuitedRows
--- costs
-pub mod WrittenCosts
+-- the prepared rows of cost rules
+pub mod PreparedCosts
 -- facts of places
 pub mod PlaceFacts
 -- facts that are kept

@@ -7,6 +7,6 @@ use Rattle.cert_types.specs.cert_rules.Nodes.{ResultVariable}
 abbrev pub HasTime : Table → ℕ → Type 0
 HasTime table t = IsKnown (table.time t)
 
--- a size of the spot is known
+-- a size of the result variable is known
 abbrev pub HasSize : Table → ResultVariable → Type 0
 HasSize table result_variable = IsKnown (table.size result_variable.rule result_variable.place)

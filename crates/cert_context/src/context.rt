@@ -6,7 +6,7 @@ ghost use Rattle.its_model.specs.Valid.{IsValid};
 ghost use Rattle.its_model.specs.Views.{program_of};
 ghost use Rattle.model.specs.Costs.{HasCost};
 ghost use Rattle.poly_terms.specs.Views.{form_of};
-ghost use Rattle.cert_context.specs.CostRows.{IsPreparedCostRule};
+ghost use Rattle.cost_nodes.specs.CostRules.{IsPreparedCostRule};
 ghost use Rattle.cert_context.specs.CheckContexts.{IsCheckContext, program, setting};
 ghost use Rattle.cert_context.specs.SuitedRows.{HasPlaces, IsPreparedRuleOf, SuitsSideBounds, SuitsGoals};
 ghost use Rattle.cert_types.specs.Composing.{AreRowsOf};
@@ -20,7 +20,8 @@ use its_model::Program;
 use model::Memory;
 use std::alloc::Global;
 
-/// A program, with the rows of each of its rules, in order, those of the cost rule of each that has a cost, and its graph.
+/// A program, with the rows of each of its rules, in order, those of the cost rule of each that has a cost, and its
+/// graph.
 #[derive(Drop)]
 pub struct CheckContext<'a> {
     pub program: &'a Program,

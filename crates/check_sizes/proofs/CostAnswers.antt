@@ -61,7 +61,7 @@ module _ (p : Program) (table : Table) (t : ℕ) (side_bound : SideBound) where
   abbrev result_variables : List ResultVariable
   result_variables = needed_at_cost (setting_of p) t side_bound (pre p t)
 
-  -- an arm isn't accepted; its rule has no time; a place that it reads has no size; what is composed is too large
+  -- a side bound isn't accepted; its rule has no time; a place that it reads has no size; what is composed is too large
   pub no-side_bound : ¬ (AcceptsCostSideBound (setting_of p) t side_bound) → IsFirstAmong (cost_checks_by (setting_of p) table t (SideBoundCost side_bound)) (SideBoundUp t 0)
   no-side_bound n = inl (n, refl)
 

@@ -1,6 +1,6 @@
--- what arms ask for
+-- what side bounds ask for
 mod SideBoundGoals
--- arms over prepared rows
+-- side bounds over prepared rows
 mod SideBoundsOver
 -- members
 mod MemberShapes

@@ -1,4 +1,4 @@
--- Members of the rules of a program: their spots, and lists of them.
+-- Members of the rules of a program: their result variables, and lists of them.
 use Rattle.std.proofs.Common.{◌≡◌, ℕ, zero, suc, ◌+◌, ◌-◌, ◌<◌, ◌≤◌, List, [], ◌∷◌, length, map, get_or, Some, None, sym, ap, ◌∙◌, subst}
 use Rattle.std.proofs.Common.{arith, ◌⊎◌, inl, inr, nat_eq, false}
 use Rattle.std.proofs.lemmas.Bool.{cases_lt as order}
@@ -13,7 +13,7 @@ use Rattle.cert_types.specs.cert_rules.AcceptsSizes.{AreAscending, ComesBefore, 
 use Rattle.cert_types.specs.cert_rules.Nodes.{ResultVariable}
 
 module _ (p : Program) (result_variable : ResultVariable) where
-  -- a spot is a place of the target of its rule
+  -- a result variable is a place of the target of its rule
   pub result_variable-is : (r : Rule) → rule_at p result_variable.rule ≡ Some r → 1 ≤ result_variable.place → result_variable.place ≤ arity_of p r.target → IsResultVariable p result_variable
   result_variable-is r e l m = record { rule = r; numbered = e; least = l; most = m }
 
@@ -81,7 +81,7 @@ target-is p zero r e = absurd (none e)
 target-is p (suc t) r e = ap target_in e
 
 module _ (p : Program) (result_variable : ResultVariable) (is : IsRule p result_variable.rule) where
-  -- a spot of a rule with this target is a place of it, and no other is
+  -- a result variable of a rule with this target is a place of it, and no other is
   pub result_variable-at : (target : ℕ) → Some target ≡ target_of p result_variable.rule → (1 ≤ result_variable.place) × (result_variable.place ≤ arity_of p target)
       → IsResultVariable p result_variable
   result_variable-at target e h =

@@ -24,7 +24,7 @@ module _ (s : Setting) (t : ℕ) (m : RuleRows) (own : IsPreparedRuleOf s t m) w
   rows-count : length m.rows.items ≡ length (s.rows t)
   rows-count = sym (length-map m.rows.items form_of) ∙ ap length own.rows
 
-  -- the numbers of an arm are right for the rows and left places of a rule where its shape is
+  -- the numbers of a side bound are right for the rows and left places of a rule where its shape is
   pub numbers-shape : (side_bound : SideBound) → HasSideBoundNumbers (length m.rows.items) m.left side_bound → HasSideBoundShape s t (left_of s.program t) side_bound
   numbers-shape (Linear den f ms) h = record {
     over = h.over;

@@ -68,7 +68,7 @@ module _ (s : Setting) (table : Table) (m : Member) where
   pub spread-shape : ¬ (HasMemberShape s m) → IsFirstAmong (spread_checks s table m) Shape
   spread-shape n = inl (n, refl)
 
-  -- its up arm isn't accepted, or its low arm
+  -- its upper side bound isn't accepted, or its lower side bound
   pub spread-up : HasMemberShape s m → ¬ (AcceptsUp s m) → IsFirstAmong (spread_checks s table m) (SideBoundUp m.result_variable.rule m.result_variable.place)
   spread-up h n = inr (h, inl (n, refl))
 
@@ -109,7 +109,7 @@ module _ (s : Setting) (table : Table) (ms : List Member) where
   pub cycle-shape : ¬ (HasCycleShape s ms) → IsFirstAmong (cycle_checks s table ms) Shape
   cycle-shape n = inl (n, refl)
 
-  -- the first member whose up arm isn't accepted, or whose low arm isn't
+  -- the first member whose upper side bound isn't accepted, or whose lower side bound isn't
   pub cycle-up : HasCycleShape s ms → (m : Member) → IsFirstFailing (AcceptsUp s) ms m
       → IsFirstAmong (cycle_checks s table ms) (SideBoundUp m.result_variable.rule m.result_variable.place)
   cycle-up h m k = inr (h, first-of-each (check_up s) _ ms m k)

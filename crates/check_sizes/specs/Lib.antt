@@ -1,4 +1,4 @@
--- arms over the prepared rows of a rule
+-- side bounds over the prepared rows of a rule
 pub mod SideBounds
 -- what nodes on sizes state
 pub mod SizeAnswers

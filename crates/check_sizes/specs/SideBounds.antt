@@ -1,4 +1,4 @@
--- When arms are certified by the prepared rows of a rule.
+-- When side bounds are certified by the prepared rows of a rule.
 use Rattle.std.specs.Prelude.{◌≡◌, ℕ, ◌-◌, ◌≤◌, List, length, map, ℤ, pos, neg_ℤ, Option, Some, None, ⊤}
 use Rattle.guard_prep.specs.declared.rule_rows.RuleRows.{RuleRows}
 use Rattle.model.specs.Polynomials.{Polynomial}
@@ -15,7 +15,7 @@ use Rattle.check_sizes.specs.declared.side_bound_numbers.LinearSideBound.{Linear
 use Rattle.check_sizes.specs.declared.side_bounds.Side.{Side}
 use Rattle.check_sizes.specs.declared.side_bounds.Side.TheVariants as side
 
--- the numbers of a linear arm are right for this many rows and left places
+-- the numbers of a linear side bound are right for this many rows and left places
 pub record HasLinearNumbers (rows left den : ℕ) (form : Form) (multipliers : List ℕ) : Type 0 where
   pub over : 1 ≤ den
   pub den_limit : IsInLimit den
@@ -24,16 +24,16 @@ pub record HasLinearNumbers (rows left den : ℕ) (form : Form) (multipliers : L
   pub one_each : length multipliers ≡ rows
   pub within : AreInLimit multipliers
 
--- the form of a linear arm
+-- the form of a linear side bound
 abbrev pub form_in : LinearSideBound → Form
 form_in side_bound = record { coefs = side_bound.coefs.now; constant = side_bound.constant }
 
--- and those of an arm; a polynomial arm has none
+-- and those of a side bound; a polynomial side bound has none
 abbrev pub HasSideBoundNumbers : ℕ → ℕ → SideBound → Type 0
 HasSideBoundNumbers rows left (Linear den form multipliers) = HasLinearNumbers rows left den form multipliers
 HasSideBoundNumbers rows left Poly = ⊤
 
--- the side of an arm as plain data
+-- a side as plain data
 abbrev pub side_of : Side → nodes.Side
 side_of side.Up = nodes.Up
 side_of side.Low = nodes.Low
@@ -48,8 +48,8 @@ abbrev pub IsLeftAlone : ℕ → Option Polynomial → Type 0
 IsLeftAlone left None = ⊥
 IsLeftAlone left (Some q) = ReadsLeft left q
 
--- the prepared rows of a rule implies an arm over the new value at a place, counted from 1; or the update there is its
--- own polynomial, in left variables
+-- the prepared rows of a rule imply a side bound over the new value at a place, counted from 1; or the update there is
+-- its own polynomial, in left variables
 abbrev pub IsSideBoundOver : RuleRows → ℕ → nodes.Side → SideBound → Type 0
 IsSideBoundOver m place s (Linear den form multipliers) =
     Implies (map form_of m.rows.items) multipliers

@@ -19,7 +19,7 @@ use model::Memory;
 use size_nodes::sized_cycle;
 use std::alloc::Global;
 
-// Whether a spot comes before another.
+// Whether a result variable comes before another.
 fn comes_before(first: ResultVariable, second: ResultVariable) -> bool
     ensures { IsTrue result ↔ ComesBefore (result_variable_of first) (result_variable_of second) }
 {
@@ -74,7 +74,7 @@ fn has_cycle_shape(context: &CheckContext, members: &[Member]) -> bool
     have_member_shapes(context, members)
 }
 
-// The first member whose up arm isn't accepted.
+// The first member whose upper side bound isn't accepted.
 fn first_refused_up<'a>(
     alloc: Global,
     context: &CheckContext,
@@ -95,7 +95,7 @@ fn first_refused_up<'a>(
     Ok(None)
 }
 
-// The first member whose low arm isn't accepted.
+// The first member whose lower side bound isn't accepted.
 fn first_refused_low<'a>(
     alloc: Global,
     context: &CheckContext,

@@ -1,4 +1,4 @@
-//! Checks members by themselves: their shapes and their arms.
+//! Checks members by themselves: their shapes and their side bounds.
 
 ghost use Rattle.std.specs.Prelude.{◌↔◌, ◌≤◌, map, IfOk, IsTrue, MatchOption};
 ghost use Rattle.std.specs.List.{AllByRecursion};
@@ -17,7 +17,7 @@ use its_model::Program;
 use model::Memory;
 use std::alloc::Global;
 
-// Whether a spot is a place of the target of a rule.
+// Whether a result variable is a place of the target of a rule.
 fn is_result_variable(p: &Program, result_variable: ResultVariable) -> bool
     ensures { IsTrue result ↔ IsResultVariable (program_of p.now) (result_variable_of result_variable) }
 {
@@ -50,7 +50,7 @@ pub(crate) fn has_member_shape(context: &CheckContext, member: &Member) -> bool
         && has_side_bound_numbers(&member.local.low, rows.left, rows.rows.len())
 }
 
-/// Whether the up arm of a member is accepted.
+/// Whether the upper side bound of a member is accepted.
 ///
 /// # Errors
 ///
@@ -74,7 +74,7 @@ pub(crate) fn accepts_up(
     )
 }
 
-/// Whether its low arm is.
+/// Whether the lower side bound of a member is accepted.
 ///
 /// # Errors
 ///

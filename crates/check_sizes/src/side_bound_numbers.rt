@@ -1,4 +1,4 @@
-//! Checks the numbers of arms.
+//! Checks the numbers of side bounds.
 
 ghost use Rattle.std.specs.Prelude.{◌↔◌, IsTrue};
 ghost use Rattle.check_sizes.specs.SideBounds.{HasSideBoundNumbers, HasLinearNumbers, form_in};
@@ -8,7 +8,7 @@ use cert_context::{are_within, are_within_limit, is_within};
 use cert_types::SideBound;
 use farkas_cert::LIMIT;
 
-/// The numbers of a linear arm: a form over a denominator, and the multipliers of the rows that certify it.
+/// The numbers of a linear side bound: a form over a denominator, and the multipliers of the rows that certify it.
 #[derive(Clone, Copy)]
 pub(crate) struct LinearSideBound<'a> {
     pub den: u64,
@@ -17,7 +17,7 @@ pub(crate) struct LinearSideBound<'a> {
     pub multipliers: &'a [u64],
 }
 
-/// Whether the numbers of an arm are right for this many left places and rows.
+/// Whether the numbers of a side bound are right for this many left places and rows.
 pub(crate) fn has_side_bound_numbers(side_bound: &SideBound, left: u32, rows: usize) -> bool
     ensures { IsTrue result ↔ HasSideBoundNumbers rows left (side_bound_of side_bound.now) }
 {
@@ -40,7 +40,7 @@ pub(crate) fn has_side_bound_numbers(side_bound: &SideBound, left: u32, rows: us
     }
 }
 
-// Whether those of a linear arm are.
+// Whether those of a linear side bound are.
 fn has_linear_numbers(side_bound: &LinearSideBound, left: u32, rows: usize) -> bool
     ensures { IsTrue result
         ↔ HasLinearNumbers rows left side_bound.now.den (form_in side_bound.now) side_bound.now.multipliers.now }

@@ -1,4 +1,4 @@
-//! The row that an arm needs from the rows of a rule.
+//! The row that a side bound needs from the rows of a rule.
 
 ghost use Rattle.std.specs.Prelude.{◌≡◌, ◌≤◌, ◌<◌, ◌+ℤ◌, ◌*ℤ◌, length, map, IfOk, nat_abs, unsigned_abs};
 ghost use Rattle.std.specs.List.{All};
@@ -30,7 +30,7 @@ fn factor(side: Side, den: u64) -> i128
     }
 }
 
-// The number of an arm, and that of the new value times a factor.
+// The number of a side bound, and that of the new value times a factor.
 fn goal_number(own: i64, value: i128, times: i128) -> i128
     requires own_small { unsigned_abs own ≤ certificate_limit }
     requires value_small { unsigned_abs value < row_limit }
@@ -83,7 +83,7 @@ fn goal_coefs(
     Ok(goal)
 }
 
-/// The form that has to be at least 0 for a linear arm over a new value, as a row over this many unknowns.
+/// The form that has to be at least 0 for a linear side bound over a new value, as a row over this many unknowns.
 ///
 /// # Errors
 ///

@@ -1,4 +1,4 @@
-//! Checks whether arms are accepted, by the prepared rows of a rule.
+//! Checks whether side bounds are accepted, by the prepared rows of a rule.
 
 ghost use Rattle.std.specs.Prelude.{◌↔◌, ◌≤◌, ◌<◌, length, map, IfOk, IsTrue};
 ghost use Rattle.std.specs.List.{All};
@@ -20,7 +20,7 @@ use model::Memory;
 use poly_terms::{Monomial, Poly, Row};
 use std::alloc::Global;
 
-/// The side of an arm.
+/// The side that a side bound is for.
 #[derive(Clone, Copy, Debug)]
 pub(crate) enum Side {
     /// Over the new value.
@@ -64,7 +64,7 @@ fn is_left_alone(poly: Option<&Poly>, left: u32) -> bool
     }
 }
 
-// Whether the rows imply a linear arm over a new value.
+// Whether the rows imply a linear side bound over a new value.
 fn implies_side_bound(
     alloc: Global,
     rows: &RuleRows,
@@ -85,7 +85,7 @@ fn implies_side_bound(
     Ok(implies(&rows.rows, side_bound.multipliers, &goal))
 }
 
-/// Whether an arm over the new value at a place, counted from 1, is accepted.
+/// Whether a side bound over the new value at a place, counted from 1, is accepted.
 ///
 /// # Errors
 ///

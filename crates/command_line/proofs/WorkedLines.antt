@@ -4,10 +4,11 @@ use Rattle.command_line.specs.declared.command.Command.TheVariants as commands
 use Rattle.command_line.specs.declared.task.ProgramTask.{ProgramTask}
 use Rattle.command_line.specs.declared.task.PairTask.{PairTask}
 use Rattle.command_line.specs.declared.task.NumberTask.{NumberTask}
+use Rattle.command_line.specs.declared.task.FileTask.{FileTask}
 use Rattle.command_line.specs.Lines.{Word, Words, Apart, Joined, Positional, Gives}
 use Rattle.command_line.specs.Numerals.{IsNumber}
-use Rattle.command_line.specs.Requests.{OfProgram, OfPair, OfNumber, Analyse, Prove, Facts, Check, Replay, Generate}
-use Rattle.command_line.specs.Requests.{Selfrun, word_of, AllowsPivots, Asks}
+use Rattle.command_line.specs.Requests.{OfProgram, OfPair, OfNumber, Analyse, Prove, Facts, Check, Replay, Lasso, Generate}
+use Rattle.command_line.specs.Requests.{OfFile, Selfrun, Lp, word_of, AllowsPivots, Asks}
 use Rattle.command_line.specs.Worked.{CommandLines}
 use Rattle.command_line.proofs.Firsts.{gives_of as line}
 
@@ -33,6 +34,18 @@ of_pair task others file second g = record {
   command = refl;
   gives = g;
   parts = record { no_option = refl; two = refl };
+}
+
+-- behind one with a file alone, without it
+of_file : (task : FileTask) (others : Words) (file : Word) → Gives others [] (file ∷ [])
+    → Asks (word_of (commands.OfFile task) ∷ others) (OfFile task file)
+of_file task others file g = record {
+  others = others;
+  values = [];
+  positionals = file ∷ [];
+  command = refl;
+  gives = g;
+  parts = record { no_option = refl; one = refl };
 }
 
 -- and behind one with a number, without it
@@ -82,9 +95,12 @@ command_lines = record {
   proofs = of_program Prove _ (codes "5" ∷ []) 5 (codes "p") (line (Joined (codes "5") ∷ Positional (codes "p") ∷ []) None (refl, (refl, tt))) five;
   check = of_pair Check _ (codes "p") (codes "q") (line (Positional (codes "p") ∷ Positional (codes "q") ∷ []) None (refl, (refl, tt)));
   replay = of_pair Replay _ (codes "p") (codes "-q") (line (Positional (codes "p") ∷ []) (Some (codes "-q" ∷ [])) (refl, tt));
+  lasso = of_pair Lasso _ (codes "p") (codes "q") (line (Positional (codes "p") ∷ Positional (codes "q") ∷ []) None (refl, (refl, tt)));
   generate = of_number Generate _ (codes "6") 6 (line (Positional (codes "6") ∷ []) None (refl, tt)) six;
   number_behind = of_number Generate _ (codes "0") 0 (line [] (Some (codes "0" ∷ [])) tt) no_loop;
   selfrun = of_number Selfrun _ (codes "100") 100 (line (Positional (codes "100") ∷ []) None (refl, tt)) hundred;
   facts = of_program Facts _ [] 10000 (codes "p") (line (Positional (codes "p") ∷ []) None (refl, tt)) refl;
   facts_within = of_program Facts _ (codes "0" ∷ []) 0 (codes "-") (line (Apart (codes "0") ∷ Positional (codes "-") ∷ []) None (refl, (refl, tt))) zero;
+  linear_program = of_file Lp _ (codes "p") (line (Positional (codes "p") ∷ []) None (refl, tt));
+  dash_first = of_file Lp _ (codes "-p") (line [] (Some (codes "-p" ∷ [])) tt);
 }

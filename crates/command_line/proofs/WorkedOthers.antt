@@ -5,9 +5,11 @@ use Rattle.command_line.specs.declared.command.Command.TheVariants as commands
 use Rattle.command_line.specs.declared.task.ProgramTask.{ProgramTask}
 use Rattle.command_line.specs.declared.task.PairTask.{PairTask}
 use Rattle.command_line.specs.declared.task.NumberTask.{NumberTask}
+use Rattle.command_line.specs.declared.task.FileTask.{FileTask}
 use Rattle.command_line.specs.Lines.{Word, Words, is_plain, Gives}
 use Rattle.command_line.specs.Numerals.{IsNumber}
-use Rattle.command_line.specs.Requests.{Analyse, Facts, Check, Replay, Generate, Selfrun, word_of, command_of}
+use Rattle.command_line.specs.Requests.{Analyse, Facts, Check, Replay, Lasso, Generate, Selfrun, Lp}
+use Rattle.command_line.specs.Requests.{word_of, command_of}
 use Rattle.command_line.specs.Requests.{AllowsPivots, AsksWith}
 use Rattle.command_line.specs.Steps.{IsOther}
 use Rattle.command_line.specs.Worked.{OtherWords, AsksNothing}
@@ -37,6 +39,12 @@ no_pair : (task : PairTask) (others : Words) → ((first second : Word) → Give
     → AsksNothing (word_of (commands.OfPair task) ∷ others)
 no_pair task others none =
     nothing (commands.OfPair task) others (λ values positionals g h. none _ _ (gives_along _ _ _ _ _ _ refl (sym h.no_option) (sym h.two) g))
+
+-- behind one with a file alone where there is no file without it
+no_file_of : (task : FileTask) (others : Words) → ((file : Word) → Gives others [] (file ∷ []) → ⊥)
+    → AsksNothing (word_of (commands.OfFile task) ∷ others)
+no_file_of task others none =
+    nothing (commands.OfFile task) others (λ values positionals g h. none _ (gives_along _ _ _ _ _ _ refl (sym h.no_option) (sym h.one) g))
 
 -- and behind one with a number where there is no number without it
 no_number_of : (task : NumberTask) (others : Words) → ((word : Word) (n : ℕ) → Gives others [] (word ∷ []) → IsNumber 100 word n → ⊥)
@@ -188,6 +196,22 @@ two_numbers word n g h =
     let e : word ∷ [] ≡ codes "1" ∷ codes "2" ∷ two.0 = one.2 ∙ ap (λ (ws : Words). codes "1" ∷ ws) two.2 in
     cc
 
+lp_of_none : (file : Word) → Gives [] [] (file ∷ []) → ⊥
+lp_of_none file g = let e = (none_first [] (file ∷ []) g).1 in cc
+
+lp_of_two : (file : Word) → Gives (codes "p" ∷ codes "q" ∷ []) [] (file ∷ []) → ⊥
+lp_of_two file g =
+    let one = plain_first (codes "p") (codes "q" ∷ []) [] (file ∷ []) refl g in
+    let two = plain_first (codes "q") [] [] one.0 refl one.1 in
+    let e : file ∷ [] ≡ codes "p" ∷ codes "q" ∷ two.0 = one.2 ∙ ap (λ (ws : Words). codes "p" ∷ ws) two.2 in
+    cc
+
+option_of_lp : (file : Word) → Gives ((codes "--pivots=" ++ codes "5") ∷ codes "p" ∷ []) [] (file ∷ []) → ⊥
+option_of_lp file g =
+    let one = joined_first (codes "--pivots=" ++ codes "5") (codes "5") (codes "p" ∷ []) [] (file ∷ []) refl g in
+    let e : [] ≡ codes "5" ∷ one.0 = one.3 in
+    cc
+
 -- the number that is the only word behind a command
 the_number : (w word : Word) (n : ℕ) → is_plain w ≡ true → Gives (w ∷ []) [] (word ∷ []) → IsNumber 100 word n → IsNumber 100 w n
 the_number w word n plain g h =
@@ -222,6 +246,7 @@ other_words = record {
   other_option = no_program Analyse (codes "--help" ∷ codes "p" ∷ []) other_option;
   short_option = no_program Analyse (codes "-p" ∷ []) short_option;
   one_of_two = no_pair Check (codes "p" ∷ []) one_of_two;
+  lasso_alone = no_pair Lasso (codes "p" ∷ []) one_of_two;
   three_files = no_pair Check (codes "p" ∷ codes "q" ∷ codes "r" ∷ []) three_files;
   option_of_two = no_pair Replay ((codes "--pivots=" ++ codes "5") ∷ codes "p" ∷ codes "q" ∷ []) option_of_two;
   too_large = no_number_of Generate (codes "101" ∷ []) (λ word n g h. too_large n (the_number (codes "101") word n refl g h));
@@ -233,4 +258,7 @@ other_words = record {
   facts_of_none = no_program Facts [] no_file;
   facts_of_two = no_program Facts (codes "p" ∷ codes "p" ∷ []) two_files;
   one_fact = one_fact;
+  lp_of_none = no_file_of Lp [] lp_of_none;
+  lp_of_two = no_file_of Lp (codes "p" ∷ codes "q" ∷ []) lp_of_two;
+  option_of_lp = no_file_of Lp ((codes "--pivots=" ++ codes "5") ∷ codes "p" ∷ []) option_of_lp;
 }

@@ -5,18 +5,22 @@ use Rattle.command_line.specs.declared.command.Command.TheVariants as commands
 use Rattle.command_line.specs.declared.task.ProgramTask.{ProgramTask}
 use Rattle.command_line.specs.declared.task.PairTask.{PairTask}
 use Rattle.command_line.specs.declared.task.NumberTask.{NumberTask}
+use Rattle.command_line.specs.declared.task.FileTask.{FileTask}
 pub use Rattle.command_line.specs.declared.task.ProgramTask.TheVariants.{Analyse, Prove, Facts}
-pub use Rattle.command_line.specs.declared.task.PairTask.TheVariants.{Check, Replay}
+pub use Rattle.command_line.specs.declared.task.PairTask.TheVariants.{Check, Replay, Lasso}
 pub use Rattle.command_line.specs.declared.task.NumberTask.TheVariants.{Generate, Selfrun}
+pub use Rattle.command_line.specs.declared.task.FileTask.TheVariants.{Lp}
 use Rattle.command_line.specs.Lines.{Word, Words, Gives}
 use Rattle.command_line.specs.Numerals.{IsNumber}
 
 -- the requests, by form: a task for the program in a file, with this many pivots for each linear program; a task for
--- the program in a file and what a second file has about it; or a task for a number
+-- the program in a file and what a second file has about it; a task for a number; or a task for a file that
+-- isn't a program's
 pub data Request : Type 0 where
   OfProgram : ProgramTask → ℕ → Word → Request
   OfPair : PairTask → Word → Word → Request
   OfNumber : NumberTask → ℕ → Request
+  OfFile : FileTask → Word → Request
 
 -- the word of a command
 abbrev pub word_of : Command → Word
@@ -25,8 +29,10 @@ word_of (commands.OfProgram Prove) = codes "prove"
 word_of (commands.OfProgram Facts) = codes "facts"
 word_of (commands.OfPair Check) = codes "check"
 word_of (commands.OfPair Replay) = codes "replay"
+word_of (commands.OfPair Lasso) = codes "lasso"
 word_of (commands.OfNumber Generate) = codes "generate"
 word_of (commands.OfNumber Selfrun) = codes "selfrun"
+word_of (commands.OfFile Lp) = codes "lp"
 
 -- the commands, in the order in which the usage text lists them
 abbrev pub all_commands : List Command
@@ -38,6 +44,8 @@ all_commands =
     ∷ commands.OfNumber Generate
     ∷ commands.OfNumber Selfrun
     ∷ commands.OfProgram Facts
+    ∷ commands.OfPair Lasso
+    ∷ commands.OfFile Lp
     ∷ []
 
 -- the command of a request
@@ -45,6 +53,7 @@ abbrev pub command_of : Request → Command
 command_of (OfProgram task pivots file) = commands.OfProgram task
 command_of (OfPair task file second) = commands.OfPair task
 command_of (OfNumber task n) = commands.OfNumber task
+command_of (OfFile task file) = commands.OfFile task
 
 -- this many pivots are allowed if the option isn't given
 abbrev pub default_pivots : ℕ
@@ -74,6 +83,11 @@ pub record AsksTwo (values positionals : Words) (first second : Word) : Type 0 w
   pub no_option : values ≡ []
   pub two : positionals ≡ first ∷ second ∷ []
 
+-- the option isn't given, and the file is the one positional
+pub record AsksFile (values positionals : Words) (file : Word) : Type 0 where
+  pub no_option : values ≡ []
+  pub one : positionals ≡ file ∷ []
+
 -- the option isn't given, and the one positional is the number, which is in its range
 pub record AsksNumber (values positionals : Words) (n : ℕ) : Type 0 where
   pub no_option : values ≡ []
@@ -86,6 +100,7 @@ abbrev pub AsksWith : Request → Words → Words → Type 0
 AsksWith (OfProgram task pivots file) values positionals = AsksProgram values positionals pivots file
 AsksWith (OfPair task file second) values positionals = AsksTwo values positionals file second
 AsksWith (OfNumber task n) values positionals = AsksNumber values positionals n
+AsksWith (OfFile task file) values positionals = AsksFile values positionals file
 
 -- the words after the program's name ask for this: they are the word of its command, and behind it the values of the
 -- option and the positionals of the request, options before or after positionals

@@ -2,14 +2,16 @@
 use Rattle.std.specs.Prelude.{ℕ, List, [], ◌∷◌, ◌++◌, codes}
 use Rattle.command_line.specs.declared.command.Command.{Command}
 use Rattle.command_line.specs.declared.command.Command.TheVariants as commands
-use Rattle.command_line.specs.Requests.{Check, Replay, word_of, all_commands}
+use Rattle.command_line.specs.Requests.{Check, Replay, Lasso, word_of, all_commands}
 
 -- what the usage text says of the words behind that of a command
 abbrev pub operands_of : Command → List ℕ
 operands_of (commands.OfProgram task) = codes "[--pivots N] FILE"
 operands_of (commands.OfPair Check) = codes "FILE PROOF"
 operands_of (commands.OfPair Replay) = codes "FILE RUN"
+operands_of (commands.OfPair Lasso) = codes "FILE RUN"
 operands_of (commands.OfNumber task) = codes "N"
+operands_of (commands.OfFile task) = codes "FILE"
 
 -- a line for each of these commands: the first behind this margin, the others behind blanks
 abbrev pub usage_lines : List ℕ → List Command → List ℕ

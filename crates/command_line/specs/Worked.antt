@@ -2,7 +2,7 @@
 use Rattle.std.specs.Prelude.{[], ◌∷◌, codes}
 use Rattle.command_line.specs.Lines.{Words}
 use Rattle.command_line.specs.Requests.{Request, OfProgram, OfPair, OfNumber, Analyse, Prove, Facts, Check, Replay}
-use Rattle.command_line.specs.Requests.{Generate, Selfrun, Asks}
+use Rattle.command_line.specs.Requests.{OfFile, Lasso, Generate, Selfrun, Lp, Asks}
 
 -- the words ask for nothing
 abbrev pub AsksNothing : Words → Type 0
@@ -22,11 +22,14 @@ pub record CommandLines : Type 0 where
   pub proofs : Asks (codes "prove" ∷ codes "--pivots=5" ∷ codes "p" ∷ []) (OfProgram Prove 5 (codes "p"))
   pub check : Asks (codes "check" ∷ codes "p" ∷ codes "q" ∷ []) (OfPair Check (codes "p") (codes "q"))
   pub replay : Asks (codes "replay" ∷ codes "p" ∷ codes "--" ∷ codes "-q" ∷ []) (OfPair Replay (codes "p") (codes "-q"))
+  pub lasso : Asks (codes "lasso" ∷ codes "p" ∷ codes "q" ∷ []) (OfPair Lasso (codes "p") (codes "q"))
   pub generate : Asks (codes "generate" ∷ codes "6" ∷ []) (OfNumber Generate 6)
   pub number_behind : Asks (codes "generate" ∷ codes "--" ∷ codes "0" ∷ []) (OfNumber Generate 0)
   pub selfrun : Asks (codes "selfrun" ∷ codes "100" ∷ []) (OfNumber Selfrun 100)
   pub facts : Asks (codes "facts" ∷ codes "p" ∷ []) (OfProgram Facts 10000 (codes "p"))
   pub facts_within : Asks (codes "facts" ∷ codes "--pivots" ∷ codes "0" ∷ codes "-" ∷ []) (OfProgram Facts 0 (codes "-"))
+  pub linear_program : Asks (codes "lp" ∷ codes "p" ∷ []) (OfFile Lp (codes "p"))
+  pub dash_first : Asks (codes "lp" ∷ codes "--" ∷ codes "-p" ∷ []) (OfFile Lp (codes "-p"))
 
 -- words that ask for nothing
 pub record OtherWords : Type 0 where
@@ -47,6 +50,7 @@ pub record OtherWords : Type 0 where
   pub other_option : AsksNothing (codes "analyse" ∷ codes "--help" ∷ codes "p" ∷ [])
   pub short_option : AsksNothing (codes "analyse" ∷ codes "-p" ∷ [])
   pub one_of_two : AsksNothing (codes "check" ∷ codes "p" ∷ [])
+  pub lasso_alone : AsksNothing (codes "lasso" ∷ codes "p" ∷ [])
   pub three_files : AsksNothing (codes "check" ∷ codes "p" ∷ codes "q" ∷ codes "r" ∷ [])
   pub option_of_two : AsksNothing (codes "replay" ∷ codes "--pivots=5" ∷ codes "p" ∷ codes "q" ∷ [])
   pub too_large : AsksNothing (codes "generate" ∷ codes "101" ∷ [])
@@ -58,3 +62,6 @@ pub record OtherWords : Type 0 where
   pub facts_of_none : AsksNothing (codes "facts" ∷ [])
   pub facts_of_two : AsksNothing (codes "facts" ∷ codes "p" ∷ codes "p" ∷ [])
   pub one_fact : AsksNothing (codes "fact" ∷ codes "p" ∷ [])
+  pub lp_of_none : AsksNothing (codes "lp" ∷ [])
+  pub lp_of_two : AsksNothing (codes "lp" ∷ codes "p" ∷ codes "q" ∷ [])
+  pub option_of_lp : AsksNothing (codes "lp" ∷ codes "--pivots=5" ∷ codes "p" ∷ [])

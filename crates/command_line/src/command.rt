@@ -4,7 +4,7 @@ ghost use Rattle.std.specs.Prelude.{◌≡◌, ◌≢◌, MatchOption};
 ghost use Rattle.command_line.specs.Requests.{word_of};
 
 use crate::kind::is_same;
-use crate::task::{NumberTask, PairTask, ProgramTask};
+use crate::task::{FileTask, NumberTask, PairTask, ProgramTask};
 
 /// The commands, by the form of what follows their word. The word of a command is the first of a command line.
 #[derive(Clone, Copy)]
@@ -15,6 +15,8 @@ pub(crate) enum Command {
     OfPair(PairTask),
     /// A number.
     OfNumber(NumberTask),
+    /// A file that isn't a program's.
+    OfFile(FileTask),
 }
 
 /// The command that a word is.
@@ -35,6 +37,10 @@ pub(crate) fn named(word: &[u8]) -> Option<Command>
         Some(Command::OfNumber(NumberTask::Selfrun))
     } else if is_same(word, b"facts") {
         Some(Command::OfProgram(ProgramTask::Facts))
+    } else if is_same(word, b"lasso") {
+        Some(Command::OfPair(PairTask::Lasso))
+    } else if is_same(word, b"lp") {
+        Some(Command::OfFile(FileTask::Lp))
     } else {
         None
     }

@@ -17,5 +17,5 @@ mod usage_lines;
 pub use law::{command_lines_are_as_worked_out, commands_are_listed, words_are_read_in_one_way};
 pub use request::{Request, asks};
 pub use taking::DEFAULT_PIVOTS;
-pub use task::{NumberTask, PairTask, ProgramTask};
+pub use task::{FileTask, NumberTask, PairTask, ProgramTask};
 pub use usage_lines::usage;

@@ -8,8 +8,8 @@ ghost use Rattle.command_line.specs.Views.{request_of};
 
 use crate::command::{Command, named};
 use crate::line::{Line, read_line};
-use crate::taking::{OneFile, TwoFiles, one_file, one_number, two_files};
-use crate::task::{NumberTask, PairTask, ProgramTask};
+use crate::taking::{OneFile, TwoFiles, file_alone, one_file, one_number, two_files};
+use crate::task::{FileTask, NumberTask, PairTask, ProgramTask};
 use model::Memory;
 use std::alloc::Global;
 
@@ -33,6 +33,11 @@ pub enum Request {
     OfNumber {
         task: NumberTask,
         n: u32,
+    },
+    /// A task for a file that isn't a program's.
+    OfFile {
+        task: FileTask,
+        file: String,
     },
 }
 
@@ -79,6 +84,10 @@ fn asked_by(command: Command, line: Line) -> Option<Request>
         Command::OfNumber(task) => Some(Request::OfNumber {
             task,
             n: one_number(line)?,
+        }),
+        Command::OfFile(task) => Some(Request::OfFile {
+            task,
+            file: file_alone(line)?,
         }),
     }
 }

@@ -1,8 +1,8 @@
-//! The operands of commands: a file with the option, two files, or a number.
+//! The operands of commands: a file with the option, two files, a file alone, or a number.
 
 ghost use Rattle.std.specs.Prelude.{◌≡◌, [], ◌∷◌, ℕ, map, string_bytes, MatchOption};
 ghost use Rattle.command_line.specs.Lines.{Word};
-ghost use Rattle.command_line.specs.Requests.{AllowsPivots, AsksProgram, AsksTwo, AsksNumber};
+ghost use Rattle.command_line.specs.Requests.{AllowsPivots, AsksProgram, AsksTwo, AsksFile, AsksNumber};
 ghost use Rattle.command_line.specs.Steps.{values_in, positionals_in};
 
 use crate::line::Line;
@@ -54,15 +54,24 @@ pub(crate) fn two_files(line: Line) -> Option<TwoFiles>
     two_positionals(line.positionals)
 }
 
+/// The file that is the line's only positional, without the option.
+pub(crate) fn file_alone(line: Line) -> Option<String>
+    ensures { MatchOption result
+        ((file : Word) → ¬ (AsksFile (values_in line) (positionals_in line) file))
+        (λ file. AsksFile (values_in line) (positionals_in line) (string_bytes file)) }
+{
+    if !line.values.is_empty() {
+        return None;
+    }
+    one_positional(line.positionals)
+}
+
 /// The number that is the line's only positional, without the option.
 pub(crate) fn one_number(line: Line) -> Option<u32>
     ensures { MatchOption result ((n : ℕ) → ¬ (AsksNumber (values_in line) (positionals_in line) n))
         (AsksNumber (values_in line) (positionals_in line)) }
 {
-    if !line.values.is_empty() {
-        return None;
-    }
-    let word = one_positional(line.positionals)?;
+    let word = file_alone(line)?;
     number(word.as_bytes(), MAXIMUM_GENERATED)
 }
 

@@ -18,6 +18,15 @@ pub enum PairTask {
     Check,
     /// `replay`: the replay of the run in the second file, of the program.
     Replay,
+    /// `lasso`: whether the turn of the lasso in the second file, of the program, leads back.
+    Lasso,
+}
+
+/// What is done with a file that isn't a program's.
+#[derive(Clone, Copy, Debug, PartialEq, Eq)]
+pub enum FileTask {
+    /// `lp`: the exact end of the simplex method on the linear program in it.
+    Lp,
 }
 
 /// What is done with a number.

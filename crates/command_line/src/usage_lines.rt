@@ -14,5 +14,7 @@ pub fn usage() -> &'static [u8]
        koat generate N
        koat selfrun N
        koat facts [--pivots N] FILE
+       koat lasso FILE RUN
+       koat lp FILE
 "
 }

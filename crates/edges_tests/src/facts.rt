@@ -10,7 +10,7 @@ const STEPPING: &str = "l0(A,B) -> Com_1(l1(A,1)) l1(A,B) -> Com_1(l1(A-B,B)) :|
 
 // Words before the file, rules, and the status and the text of the answer. In the second program a fact is all that is
 // found; in the third both values are 1 only as each takes the other's; in the fourth a symbol that only its own rule
-// enters keeps facts that contradict each other.
+// enters keeps facts that contradict each other; and in the fifth a fact bounds a cost.
 const FACTS: &[(&[&str], &str, Status, &str)] = &[
     (
         &["facts"],
@@ -41,6 +41,13 @@ const FACTS: &[(&[&str], &str, Status, &str)] = &[
         "l0(A) -> Com_1(l1(A)) l2(A) -> Com_1(l2(A-1))",
         Status::Done,
         "fact l2: -x1 >= 1\nfact l2: x1 >= 1\nbounded\ntime 1: 1\ntime 2: 0\ntotal: 1\nsize 1.1: A\nsize 2.1: 0\n",
+    ),
+    (
+        &["facts"],
+        "l0(A,B) -> Com_1(l1(A,1)) l1(A,B) -{B}> Com_1(l1(A-B,B)) :|: A >= 1",
+        Status::Done,
+        "fact l1: -x2 >= -1\nfact l1: x2 >= 1\nbounded\ntime 1: 1\ntime 2: A\ncost 2: A\ntotal: A + 1\n\
+         size 1.1: A\nsize 1.2: 1\nsize 2.1: A\nsize 2.2: 1\n",
     ),
     (
         &["facts", "--pivots", "0"],

@@ -9,6 +9,12 @@ mod facts;
 #[cfg(test)]
 mod hostile;
 #[cfg(test)]
+mod lasso_answers;
+#[cfg(test)]
+mod lps;
+#[cfg(test)]
+mod made_proofs;
+#[cfg(test)]
 mod processes;
 #[cfg(test)]
 mod programs;

@@ -15,6 +15,8 @@ const USAGE: &[u8] = b"usage: koat analyse [--pivots N] FILE
        koat generate N
        koat selfrun N
        koat facts [--pivots N] FILE
+       koat lasso FILE RUN
+       koat lp FILE
 ";
 
 // Words as the system gives them, the program's name first.

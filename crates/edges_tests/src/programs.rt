@@ -197,11 +197,124 @@ pub(crate) const PROGRAMS: &[(&str, Status, &str)] = &[
          size 1.1: A\nsize 1.2: B\nsize 2.1: 2*A\nsize 2.2: 2*A + 1\nsize 3.1: 2*A\nsize 3.2: 2*A + 1\n\
          size 4.1: 2*A\nsize 4.2: 2*A + 1\n",
     ),
-    // A cost is read, and not looked at.
+    // What the steps by a rule with a cost cost together has a bound of its own, and so has what all steps cost; a cost
+    // below 0 counts as 0; and one that grows without limit along a ray has none. A cost with a free variable that
+    // isn't affine is an unknown of its own, behind that variable; and the variable of a cost stands before that of an
+    // update.
     (
         "l0(A) -{A}> Com_1(l1(A))",
         Status::Done,
-        "bounded\ntime 1: 1\ntotal: 1\nsize 1.1: A\n",
+        "bounded\ntime 1: 1\ncost 1: A\ntotal: A\nsize 1.1: A\n",
+    ),
+    (
+        "l0(A) -> Com_1(l1(A)) l1(A) -{A}> Com_1(l1(A-1)) :|: A >= 1",
+        Status::Done,
+        "bounded\ntime 1: 1\ntime 2: A\ncost 2: A^2\ntotal: A^2 + 1\nsize 1.1: A\nsize 2.1: A\n",
+    ),
+    (
+        "l0(A) -{-5}> Com_1(l1(A))",
+        Status::Done,
+        "bounded\ntime 1: 1\ncost 1: 0\ntotal: 0\nsize 1.1: A\n",
+    ),
+    (
+        "l0(A) -{C}> Com_1(l1(A))",
+        Status::Unknown,
+        "unknown\ntime 1: 1\ncost 1: unknown\ntotal: unknown\nsize 1.1: A\nwhy cost 1: loose up\n  ray: (0, 1)\n\
+         \x20 kept: (1, 1) / 1\n",
+    ),
+    (
+        "l0(A) -{A*C}> Com_1(l1(A)) :|: C <= 5",
+        Status::Unknown,
+        "unknown\ntime 1: 1\ncost 1: unknown\ntotal: unknown\nsize 1.1: A\nwhy cost 1: loose up\n\
+         \x20 ray: (0, 0, 1)\n  kept: (1, 1, 1) / 1\n",
+    ),
+    (
+        "l0(A) -{D}> Com_1(l1(C)) :|: C <= 5 && C >= 0",
+        Status::Unknown,
+        "unknown\ntime 1: 1\ncost 1: unknown\ntotal: unknown\nsize 1.1: 5\nwhy cost 1: loose up\n\
+         \x20 ray: (0, 1, 0)\n  kept: (1, 1, 1) / 1\n",
+    ),
+    // In a loop without a time a cost of 0 has no bound, but one below 0 has: it asks for no step. So the total is
+    // there though a time is missing. A rule that is never reached costs nothing.
+    (
+        "l0(A) -> Com_1(l1(A)) l1(A) -{0}> Com_1(l1(A))",
+        Status::Unknown,
+        "unknown\ntime 1: 1\ntime 2: unknown\ncost 2: unknown\ntotal: unknown\nsize 1.1: A\nsize 2.1: A\n\
+         why time 2: no affine ranking function over rules 2\n  move 2: (1) / 1\n  floor 2: (0) / 0\n\
+         \x20 kept 2: (1) / 1\nwhy cost 2: untimed 2\n",
+    ),
+    (
+        "l0(A) -> Com_1(l1(A)) l1(A) -{-1}> Com_1(l1(A))",
+        Status::Unknown,
+        "unknown\ntime 1: 1\ntime 2: unknown\ncost 2: 0\ntotal: 1\nsize 1.1: A\nsize 2.1: A\n\
+         why time 2: no affine ranking function over rules 2\n  move 2: (1) / 1\n  floor 2: (0) / 0\n\
+         \x20 kept 2: (1) / 1\n",
+    ),
+    (
+        "l0(A) -> Com_1(l1(A)) l7(A) -{A}> Com_1(l7(A))",
+        Status::Done,
+        "bounded\ntime 1: 1\ntime 2: 0\ncost 2: 0\ntotal: 1\nsize 1.1: A\nsize 2.1: 0\n",
+    ),
+    // The cost of a step needs the size of an argument that has none.
+    (
+        "l0(A) -> Com_1(l1(C)) l1(A) -{A}> Com_1(l2(0))",
+        Status::Unknown,
+        "unknown\ntime 1: 1\ntime 2: 1\ncost 2: unknown\ntotal: unknown\nsize 1.1: unknown\nsize 2.1: 0\n\
+         why cost 2: missing 1.1\nwhy size 1.1: loose up\n  ray: (0, 1)\n  kept: (1, 1) / 1\n",
+    ),
+    // A cost that is a square, one whose difference the guard bounds, one that needs the greatest of what the rules
+    // before it leave, and costs of a loop inside another and of one that doubles.
+    (
+        "l0(A) -{A^2}> Com_1(l1(A))",
+        Status::Done,
+        "bounded\ntime 1: 1\ncost 1: A^2\ntotal: A^2\nsize 1.1: A\n",
+    ),
+    (
+        "l0(A,B) -{A-B}> Com_1(l1(A,B)) :|: B >= 0",
+        Status::Done,
+        "bounded\ntime 1: 1\ncost 1: A\ntotal: A\nsize 1.1: A\nsize 1.2: B\n",
+    ),
+    (
+        "l0(A,B) -> Com_1(l1(A,B)) l0(A,B) -> Com_1(l1(B,A)) l1(A,B) -{A}> Com_1(l2(0))",
+        Status::Done,
+        "bounded\ntime 1: 1\ntime 2: 1\ntime 3: 1\ncost 3: max(A, B)\ntotal: max(A, B) + 2\nsize 1.1: A\n\
+         size 1.2: B\nsize 2.1: B\nsize 2.2: A\nsize 3.1: 0\n",
+    ),
+    (
+        "l0(A,B) -> Com_1(l1(A,B)) l1(A,B) -> Com_1(l2(A,A)) :|: A >= 1 \
+         l2(A,B) -{B}> Com_1(l2(A,B-1)) :|: B >= 1 l2(A,B) -> Com_1(l1(A-1,B)) :|: B <= 0",
+        Status::Done,
+        "bounded\ntime 1: 1\ntime 2: A\ntime 3: 2*A^2\ntime 4: A\ncost 3: 4*A^3\ntotal: 4*A^3 + 2*A + 1\n\
+         size 1.1: A\nsize 1.2: B\nsize 2.1: 2*A\nsize 2.2: 2*A\nsize 3.1: 2*A\nsize 3.2: 2*A\n\
+         size 4.1: 2*A\nsize 4.2: 2*A\n",
+    ),
+    (
+        "l0(A,B) -> Com_1(l1(A,B)) l1(A,B) -{B}> Com_1(l1(A-1,2*B)) :|: A >= 1",
+        Status::Done,
+        "bounded\ntime 1: 1\ntime 2: A\ncost 2: 2*2^A*A*B\ntotal: 2*2^A*A*B + 1\nsize 1.1: A\nsize 1.2: B\n\
+         size 2.1: A\nsize 2.2: 2*2^A*B\n",
+    ),
+    // A cost whose formula is too long: eight times 513 nodes, and six around them. As many comparisons as a guard may
+    // have beside a cost; and a symbol called `$`.
+    (
+        "l0(A) -> l1(A^8) l1(A) -> l2(A^8) l2(A) -> l3(A^8) l3(A) -{A^8}> l4(0)",
+        Status::Unknown,
+        "unknown\ntime 1: 1\ntime 2: 1\ntime 3: 1\ntime 4: 1\ncost 4: unknown\ntotal: unknown\nsize 1.1: A^8\n\
+         size 2.1: A^64\nsize 3.1: A^512\nsize 4.1: 0\nwhy cost 4: large 4110 nodes\n",
+    ),
+    (
+        "l0(A) -{A}> Com_1(l1(A)) :|: \
+         A>=1&&A>=1&&A>=1&&A>=1&&A>=1&&A>=1&&A>=1&&A>=1&&A>=1&&A>=1&&A>=1&&A>=1&&A>=1&&A>=1&&A>=1&&A>=1&&A>=1&& \
+         A>=1&&A>=1&&A>=1&&A>=1&&A>=1&&A>=1&&A>=1&&A>=1&&A>=1&&A>=1&&A>=1&&A>=1&&A>=1&&A>=1&&A>=1&&A>=1&&A>=1&& \
+         A>=1&&A>=1&&A>=1&&A>=1&&A>=1&&A>=1&&A>=1&&A>=1&&A>=1&&A>=1&&A>=1&&A>=1&&A>=1&&A>=1&&A>=1&&A>=1&&A>=1&& \
+         A>=1&&A>=1&&A>=1&&A>=1&&A>=1&&A>=1&&A>=1&&A>=1&&A>=1&&A>=1&&A>=1&&A>=1",
+        Status::Done,
+        "bounded\ntime 1: 1\ncost 1: A\ntotal: A\nsize 1.1: A\n",
+    ),
+    (
+        "l0(A,B) -{A}> Com_1($(A,B))",
+        Status::Done,
+        "bounded\ntime 1: 1\ncost 1: A\ntotal: A\nsize 1.1: A\nsize 1.2: B\n",
     ),
     (
         "l0(A) -{A,1}> Com_1(l1(A))",
@@ -224,7 +337,17 @@ pub(crate) const PROGRAMS: &[(&str, Status, &str)] = &[
         "program refused at 48: ManyTargets\n",
     ),
     // That X + Y is at most 0 is shown over the denominator 268435399*268435459, which is between 2^55 and 2^56. Where
-    // it takes 268435459*268435463, which is over 2^56, it isn't shown.
+    // it takes 268435459*268435463, which is over 2^56, it isn't shown. The same of a cost.
+    (
+        "l0(A) -{X+Y}> Com_1(l1(A)) :|: 268435399*X <= U && U <= 0 && 268435459*Y <= V && V <= 0",
+        Status::Done,
+        "bounded\ntime 1: 1\ncost 1: 0\ntotal: 0\nsize 1.1: A\n",
+    ),
+    (
+        "l0(A) -{X+Y}> Com_1(l1(A)) :|: 268435459*X <= U && U <= 0 && 268435463*Y <= V && V <= 0",
+        Status::Unknown,
+        "unknown\ntime 1: 1\ncost 1: unknown\ntotal: unknown\nsize 1.1: A\nwhy cost 1: cost 1 scale\n",
+    ),
     (
         "l0(A) -> Com_1(l1(X+Y)) :|: 268435399*X <= U && U <= 0 && 268435459*Y <= V && V <= 0 && X >= 0 && Y >= 0",
         Status::Done,

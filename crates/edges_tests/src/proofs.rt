@@ -1,5 +1,7 @@
-//! Proof files that are made and checked, on shelves and sinks in memory: every answer whole, and what is fetched.
+//! Proof files that are checked, on shelves and sinks in memory: every answer whole, and what is fetched.
 
+use crate::answers::words_of;
+use crate::made_proofs::{NO_STEP_COSTS, UNREACHED_NEGATIVE};
 use koat_cli::{Status, run};
 use outside_io::{Held, MemoryShelf, MemorySink};
 use std::alloc::{AllocError, Global};
@@ -8,15 +10,19 @@ use std::test::Fail;
 /// A program of one rule.
 pub(crate) const ENTERING: &str = "(STARTTERM (FUNCTIONSYMBOLS l0))(RULES l0(A) -> Com_1(l1(A)))";
 
-// The same with a cost.
-const PRICED: &str = "(STARTTERM (FUNCTIONSYMBOLS l0))(RULES l0(A) -{A}> Com_1(l1(A)))";
+/// The same with a cost.
+pub(crate) const PRICED: &str = "(STARTTERM (FUNCTIONSYMBOLS l0))(RULES l0(A) -{A}> Com_1(l1(A)))";
+
+/// The same with a cost that may be any number.
+pub(crate) const FREELY_PRICED: &str =
+    "(STARTTERM (FUNCTIONSYMBOLS l0))(RULES l0(A) -{C}> Com_1(l1(A)))";
 
 /// A program that counts down in a loop.
 pub(crate) const COUNTING: &str =
     "(STARTTERM (FUNCTIONSYMBOLS l0))(RULES l0(A) -> Com_1(l1(A)) l1(A) -> Com_1(l1(A-1)) :|: A >= 1)";
 
-// A program whose second rule has no time.
-const STAYING: &str =
+/// A program whose second rule has no time.
+pub(crate) const STAYING: &str =
     "(STARTTERM (FUNCTIONSYMBOLS l0))(RULES l0(A) -> Com_1(l1(A)) l1(A) -> Com_1(l1(A)))";
 
 /// A loop inside another, with long names, a comment and guards in square brackets, up to the last bracket.
@@ -37,8 +43,8 @@ pub(crate) const NESTED: &str = "(GOAL COMPLEXITY)
   evalfreturnin(Ar_0, Ar_1) -> Com_1(evalfstop(Ar_0, Ar_1))
 )";
 
-// A proof file of the program of one rule.
-const ENTERED: &str = "koat-proof 1
+/// A proof file of the program of one rule.
+pub(crate) const ENTERED: &str = "koat-proof 1
 lemma rank 1 set [1] den 1 forms [l0 [0 1]; l1 [0 0]] moves [[]] floor [] uses {start}
 lemma spread 1.1 up lin 1 [1 0] [] low lin 1 [-1 0] [] uses {start}
 end
@@ -70,8 +76,8 @@ lemma cycle [2.1 up lin 1 [1 0] [0] low lin 1 [0 0] [1]] uses {cite 3}
 end
 ";
 
-// The proof file of the program whose second rule has no time.
-const STAYED: &str = "koat-proof 1
+/// The proof file of the program whose second rule has no time.
+pub(crate) const STAYED: &str = "koat-proof 1
 lemma rank 1 set [1] den 1 forms [l0 [0 1]; l1 [0 0]] moves [[]] floor [] uses {start}
 lemma spread 1.1 up lin 1 [1 0] [] low lin 1 [-1 0] [] uses {start}
 lemma cycle [2.1 up lin 1 [1 0] [] low lin 1 [-1 0] []] uses {cite 2}
@@ -79,20 +85,21 @@ gap 2 set [2] shut [] moves [[1 1]] floor [0 0] kept [[1 1]]
 end
 ";
 
-// A proof file of the program with a cost.
-const CHARGED: &str = "koat-proof 2
+/// A proof file of the program with a cost.
+pub(crate) const CHARGED: &str = "koat-proof 2
 lemma rank 1 set [1] den 1 forms [l0 [0 1]; l1 [0 0]] moves [[]] floor [] uses {start}
 lemma spread 1.1 up lin 1 [1 0] [] low lin 1 [-1 0] [] uses {start}
 lemma cost 1 lin 1 [1 0] [0] uses {start; cite 1}
 end
 ";
 
-// A program whose cost is shown over a denominator between 2^55 and 2^56 alone, 268435399*268435459, and a proof file
-// that does.
-const SCALED: &str = "(STARTTERM (FUNCTIONSYMBOLS l0))(RULES l0(A) -{X+Y}> Com_1(l1(A)) :|: \
+/// A program whose cost is shown over a denominator between 2^55 and 2^56 alone, 268435399*268435459.
+pub(crate) const SCALED: &str =
+    "(STARTTERM (FUNCTIONSYMBOLS l0))(RULES l0(A) -{X+Y}> Com_1(l1(A)) :|: \
      268435399*X <= U && U <= 0 && 268435459*Y <= V && V <= 0)";
 
-const SCALED_COST: &str = "koat-proof 2
+/// A proof file that shows it.
+pub(crate) const SCALED_COST: &str = "koat-proof 2
 lemma rank 1 set [1] den 1 forms [l0 [0 1]; l1 [0 0]] moves [[0 0 0 0]] floor [0 0 0 0] uses {start}
 lemma spread 1.1 up lin 1 [1 0] [0 0 0 0] low lin 1 [-1 0] [0 0 0 0] uses {start}
 lemma cost 1 lin 72057579542413141 [0 0] [268435459 268435459 268435399 268435399 0] uses {cite 1}
@@ -152,6 +159,12 @@ const CHECKS: &[(&str, &str, Status, &str)] = &[
         SCALED_COST,
         Status::Done,
         "accepted\ntime 1: 1\nsize 1.1: A\ncost 1: 0\n",
+    ),
+    (
+        UNREACHED_NEGATIVE,
+        NO_STEP_COSTS,
+        Status::Done,
+        "accepted\ntime 2: 0\nsize 2.1: 0\ntime 1: 1\nsize 1.1: A\ncost 2: 0\n",
     ),
     (
         PRICED,
@@ -257,28 +270,16 @@ const CHECKS: &[(&str, &str, Status, &str)] = &[
     ),
 ];
 
-// Programs, with the status and the text of their proof files.
-const PROOFS: &[(&str, Status, &str)] = &[
-    (ENTERING, Status::Done, ENTERED),
-    (COUNTING, Status::Done, COUNTED),
-    (STAYING, Status::Unknown, STAYED),
-    (
-        "(VAR A)(VAR A)",
-        Status::ProgramRefused,
-        "program refused at 7: RepeatedSection\n",
-    ),
-];
-
-// A file of this name.
-fn file(alloc: Global, name: &str, text: &[u8]) -> Result<Held, AllocError> {
+/// A file of this name.
+pub(crate) fn file(alloc: Global, name: &str, text: &[u8]) -> Result<Held, AllocError> {
     Ok(Held {
         name: String::from_str(alloc, name)?,
         bytes: Vec::from_slice(alloc, text)?,
     })
 }
 
-// A shelf that holds a program and a proof, and fails at these calls.
-fn shelf_of(
+/// A shelf that holds a program and a proof, and fails at these calls.
+pub(crate) fn shelf_of(
     alloc: Global,
     program: &str,
     proof: &[u8],
@@ -288,14 +289,6 @@ fn shelf_of(
     files.push(file(alloc, "p", program.as_bytes())?)?;
     files.push(file(alloc, "q", proof)?)?;
     Ok(MemoryShelf::new(files, failing))
-}
-
-fn words_of(alloc: Global, words: &[&str]) -> Result<Vec<String>, AllocError> {
-    let mut all = Vec::new(alloc);
-    for word in words {
-        all.push(String::from_str(alloc, word)?)?;
-    }
-    Ok(all)
 }
 
 // Whether a check is answered otherwise, or fetches more files or fewer: one where it gives no program, else two.
@@ -327,37 +320,6 @@ fn proofs_are_accepted_or_refused(rt: HostRuntime) -> Result<(), Fail> {
     let mut other = 0;
     for (program, proof, status, text) in CHECKS {
         if is_other(alloc, program, proof.as_bytes(), *status, text)? {
-            println!(rt; "not {text}")?;
-            other += u64::from(other < 1000);
-        }
-    }
-    assert_eq!(rt; other, 0);
-    Ok(())
-}
-
-// Whether the proof file of a program is another, or more than the program is fetched.
-fn is_other_proof(
-    alloc: Global,
-    program: &str,
-    status: Status,
-    text: &str,
-) -> Result<bool, AllocError> {
-    let mut shelf = shelf_of(alloc, program, b"", Vec::new(alloc))?;
-    let mut sink = MemorySink::new(alloc, 9_999, Vec::new(alloc))?;
-    let words = words_of(alloc, &["prove", "p"])?;
-    Ok(
-        run(alloc, &words, &mut shelf, &mut sink) != status
-            || sink.bytes() != text.as_bytes()
-            || shelf.calls() != 1,
-    )
-}
-
-#[test]
-fn proof_files_are_made(rt: HostRuntime) -> Result<(), Fail> {
-    let alloc = rt.alloc();
-    let mut other = 0;
-    for (program, status, text) in PROOFS {
-        if is_other_proof(alloc, program, *status, text)? {
             println!(rt; "not {text}")?;
             other += u64::from(other < 1000);
         }
@@ -405,73 +367,6 @@ fn either_file_of_a_check_may_be_missing(rt: HostRuntime) -> Result<(), Fail> {
         }
     }
     assert_eq!(rt; other, 0);
-    Ok(())
-}
-
-// The output of a call that ends with status 0, where a shelf holds a program and a proof; nothing where it ends
-// otherwise.
-fn written(
-    alloc: Global,
-    program: &[u8],
-    proof: &[u8],
-    words: &[&str],
-) -> Result<MemorySink, AllocError> {
-    let mut files = Vec::new(alloc);
-    files.push(file(alloc, "p", program)?)?;
-    files.push(file(alloc, "q", proof)?)?;
-    let mut shelf = MemoryShelf::new(files, Vec::new(alloc));
-    let mut sink = MemorySink::new(alloc, 99_999, Vec::new(alloc))?;
-    let words = words_of(alloc, words)?;
-    if run(alloc, &words, &mut shelf, &mut sink) == Status::Done {
-        Ok(sink)
-    } else {
-        MemorySink::new(alloc, 0, Vec::new(alloc))
-    }
-}
-
-// Whether a text has a line.
-fn has_line(text: &[u8], line: &[u8]) -> bool {
-    for other in text.split(|byte| *byte == b'\n') {
-        if other == line {
-            return true;
-        }
-    }
-    false
-}
-
-// How many times and sizes of a report are lines of the answer to a check, too.
-fn bounds_of_both(alloc: Global, facts: &[u8], report: &[u8]) -> Result<usize, AllocError> {
-    let mut both = Vec::new(alloc);
-    for line in report.split(|byte| *byte == b'\n') {
-        let bounds = line.starts_with(b"time ") || line.starts_with(b"size ");
-        if bounds && has_line(facts, line) {
-            both.push(line)?;
-        }
-    }
-    Ok(both.len())
-}
-
-// How many lines the answer has to the check of what `prove` writes of a program, and how many times and sizes of the
-// report are among them, where all calls end with status 0.
-fn lines_of_check(alloc: Global, program: &[u8]) -> Result<[usize; 2], AllocError> {
-    let proof = written(alloc, program, b"", &["prove", "p"])?;
-    let facts = written(alloc, program, proof.bytes(), &["check", "p", "q"])?;
-    let report = written(alloc, program, b"", &["analyse", "p"])?;
-    let lines = facts.bytes().iter().filter(|byte| **byte == b'\n').count();
-    Ok([lines, bounds_of_both(alloc, facts.bytes(), report.bytes())?])
-}
-
-// What `prove` writes is accepted, with a line for each time and each size of the report behind the first line, and no
-// other: of the generated program of thirteen rules, with two places each, and of a loop inside another, with ten rules.
-#[test]
-fn what_is_proved_is_accepted(rt: HostRuntime) -> Result<(), Fail> {
-    let alloc = rt.alloc();
-    let generated = written(alloc, b"", b"", &["generate", "6"])?;
-    let lines = [
-        lines_of_check(alloc, generated.bytes())?,
-        lines_of_check(alloc, NESTED.as_bytes())?,
-    ];
-    assert_eq!(rt; lines, [[40, 39], [31, 30]]);
     Ok(())
 }
 

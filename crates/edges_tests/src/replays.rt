@@ -1,5 +1,6 @@
 //! Runs beside the bounds of their programs, on shelves and sinks in memory: every answer whole, and what is fetched.
 
+use crate::proofs::FREELY_PRICED;
 use koat_cli::{Status, run};
 use outside_io::{Held, MemoryShelf, MemorySink};
 use std::alloc::{AllocError, Global};
@@ -7,7 +8,9 @@ use std::test::Fail;
 
 // A program that enters a loop and counts down in it; one of whose rules the second has no time; one that doubles its
 // second argument in a loop; one that counts this down then; one that squares its only argument; one with a free
-// variable, and so without a limit on its size; and one that subtracts.
+// variable, and so without a limit on its size; one that subtracts; and with costs one that pays for each round what
+// its argument is, one whose rounds cost less than nothing, one that pays three squares, one that pays a cube, and one
+// that pays a square in each round.
 const COUNTING: &str =
     "(STARTTERM (FUNCTIONSYMBOLS l0))(RULES l0(A) -> Com_1(l1(A)) l1(A) -> Com_1(l1(A-1)) :|: A >= 1)";
 
@@ -30,6 +33,20 @@ const GCD: &str =
     "(STARTTERM (FUNCTIONSYMBOLS start))(RULES start(A, B) -> Com_1(loop(A, B)) :|: A >= 1 && B >= 1
   loop(A, B) -> Com_1(loop(A - B, B)) :|: A > B && B >= 1 loop(A, B) -> Com_1(loop(A, B - A)) :|: B > A && A >= 1
   loop(A, B) -> Com_1(stop(A, B)) :|: A = B)";
+
+/// A program that counts down and pays in each round what its argument is.
+pub(crate) const PAYING: &str = "(STARTTERM (FUNCTIONSYMBOLS l0))(RULES l0(A) -> Com_1(l1(A))
+  l1(A) -{A}> Com_1(l1(A-1)) :|: A >= 1)";
+
+const EARNING: &str =
+    "(STARTTERM (FUNCTIONSYMBOLS l0))(RULES l0(A) -> Com_1(l1(A)) l1(A) -{-1}> Com_1(l1(A)))";
+
+const THREE_SQUARES: &str = "(STARTTERM (FUNCTIONSYMBOLS l0))(RULES l0(A) -{A^2}> Com_1(l1(A))
+  l1(A) -{A^2}> Com_1(l2(A)) l2(A) -{A^2}> Com_1(l3(A)))";
+
+const CUBE: &str = "(STARTTERM (FUNCTIONSYMBOLS l0))(RULES l0(A) -{A^3}> Com_1(l1(A)))";
+
+const SQUARES: &str = "(STARTTERM (FUNCTIONSYMBOLS l0))(RULES l0(A) -{A^2}> Com_1(l0(A)))";
 
 /// The run of the program that counts down from 3 to its end.
 pub(crate) const FOUR_STEPS: &str = "koat-run 1\nstart 3\nstep 1\nstep 2\nstep 2\nstep 2\nend\n";
@@ -84,6 +101,59 @@ const REPLAYS: &[(&str, &str, Status, &str)] = &[
         "koat-run 1\nstart 1\nstep 1 7\nend\n",
         Status::Done,
         "steps 1\ntime 1: 1 of 1\ntotal: 1 of 1\nsize 1.1: 7 of unknown\n",
+    ),
+    (
+        PAYING,
+        FOUR_STEPS,
+        Status::Done,
+        "steps 4\ntime 1: 1 of 1\ntime 2: 3 of 3\ncost 2: 6 of 9\ntotal: 7 of 10\nsize 1.1: 3 of 3\n\
+         size 2.1: 2 of 3\n",
+    ),
+    (
+        EARNING,
+        "koat-run 1\nstart 3\nstep 1\nstep 2\nstep 2\nend\n",
+        Status::Done,
+        "steps 3\ntime 1: 1 of 1\ntime 2: 2 of unknown\ncost 2: 0 of 0\ntotal: 1 of 1\nsize 1.1: 3 of 3\n\
+         size 2.1: 3 of 3\n",
+    ),
+    (
+        THREE_SQUARES,
+        "koat-run 1\nstart 9223372036854775807\nstep 1\nstep 2\nstep 3\nend\n",
+        Status::Done,
+        "steps 3\ntime 1: 1 of 1\ntime 2: 1 of 1\ntime 3: 1 of 1\n\
+         cost 1: 85070591730234615847396907784232501249 of 85070591730234615847396907784232501249\n\
+         cost 2: 85070591730234615847396907784232501249 of 85070591730234615847396907784232501249\n\
+         cost 3: 85070591730234615847396907784232501249 of 85070591730234615847396907784232501249\n\
+         total: 2^127 or more of 2^127 or more\nsize 1.1: 9223372036854775807 of 9223372036854775807\n\
+         size 2.1: 9223372036854775807 of 9223372036854775807\n\
+         size 3.1: 9223372036854775807 of 9223372036854775807\n",
+    ),
+    // Costs beside no bound, and beside one that is too great to be written.
+    (
+        FREELY_PRICED,
+        "koat-run 1\nstart 1\nstep 1 7\nend\n",
+        Status::Done,
+        "steps 1\ntime 1: 1 of 1\ncost 1: 7 of unknown\ntotal: 7 of unknown\nsize 1.1: 1 of 1\n",
+    ),
+    (
+        SQUARES,
+        "koat-run 1\nstart 9223372036854775807\nstep 1\nstep 1\nstep 1\nend\n",
+        Status::Done,
+        "steps 3\ntime 1: 3 of unknown\ncost 1: 2^127 or more of unknown\ntotal: 2^127 or more of unknown\n\
+         size 1.1: 9223372036854775807 of 9223372036854775807\n",
+    ),
+    (
+        CUBE,
+        "koat-run 1\nstart 9223372036854775807\nend\n",
+        Status::Done,
+        "steps 0\ntime 1: 0 of 1\ncost 1: 0 of 2^127 or more\ntotal: 0 of 2^127 or more\n\
+         size 1.1: 0 of 9223372036854775807\n",
+    ),
+    (
+        CUBE,
+        "koat-run 1\nstart 9223372036854775807\nstep 1\nend\n",
+        Status::NotARun,
+        "not a run at step 1: value passes 128 bits\n",
     ),
     (
         COUNTING,

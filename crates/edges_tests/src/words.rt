@@ -61,6 +61,10 @@ const LINES: &[(&[&str], &str)] = &[
         "Some(OfPair { task: Replay, file: \"-\", second: \"-q\" })",
     ),
     (
+        &["lasso", "p", "-"],
+        "Some(OfPair { task: Lasso, file: \"p\", second: \"-\" })",
+    ),
+    (
         &["generate", "0"],
         "Some(OfNumber { task: Generate, n: 0 })",
     ),
@@ -79,6 +83,11 @@ const LINES: &[(&[&str], &str)] = &[
     (
         &["facts", "--", "-p"],
         "Some(OfProgram { task: Facts, pivots: 10000, file: \"-p\" })",
+    ),
+    (&["lp", "p"], "Some(OfFile { task: Lp, file: \"p\" })"),
+    (
+        &["lp", "--", "-p"],
+        "Some(OfFile { task: Lp, file: \"-p\" })",
     ),
     (&[], "None"),
     (&["analyse"], "None"),
@@ -109,6 +118,7 @@ const LINES: &[(&[&str], &str)] = &[
     (&["check", "p"], "None"),
     (&["check", "p", "q", "r"], "None"),
     (&["replay", "--pivots=5", "p", "q"], "None"),
+    (&["lasso", "p"], "None"),
     (&["generate"], "None"),
     (&["generate", ""], "None"),
     (&["generate", "01"], "None"),
@@ -125,6 +135,10 @@ const LINES: &[(&[&str], &str)] = &[
     (&["facts", "p", "q"], "None"),
     (&["facts", "--pivots=1000001", "p"], "None"),
     (&["fact", "p"], "None"),
+    (&["lp"], "None"),
+    (&["lp", "p", "q"], "None"),
+    (&["lp", "--pivots=5", "p"], "None"),
+    (&["LP", "p"], "None"),
 ];
 
 const ANALYSE_P: &str = "Some(OfProgram { task: Analyse, pivots: 10000, file: \"p\" })";

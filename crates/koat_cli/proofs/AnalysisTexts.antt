@@ -16,7 +16,8 @@ use Rattle.its_model.specs.linear_forms.RuleQuestions.{RankedSet, rank_question,
 use Rattle.its_model.specs.linear_forms.RuleQuestions.{move_group}
 use Rattle.its_model.specs.linear_forms.RuleQuestions.{floor_group}
 use Rattle.outcome.specs.cert_rules.Gaps.{SymbolPlace, Gap}
-use Rattle.outcome.specs.cert_rules.Nodes.{RankNode}
+use Rattle.outcome.specs.cert_rules.AcceptsCosts.{stated_cost}
+use Rattle.outcome.specs.cert_rules.Nodes.{CostBy, RankNode}
 use Rattle.outcome.specs.cert_program.Setting.{setting_of}
 use Rattle.outcome.specs.cert_types.declared.answer.GuardFeasibility.{GuardFeasibility}
 use Rattle.time_bounds.specs.rank_search.declared.answer.RankAnswer.{RankAnswer}
@@ -25,10 +26,10 @@ use Rattle.time_bounds.specs.rule_questions.ProgramQuestions.{ranked_set}
 use Rattle.time_bounds.specs.rule_questions.RuleAnswers.{answer_for, point_in}
 use Rattle.time_bounds.specs.rank_search.RankAnswers.{points_of, IsReadOff, IsRankAnswer}
 use Rattle.outcome.specs.Reports.{NoTime, NoFunction, TimeTripped, TimeLarge, Time, Timed, Untimed}
-use Rattle.outcome.specs.Reports.{Size, Sized, Unsized, Report}
+use Rattle.outcome.specs.Reports.{Size, Sized, Unsized, RuleCost, Costed, Uncosted, Report, spendings, spent_in}
 use Rattle.time_bounds.specs.bound_fixpoint.Answers.{Target, TimeOf, SizesOf, Lacks, Tells, TellsTime, TellsRanking}
 use Rattle.time_bounds.specs.bound_fixpoint.Derivations.{Derivation, bounds_of}
-use Rattle.time_bounds.specs.bound_fixpoint.Keys.{Bounds}
+use Rattle.time_bounds.specs.bound_fixpoint.Keys.{Bounds, over}
 use Rattle.time_bounds.specs.bound_fixpoint.Rounds.{IsAskedFor, IsNoBound}
 use Rattle.time_bounds.specs.bound_fixpoint.Searches.{OfTime}
 use Rattle.time_bounds.specs.bound_fixpoint.Searches.{Ranking, Ranked, Unranked, RankTripped}
@@ -36,15 +37,17 @@ use Rattle.time_bounds.specs.bound_fixpoint.Sets.{AreShutOf}
 use Rattle.report_text.specs.bound_text.Texts.{FitsTypes}
 use Rattle.report_text.specs.Printable as texts
 use Rattle.report_text.specs.Printable.{IsShort, IsPrintablePlace, IsPrintableGap, IsPrintableNoTime, IsPrintableTime}
-use Rattle.report_text.specs.Printable.{IsPrintableSize, IsPrintableTotal, IsPrintableReport}
+use Rattle.report_text.specs.Printable.{IsPrintableCost, IsPrintableSize, IsPrintableTotal, IsPrintableReport}
 use Rattle.report_text.proofs.OneReport.{one_report}
+use Rattle.cost_bounds.specs.CostOutcomes.{BoundedBy, IsCostOf}
 use Rattle.time_bounds.specs.ProgramRules.{ranking_of}
 use Rattle.time_bounds.specs.ProgramSearches.{searches_of_program}
 use Rattle.time_bounds.specs.Totals.{total_of}
-use Rattle.time_bounds.specs.Analysis.{AreTimesOf, AreSizesOf, AreSizeRowsOf, IsAnalysis, bound_in}
+use Rattle.time_bounds.specs.Analysis.{AreTimesOf, AreCostsOver, AreSizesOf, AreSizeRowsOf, IsAnalysis}
 use Rattle.time_bounds.specs.PrintableLaws.{IsPrintableBound, ArePrintableBounds, ArePrintable}
 use Rattle.time_bounds.proofs.Printables.{found_printable}
-use Rattle.koat_cli.specs.AnalysisTexts.{HasShortNumbers, ReasonFits, TimeFits, SizeFits, TotalFits, ReportFits}
+use Rattle.koat_cli.specs.AnalysisTexts.{HasShortNumbers, ReasonFits, TimeFits, CostFits, SizeFits, TotalFits}
+use Rattle.koat_cli.specs.AnalysisTexts.{ReportFits}
 use Rattle.koat_cli.specs.AnalysisTexts.{AnalysisTextsStateOneReport}
 
 -- what may be there is one
@@ -140,6 +143,11 @@ gap_read b shut pivots empties f (ranks.OutOfLimits x) e r = absurd (apart e)
     apart : RankTripped x ≡ Unranked f → ⊥
     apart y = cc
 
+-- a bound that is found, and whose numbers fit
+bound_fits : (p : Program) (b : Bound) → IsPrintableBound (length p.start_names) b → FitsTypes b
+    → texts.IsPrintableBound (length p.start_names) b
+bound_fits p b h fits = record { tidy = h.0; listed = h.1; fits = fits }
+
 module _ (p : Program) (pivots : ℕ) (valid : IsValid p) (fs : List Derivation)
     (good : ArePrintableBounds (length p.start_names) (bounds_of p fs)) where
   -- the gap that an answer to the question of a set gives as the reason
@@ -183,17 +191,12 @@ module _ (p : Program) (pivots : ℕ) (valid : IsValid p) (fs : List Derivation)
       by (TimeOf u) asked tells = told_fits u g fits tells
       by (SizesOf keys) asked tells = absurd asked
 
-  -- a bound
-  bound_fits : (b : Bound) → IsPrintableBound (length p.start_names) b → FitsTypes b
-      → texts.IsPrintableBound (length p.start_names) b
-  bound_fits b h fits = record { tidy = h.0; listed = h.1; fits = fits }
-
   -- the times from rule k on
   times_fit : (k : ℕ) (times : List Time) → AreTimesOf (searches_of_program p pivots) p fs k times
       → AllByRecursion TimeFits times → AllByRecursion (IsPrintableTime p) times
   times_fit k [] h fits = tt
   times_fit k (Timed b ∷ times) h fits =
-      (bound_fits b (good.each k 0 b h.0) fits.0, times_fit (suc k) times h.1 fits.1)
+      (bound_fits p b (good.each k 0 b h.0) fits.0, times_fit (suc k) times h.1 fits.1)
   times_fit k (Untimed why ∷ times) h fits =
       (no_time_fits k why h.0 fits.0, times_fit (suc k) times h.1 fits.1)
 
@@ -202,7 +205,7 @@ module _ (p : Program) (pivots : ℕ) (valid : IsValid p) (fs : List Derivation)
       → AllByRecursion SizeFits sizes → AllByRecursion (IsPrintableSize p) sizes
   sizes_fit t i [] h fits = tt
   sizes_fit t i (Sized b ∷ sizes) h fits =
-      (bound_fits b (good.each t i b h.0) fits.0, sizes_fit t (suc i) sizes h.1 fits.1)
+      (bound_fits p b (good.each t i b h.0) fits.0, sizes_fit t (suc i) sizes h.1 fits.1)
   sizes_fit t i (Unsized why ∷ sizes) h fits = (fits.0, sizes_fit t (suc i) sizes h.1 fits.1)
 
   -- and those of each rule from t on
@@ -211,19 +214,47 @@ module _ (p : Program) (pivots : ℕ) (valid : IsValid p) (fs : List Derivation)
   rows_fit t [] h fits = tt
   rows_fit t (row ∷ rows) h fits = (sizes_fit t 1 row h.0 fits.0, rows_fit (suc t) rows h.1 fits.1)
 
--- the bounds of printable times are tidy, over the start arguments
-bounds_of_times : (p : Program) (times : List Time) → AllByRecursion (IsPrintableTime p) times
-    → ArePrintable (length p.start_names) (map bound_in times)
-bounds_of_times p [] h = tt
-bounds_of_times p (Timed b ∷ times) h = ((h.0.tidy, h.0.listed), bounds_of_times p times h.1)
-bounds_of_times p (Untimed why ∷ times) h = bounds_of_times p times h.1
+-- each bound on a cost over these bounds is printable
+abbrev ArePrintableCosts : Program → ℕ → List Derivation → Type 0
+ArePrintableCosts p pivots fs = (t : ℕ) (by : CostBy) → IsCostOf p pivots (over (bounds_of p fs)) t (BoundedBy by)
+    → IsPrintableBound (length p.start_names) (stated_cost (setting_of p) (over (bounds_of p fs)) t by)
 
--- the total of printable times
-total_fits : (p : Program) (times : List Time) (total : Option Bound) → AllByRecursion (IsPrintableTime p) times
-    → total ≡ total_of (map bound_in times) → TotalFits total → IsPrintableTotal p total
-total_fits p times None h e fits = tt
-total_fits p times (Some b) h e fits =
-    let tidy = found_printable.totals (length p.start_names) (map bound_in times) b (bounds_of_times p times h) (sym e) in
+-- so the costs from rule k on are printable
+costs_fit : (p : Program) (pivots : ℕ) (fs : List Derivation) → ArePrintableCosts p pivots fs → (k : ℕ)
+    (costs : List (Option RuleCost)) → AreCostsOver p pivots (bounds_of p fs) k costs → AllByRecursion CostFits costs
+    → AllByRecursion (IsPrintableCost p) costs
+costs_fit p pivots fs good k [] h fits = tt
+costs_fit p pivots fs good k (None ∷ costs) h fits = (tt, costs_fit p pivots fs good (suc k) costs h.1 fits.1)
+costs_fit p pivots fs good k (Some (Costed b) ∷ costs) h fits = (
+  bound_fits p b (subst (IsPrintableBound (length p.start_names)) (sym h.0.2) (good k h.0.0 h.0.1)) fits.0,
+  costs_fit p pivots fs good (suc k) costs h.1 fits.1,
+)
+costs_fit p pivots fs good k (Some (Uncosted why) ∷ costs) h fits =
+    (fits.0, costs_fit p pivots fs good (suc k) costs h.1 fits.1)
+
+-- what rules with printable times and costs spend is tidy, over the start arguments
+spent_fits : (p : Program) (t : Time) (c : Option RuleCost) (rest : List (Option Bound)) → IsPrintableTime p t
+    → IsPrintableCost p c → ArePrintable (length p.start_names) rest
+    → ArePrintable (length p.start_names) (spent_in t c ∷ rest)
+spent_fits p (Timed b) None rest h k more = ((h.tidy, h.listed), more)
+spent_fits p (Untimed why) None rest h k more = more
+spent_fits p t (Some (Costed b)) rest h k more = ((k.tidy, k.listed), more)
+spent_fits p t (Some (Uncosted why)) rest h k more = more
+
+spendings_fit : (p : Program) (times : List Time) (costs : List (Option RuleCost))
+    → AllByRecursion (IsPrintableTime p) times → AllByRecursion (IsPrintableCost p) costs
+    → ArePrintable (length p.start_names) (spendings times costs)
+spendings_fit p [] costs h k = tt
+spendings_fit p (t ∷ times) [] h k = tt
+spendings_fit p (t ∷ times) (c ∷ costs) h k =
+    spent_fits p t c (spendings times costs) h.0 k.0 (spendings_fit p times costs h.1 k.1)
+
+-- and so is the total of printable bounds
+total_fits : (p : Program) (spent : List (Option Bound)) (total : Option Bound)
+    → ArePrintable (length p.start_names) spent → total ≡ total_of spent → TotalFits total → IsPrintableTotal p total
+total_fits p spent None h e fits = tt
+total_fits p spent (Some b) h e fits =
+    let tidy = found_printable.totals (length p.start_names) spent b h (sym e) in
     record { tidy = tidy.0; listed = tidy.1; fits = fits }
 
 -- the report of an analysis whose numbers fit is printable
@@ -231,7 +262,8 @@ analysis_fits : (p : Program) (pivots : ℕ) (r : Report) → IsValid p → IsAn
     → IsPrintableReport p r
 analysis_fits p pivots r valid h fits = record {
   times = times;
-  total = total_fits p r.times r.total times h.total fits.total;
+  costs = costs;
+  total = total_fits p (spendings r.times r.costs) r.total (spendings_fit p r.times r.costs times costs) h.total fits.total;
   sizes = rows_fit p pivots valid h.derivations good 1 r.sizes h.sizes fits.sizes;
 }
   where
@@ -240,6 +272,12 @@ analysis_fits p pivots r valid h fits = record {
 
     times : AllByRecursion (IsPrintableTime p) r.times
     times = times_fit p pivots valid h.derivations good 1 r.times h.times fits.times
+
+    good_costs : ArePrintableCosts p pivots h.derivations
+    good_costs t by is = found_printable.costs p pivots h.derivations t by valid h.last.made is
+
+    costs : AllByRecursion (IsPrintableCost p) r.costs
+    costs = costs_fit p pivots h.derivations good_costs 1 r.costs h.costs fits.costs
 
 -- so it is determined by its text
 pub reports_are_determined : AnalysisTextsStateOneReport

@@ -4,7 +4,7 @@ use Rattle.outside_io.specs.Counts.{Rose}
 use Rattle.outside_io.specs.Files.{Files}
 use Rattle.command_line.specs.Requests.{Request, Asks}
 use Rattle.call_plans.specs.declared.status.Status.{Status}
-use Rattle.call_plans.specs.declared.status.Status.TheVariants.{Usage, ReadFault, Memory}
+use Rattle.call_plans.specs.declared.status.Status.TheVariants.{Usage, ReadFault}
 use Rattle.call_plans.specs.Calls.{Seen, Put}
 use Rattle.call_plans.specs.Plans.{IsLast}
 use Rattle.call_plans.specs.Endings.{EndsOn, IsHonest}
@@ -39,11 +39,12 @@ usage call put s h =
 module _ (laws : Determined) where
   -- the status follows from the contents of the shelf
   on_shelf : (call : Call) (put : Put) (files : Files) (r : Request) (s t : Status) → Asks call.words r
-      → IsOnShelf call put files → Ends s call put → s ≢ Memory → (s ≡ t) ↔ EndsOn files (plan_of r) t
-  on_shelf call put files r s t asked on ends memory =
-      let w : WroteWhole s call put = ends.wrote (λ e. on.no_write_fault (ends.write_fault e).fault) memory in
-      exactly_where call.shelf files call.fetches_before (plan_of r) on.held (plans_lawful laws r) s w.text
-      (honest_without_rise call.shelf on.no_read_fault s) (answer_of call r s w.text asked w.says) t
+      → IsOnShelf s call files → EndsWell s call put → (s ≡ t) ↔ EndsOn files (plan_of r) t
+  on_shelf call put files r s t asked on h =
+      let w = wrote call put s h in
+      let honest : IsHonest call.shelf s = λ e. honest_without_rise call.shelf (on.no_read_fault e) s e in
+      exactly_where call.shelf files call.fetches_before (plan_of r) on.held (plans_lawful laws r) s w.text honest
+      (answer_of call r s w.text asked w.says) t
 
   -- and from the table alone where no file is read
   without_file : (call : Call) (put : Put) (files : Files) (r : Request) (s t : Status) → Asks call.words r

@@ -1,10 +1,9 @@
 -- What the status means with which a call ends.
-use Rattle.std.proofs.Common.{◌≡◌, ◌≢◌, ℕ, List, IsTrue, IsFalse, inl, inr, refl, sym, ◌∙◌, ap, subst}
-use Rattle.std.specs.List.{list_all}
+use Rattle.std.proofs.Common.{◌≡◌, ◌≢◌, ℕ, List, IsSome, IsTrue, IsFalse, inl, inr, refl, sym, ◌∙◌, ap, subst}
 use Rattle.command_line.specs.Lines.{Word}
 use Rattle.command_line.specs.Requests.{Request, OfProgram, Asks}
 use Rattle.command_line.specs.declared.task.ProgramTask.TheVariants.{Analyse}
-use Rattle.outcome.specs.Reports.{Report, is_timed}
+use Rattle.outcome.specs.Reports.{Report, is_bounded}
 use Rattle.call_plans.specs.declared.status.Status.{Status}
 use Rattle.call_plans.specs.declared.status.Status.TheVariants.{Done, Unknown, Usage, ReadFault, WriteFault, Memory}
 use Rattle.call_plans.specs.Sorts.{Answer, Refusal, sort_of}
@@ -18,42 +17,44 @@ use Rattle.koat_cli.specs.Ends.{Ends, WroteWhole}
 use Rattle.koat_cli.specs.Means.{Means}
 use Rattle.koat_cli.specs.Report.{usage_text}
 use Rattle.koat_cli.specs.WroteReport.{WroteReport}
+use Rattle.koat_cli.proofs.BoundedReports.{total_where_bounded}
 use Rattle.koat_cli.proofs.LawfulPlans.{plans_sorted}
 use Rattle.koat_cli.proofs.OneRequest.{answer_of, asked_where, answer_whole, refusal_whole, usage_for_nothing, usage_says}
 
 module _ (call : Call) (put : Put) (n : ℕ) (file : Word) where
-  -- a report with a time for every rule was written with `Done`, and one without one for some with `Unknown`
+  -- a report that lacks no bound was written with `Done`, and one that lacks one with `Unknown`
   done_wrote : Wrote call.shelf put (plan_of (OfProgram Analyse n file)) Done
-      → (report : Report) × WroteReport call put n file report × IsTrue (list_all is_timed report.times)
+      → (report : Report) × WroteReport call put n file report × IsTrue (is_bounded report) × IsSome report.total
   done_wrote (p, (gives, (x, (inl told, appended)))) = (
     told.1.report,
     record {
       program = p;
       given = gives;
-      found = told.1.found;
+      found = told.1.holds.found;
       text = x;
-      stated = told.1.stated;
+      stated = told.1.holds.stated;
       appended = appended;
     },
-    told.1.times,
+    told.1.bounded,
+    total_where_bounded p told.1.report told.1.holds.stated.report told.1.bounded,
   )
   done_wrote (p, (gives, (x, (inr (inl told), appended)))) = absurd (let e : Done ≡ Unknown = told.0 in let never : ⊥ = cc in never)
   done_wrote (p, (gives, (x, (inr (inr never), appended)))) = absurd never
 
   unknown_wrote : Wrote call.shelf put (plan_of (OfProgram Analyse n file)) Unknown
-      → (report : Report) × WroteReport call put n file report × IsFalse (list_all is_timed report.times)
+      → (report : Report) × WroteReport call put n file report × IsFalse (is_bounded report)
   unknown_wrote (p, (gives, (x, (inl told, appended)))) = absurd (let e : Unknown ≡ Done = told.0 in let never : ⊥ = cc in never)
   unknown_wrote (p, (gives, (x, (inr (inl told), appended)))) = (
     told.1.report,
     record {
       program = p;
       given = gives;
-      found = told.1.found;
+      found = told.1.holds.found;
       text = x;
-      stated = told.1.stated;
+      stated = told.1.holds.stated;
       appended = appended;
     },
-    told.1.times,
+    told.1.bounded,
   )
   unknown_wrote (p, (gives, (x, (inr (inr never), appended)))) = absurd never
 

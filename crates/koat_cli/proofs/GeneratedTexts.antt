@@ -1,6 +1,5 @@
 -- What is answered of a generated program.
 use Rattle.std.proofs.Common.{◌≡◌, ℕ, List, length, subst, sym, ◌∙◌, ap, refl, inl}
-use Rattle.std.specs.List.{list_all}
 use Rattle.model.specs.Programs.{Program}
 use Rattle.its_reader.specs.its_text.Spelling.{SpellsWithin}
 use Rattle.its_writer.specs.Generated.{generated}
@@ -8,7 +7,6 @@ use Rattle.its_writer.specs.Texts.{canonical_text}
 use Rattle.command_line.specs.Requests.{default_pivots}
 use Rattle.outcome.specs.declared.outcome_of.Outcome.{Outcome}
 use Rattle.outcome.specs.Holding.{ReportHolds}
-use Rattle.outcome.specs.Reports.{is_timed}
 use Rattle.outcome.specs.Views.{report_of}
 use Rattle.time_bounds.specs.Analysis.{IsAnalysis}
 use Rattle.time_bounds.specs.AnalysisLemmas.{HasLemmas}
@@ -17,10 +15,10 @@ use Rattle.call_plans.specs.declared.status.Status.{Status}
 use Rattle.call_plans.specs.declared.status.Status.TheVariants.{Done}
 use Rattle.call_plans.specs.Plans.{Tells}
 use Rattle.koat_cli.specs.Figures.{text_of_figures}
-use Rattle.koat_cli.specs.Found.{FindsTimes, status_of, by_times}
+use Rattle.koat_cli.specs.Found.{status_of, by_report}
 use Rattle.koat_cli.specs.Commands.Generate.{generate_answers}
 use Rattle.koat_cli.specs.Commands.Selfrun.{StatesFigures}
-use Rattle.koat_cli.proofs.Timed.{timed_told}
+use Rattle.koat_cli.proofs.ReportTables.{report_told}
 
 -- the text of a program that is the generated one
 pub generated_told : (n : ℕ) (p : Program) (x : List ℕ) → p ≡ generated n → x ≡ canonical_text p
@@ -41,13 +39,13 @@ pub figures_told : (p q : Program) (o : Outcome) (s : Status) (x : List ℕ) →
     → IsAnalysis p default_pivots (report_of o) → ReportHolds p (report_of o)
     → ReasonsAreTrue p default_pivots (report_of o) → HasLemmas p default_pivots o
     → x ≡ text_of_figures p (report_of o) (length o.lemmas.items) → s ≡ status_of (report_of o)
-    → Tells (by_times (FindsTimes q default_pivots) (StatesFigures q)) s x
+    → Tells (by_report (IsAnalysis q default_pivots) (StatesFigures q)) s x
 figures_told p q o s x e found holds reasons lemmas result_is ends =
-    subst (λ (r : Program). Tells (by_times (FindsTimes r default_pivots) (StatesFigures r)) s x) e
-    (timed_told (FindsTimes p default_pivots) (StatesFigures p) (list_all is_timed (report_of o).times) s x ends (record {
+    subst (λ (r : Program). Tells (by_report (IsAnalysis r default_pivots) (StatesFigures r)) s x) e
+    (report_told (IsAnalysis p default_pivots) (StatesFigures p) (report_of o) s x ends (record {
       outcome = o;
+      reported = refl;
       found = record { found = found; true_on_all_runs = holds; reasons = reasons };
       lemmas = lemmas;
-      times = refl;
       result_is = result_is;
     }))

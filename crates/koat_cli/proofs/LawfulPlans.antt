@@ -1,5 +1,5 @@
 -- The plan of each request is lawful, and its statuses are of their sorts.
-use Rattle.std.proofs.Common.{◌≡◌, ℕ, List, refl, sym, ◌∙◌, inl, inr}
+use Rattle.std.proofs.Common.{◌≡◌, ℕ, List, refl, sym, ◌∙◌, subst, inl, inr}
 use Rattle.std.specs.Prelude.{⊤}
 use Rattle.model.specs.Programs.{Program}
 use Rattle.its_reader.specs.its_text.Spelling.{SpellsWithin}
@@ -8,34 +8,36 @@ use Rattle.command_line.specs.declared.task.ProgramTask.{ProgramTask}
 use Rattle.command_line.specs.declared.task.PairTask.{PairTask}
 use Rattle.command_line.specs.declared.task.NumberTask.{NumberTask}
 use Rattle.command_line.specs.Lines.{Word}
-use Rattle.command_line.specs.Requests.{Request, OfProgram, OfPair, OfNumber, default_pivots}
+use Rattle.command_line.specs.Requests.{Request, OfProgram, OfPair, OfNumber, OfFile, default_pivots}
 use Rattle.command_line.specs.declared.task.ProgramTask.TheVariants.{Analyse, Prove, Facts}
-use Rattle.command_line.specs.declared.task.PairTask.TheVariants.{Check, Replay}
+use Rattle.command_line.specs.declared.task.PairTask.TheVariants.{Check, Replay, Lasso}
 use Rattle.command_line.specs.declared.task.NumberTask.TheVariants.{Generate, Selfrun}
+use Rattle.command_line.specs.declared.task.FileTask.TheVariants.{Lp}
 use Rattle.cert_types.specs.cert_rules.Gaps.{ProofFile}
 use Rattle.cert_types.specs.cert_program.Laws.{AcceptsFileFor}
 use Rattle.check_text.specs.Verdicts.{IsAcceptance, IsRefusal}
-use Rattle.outcome.specs.Views.{report_of}
 use Rattle.run_replay.specs.Runs.{Run}
+use Rattle.time_bounds.specs.Analysis.{IsAnalysis}
 use Rattle.call_plans.specs.declared.status.Status.{Status}
 use Rattle.call_plans.specs.declared.status.Status.TheVariants.{No, NotARun}
 use Rattle.call_plans.specs.Plans.{End, Case, Comes, IsLast}
 use Rattle.call_plans.specs.Lawful.{AreRows, IsLawful, HasSorts}
-use Rattle.koat_cli.specs.Found.{FindsTimes}
 use Rattle.koat_cli.specs.Commands.Analyse.{StatesReport}
 use Rattle.koat_cli.specs.Commands.Prove.{StatesProof}
-use Rattle.koat_cli.specs.Commands.Facts.{FindsTimesWithFacts, StatesFacts}
+use Rattle.koat_cli.specs.Commands.Facts.{IsAnalysisWithFacts, StatesFacts}
 use Rattle.koat_cli.specs.Commands.Check.{check_answers}
 use Rattle.koat_cli.specs.Commands.Replay.{IsInRange, HasBadStep, StatesBadStep, replay_answers}
 use Rattle.koat_cli.specs.Commands.Selfrun.{StatesFigures}
 use Rattle.koat_cli.specs.RequestPlans.{program_answers, second_plan, number_answers, plan_of}
 use Rattle.koat_cli.proofs.Determined.{Determined}
-use Rattle.koat_cli.proofs.OneText.{times_apart, report_text_unique, facts_text_unique, figures_unique, proof_text_unique}
-use Rattle.koat_cli.proofs.OneText.{tally_text_unique, bad_step_text_unique, in_range_apart, facts_times_apart}
+use Rattle.koat_cli.proofs.OneText.{report_text_unique, facts_report_unique, facts_text_unique, figures_unique}
+use Rattle.koat_cli.proofs.OneText.{proof_text_unique, tally_text_unique, bad_step_text_unique, in_range_apart}
 use Rattle.koat_cli.proofs.ProgramAnswers.{program_texts_decided}
 use Rattle.koat_cli.proofs.ProofAnswers.{proof_texts_decided, one_refusal, one_acceptance, refused_not_accepted}
 use Rattle.koat_cli.proofs.RunAnswers.{run_texts_decided}
-use Rattle.koat_cli.proofs.Timed.{timed_rows}
+use Rattle.koat_cli.proofs.LassoAnswers.{lasso_texts_decided, lasso_rows}
+use Rattle.koat_cli.proofs.LpAnswers.{lp_texts_decided, lp_rows}
+use Rattle.koat_cli.proofs.ReportTables.{report_rows}
 
 -- the rows of a check
 accepted_alone : (p : Program) (f : ProofFile) (s : Status) → AcceptsFileFor p f
@@ -65,33 +67,31 @@ module _ (laws : Determined) where
   -- of what is answered of a program
   program_rows : (task : ProgramTask) (n : ℕ) (p : Program) → AreRows (program_answers task n p)
   program_rows Analyse n p =
-      timed_rows (FindsTimes p n) (StatesReport p n) (times_apart laws p n) (report_text_unique laws p n)
-      (λ all x h. record { report = h.report; found = h.found.found; times = h.times })
+      report_rows (IsAnalysis p n) (StatesReport p n) (laws.reports.each p n) (λ r x h. h.found.found)
+      (report_text_unique p n)
   program_rows Prove n p =
-      timed_rows (FindsTimes p n) (StatesProof p n) (times_apart laws p n) (proof_text_unique laws p n)
-      (λ all x h. record { report = report_of h.outcome; found = h.proved.found.found; times = h.times })
+      report_rows (IsAnalysis p n) (StatesProof p n) (laws.reports.each p n)
+      (λ r x h. subst (IsAnalysis p n) h.reported h.proved.found.found) (proof_text_unique laws p n)
   program_rows Facts n p =
-      timed_rows (FindsTimesWithFacts p n) (StatesFacts p n) (facts_times_apart laws p n) (facts_text_unique laws p n)
-      (λ all x h. record {
-        facts = h.facts;
-        kept = h.found.kept;
-        finds = record { report = h.report; found = h.found.found; times = h.times };
-      })
+      report_rows (IsAnalysisWithFacts p n) (StatesFacts p n) (facts_report_unique laws p n)
+      (λ r x h. record { facts = h.facts; kept = h.found.kept; found = h.found.found }) (facts_text_unique laws p n)
 
   -- and of a number
   number_rows : (task : NumberTask) (n : ℕ) → AreRows (number_answers task n)
   number_rows Generate n =
       (record { one = λ x y a b. a.result_is ∙ sym b.result_is; comes = λ x a. tt; alone = λ s h never. never }, tt)
   number_rows Selfrun n =
-      timed_rows (FindsTimes (generated n) default_pivots) (StatesFigures (generated n))
-      (times_apart laws (generated n) default_pivots) (figures_unique laws (generated n))
-      (λ all x h. record { report = report_of h.outcome; found = h.found.found; times = h.times })
+      report_rows (IsAnalysis (generated n) default_pivots) (StatesFigures (generated n))
+      (laws.reports.each (generated n) default_pivots)
+      (λ r x h. subst (IsAnalysis (generated n) default_pivots) h.reported h.found.found)
+      (figures_unique laws (generated n))
 
   second_lawful : (task : PairTask) (p : Program) (second : Word) (spelling : List ℕ) → SpellsWithin spelling p
       → IsLawful (second_plan task p second)
   second_lawful Check p second spelling spelled =
       (proof_texts_decided spelling p spelled, λ bytes f stands. check_rows p f)
   second_lawful Replay p second spelling spelled = (run_texts_decided p, λ bytes r stands. replay_rows p r)
+  second_lawful Lasso p second spelling spelled = (lasso_texts_decided p, λ bytes l stands. lasso_rows laws.replays p l)
 
   -- the plan of each request is lawful
   pub plans_lawful : (request : Request) → IsLawful (plan_of request)
@@ -100,11 +100,13 @@ module _ (laws : Determined) where
   plans_lawful (OfPair task file second) =
       (program_texts_decided laws, λ bytes p stands. second_lawful task p second bytes stands)
   plans_lawful (OfNumber task n) = number_rows task n
+  plans_lawful (OfFile Lp file) = (lp_texts_decided, λ bytes p stands. lp_rows p)
 
 -- its statuses are of their sorts
 second_sorted : (task : PairTask) (p : Program) (second : Word) → HasSorts (second_plan task p second)
 second_sorted Check p second = (refl, λ f. (refl, (refl, tt)))
 second_sorted Replay p second = (refl, λ r. (refl, (refl, tt)))
+second_sorted Lasso p second = (refl, λ l. (refl, (refl, (refl, tt))))
 
 program_sorted : (task : ProgramTask) (n : ℕ) (file : Word) → HasSorts (plan_of (OfProgram task n file))
 program_sorted Analyse n file = (refl, λ p. (refl, (refl, tt)))
@@ -116,8 +118,10 @@ plans_sorted (OfProgram task n file) = program_sorted task n file
 plans_sorted (OfPair task file second) = (refl, λ p. second_sorted task p second)
 plans_sorted (OfNumber Generate n) = (refl, tt)
 plans_sorted (OfNumber Selfrun n) = (refl, (refl, tt))
+plans_sorted (OfFile Lp file) = (refl, λ p. (refl, (refl, tt)))
 
 -- a second file is read behind the first of two
 pub second_not_last : (task : PairTask) (p : Program) (second : Word) → ¬ (IsLast (second_plan task p second))
 second_not_last Check p second last = last
 second_not_last Replay p second last = last
+second_not_last Lasso p second last = last

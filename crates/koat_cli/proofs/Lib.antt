@@ -2,7 +2,8 @@
 -- and what their statuses mean; worked values
 pub mod Counts
 pub mod Determined
-pub mod Timed
+pub mod ReportTables
+pub mod BoundedReports
 pub mod OneText
 pub mod FewSymbols
 pub mod ReadPrograms
@@ -11,10 +12,13 @@ pub mod ProofRefusals
 pub mod ProgramAnswers
 pub mod RunAnswers
 pub mod ProofAnswers
+pub mod LpAnswers
 pub mod ProofFiles
 pub mod GeneratedTexts
 pub mod WithinBounds
 pub mod ToldTallies
+pub mod LassoAnswers
+pub mod LassoLaws
 pub mod LawfulPlans
 pub mod OneRequest
 pub mod EndsMean

@@ -1,15 +1,18 @@
 -- The lines of two lists beside each other, as a loop writes them: what is written and what is left make the whole.
 use Rattle.std.proofs.Common.{◌≡◌, ℕ, suc, ◌+◌, ◌<◌, ◌≤◌, min, List, [], ◌∷◌, ◌++◌, length, map, drop, get_or, refl, sym, ◌∙◌}
-use Rattle.std.proofs.Common.{ap, append_assoc, arith, inl, inr, ◌⊎◌}
+use Rattle.std.proofs.Common.{ap, append_assoc, arith, inl, inr, ◌⊎◌, Option}
 use Rattle.std.proofs.lemmas.List.{append-nil, at_drop_more}
 use Rattle.std.proofs.Math.ListN.{drop_of_length-le}
 use Rattle.outcome.specs.declared.entry.TimeEntry.{TimeEntry}
 use Rattle.outcome.specs.declared.entry.TimeEntry.TheVariants as times
+use Rattle.outcome.specs.declared.entry.CostEntry.{CostEntry}
 use Rattle.outcome.specs.declared.entry.SizeEntry.{SizeEntry}
 use Rattle.outcome.specs.Views.{time_of, size_of}
 use Rattle.outcome.specs.cert_types.declared.gap.Gap as code
-use Rattle.koat_cli.specs.ReplayTexts.{lines_beside, count_line, greatest_line, greatest_lines, time_value, size_value}
-use Rattle.koat_cli.specs.Steps.{entry_value, place_lines}
+use Rattle.report_text.specs.Conditions.{rule_cost_of}
+use Rattle.koat_cli.specs.ReplayTexts.{lines_beside, count_line, spent_line, spent_lines, greatest_line, greatest_lines}
+use Rattle.koat_cli.specs.ReplayTexts.{time_value, size_value}
+use Rattle.koat_cli.specs.Steps.{entry_value, cost_lines, place_lines}
 
 -- the line of one more pair
 pub beside_more : {X Y : Type 0} (line : ℕ → X → Y → List ℕ) (xs : List X) (ys : List Y) (i : ℕ) (x : X) (y : Y)
@@ -86,6 +89,14 @@ times_beside at gaps counts entries =
     (time_of gaps) (λ rule n e. ap (λ (v : List ℕ). count_line rule n v) (entry_is_time at gaps e)) 1 counts entries
     ∙ ap (λ (ns : List ℕ). lines_beside (λ rule n t. count_line rule n (time_value at t)) 1 ns (map (time_of gaps) entries))
     (same_list counts)
+
+-- the lines of costs are those of what they are as plain data
+pub costs_beside : (at spent : List ℕ) (entries : List (Option CostEntry))
+    → cost_lines at 1 spent entries ≡ spent_lines at spent (map rule_cost_of entries)
+costs_beside at spent entries =
+    beside_same (λ rule n e. spent_line at rule n (rule_cost_of e)) (spent_line at) (λ n. n) rule_cost_of (λ rule n e. refl) 1
+    spent entries
+    ∙ ap (λ (ns : List ℕ). lines_beside (spent_line at) 1 ns (map rule_cost_of entries)) (same_list spent)
 
 -- and those of the places after a rule are those of their sizes
 pub places_beside : (at : List ℕ) (rule : ℕ) (numbers : List ℕ) (entries : List SizeEntry)

@@ -1,7 +1,5 @@
 -- What is printed of what an analysis found is the text of its proof file.
 use Rattle.std.proofs.Common.{◌≡◌, ℕ, List, refl, sym}
-use Rattle.std.specs.List.{list_all}
-use Rattle.outcome.specs.Reports.{is_timed}
 use Rattle.its_model.specs.Valid.{IsValid}
 use Rattle.model.specs.Programs.{Program}
 use Rattle.outcome.specs.Holding.{ReportHolds}
@@ -15,9 +13,9 @@ use Rattle.time_bounds.specs.AnalysisLemmas.{HasLemmas}
 use Rattle.time_bounds.specs.Whys.{ReasonsAreTrue}
 use Rattle.call_plans.specs.declared.status.Status.{Status}
 use Rattle.call_plans.specs.Plans.{Tells}
-use Rattle.koat_cli.specs.Found.{FindsTimes, status_of}
+use Rattle.koat_cli.specs.Found.{status_of}
 use Rattle.koat_cli.specs.Commands.Prove.{StatesProof, prove_answers}
-use Rattle.koat_cli.proofs.Timed.{timed_told}
+use Rattle.koat_cli.proofs.ReportTables.{report_told}
 
 -- the text of the proof file of what was found is what is answered
 pub proof_told : (p : Program) (pivots : ℕ) (o : Outcome) (s : Status) (x : List ℕ) → IsValid p
@@ -26,13 +24,13 @@ pub proof_told : (p : Program) (pivots : ℕ) (o : Outcome) (s : Status) (x : Li
     → Tells (prove_answers pivots p) s x
 proof_told p pivots o s x valid found holds reasons lemmas ends result_is =
     let is : IsOutcomeOf p pivots o = record { found = found; lemmas = lemmas } in
-    timed_told (FindsTimes p pivots) (StatesProof p pivots) (list_all is_timed (report_of o).times) s x ends (record {
+    report_told (IsAnalysis p pivots) (StatesProof p pivots) (report_of o) s x ends (record {
       outcome = o;
+      reported = refl;
       proved = record {
         found = record { found = found; true_on_all_runs = holds; reasons = reasons };
         lemmas = lemmas;
         accepted = proved-accepted.accepted p pivots o valid is;
         result_is = record { text = sym result_is; within = proved-accepted.within p pivots o valid is };
       };
-      times = refl;
     })

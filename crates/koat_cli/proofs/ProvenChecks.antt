@@ -67,7 +67,7 @@ module _ (bytes text : List ℕ) (w : WroteProofText bytes text) where
   by_proved p gives o x proved appended =
       let same : gives.bytes ≡ bytes =
       there_one (get w.files w.file) gives.bytes bytes
-      (given w.call.shelf.held w.files w.file gives.bytes w.on_shelf.held gives.held) w.held in
+      (given w.call.shelf.held w.files w.file gives.bytes w.steady.held gives.held) w.held in
       let is : x ≡ text = one_appended w.put.written_before w.put.written_after x text w.tells appended w.appended in
       record {
         within = subst (λ (b : List ℕ). length b ≤ program_limit) same gives.within;
@@ -79,8 +79,8 @@ module _ (bytes text : List ℕ) (w : WroteProofText bytes text) where
       }
 
   by_wrote : Wrote w.call.shelf w.put (plan_of (OfProgram Prove w.pivots w.file)) w.status → Accepted bytes text
-  by_wrote (p, (gives, (x, (inl told, appended)))) = by_proved p gives told.1.outcome x told.1.proved appended
-  by_wrote (p, (gives, (x, (inr (inl told), appended)))) = by_proved p gives told.1.outcome x told.1.proved appended
+  by_wrote (p, (gives, (x, (inl told, appended)))) = by_proved p gives told.1.holds.outcome x told.1.holds.proved appended
+  by_wrote (p, (gives, (x, (inr (inl told), appended)))) = by_proved p gives told.1.holds.outcome x told.1.holds.proved appended
   by_wrote (p, (gives, (x, (inr (inr never), appended)))) = absurd never
 
   accepted : Accepted bytes text
@@ -99,6 +99,8 @@ module _ (bytes text : List ℕ) (w : WroteProofText bytes text) where
 pub proved_accepted : Determined → WhatIsProvedIsAccepted
 proved_accepted laws = record {
   each = λ bytes text w short call put s h ends memory.
-      ((calls_answered laws).on_shelf call put h.files (OfPair Check h.file h.second) s Done h.asked h.on_shelf ends memory).1
+      ((calls_answered laws).on_shelf call put h.files (OfPair Check h.file h.second) s Done h.asked
+      (record { held = h.steady.held; no_read_fault = λ e. h.steady.no_read_fault })
+      (record { no_write_fault = λ e. h.steady.no_write_fault (ends.write_fault e).fault; ends = ends; memory = memory })).1
       (ends_done bytes text w short call put h);
 }

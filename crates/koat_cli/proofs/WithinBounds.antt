@@ -1,20 +1,24 @@
 -- The tally along a run is within the bounds of a report that holds on all runs.
-use Rattle.std.proofs.Common.{◌≡◌, ◌⊎◌, inl, inr, ℕ, zero, suc, ◌+◌, ◌≤◌, List, [], ◌∷◌, length, map, ℤ, get_or, drop}
-use Rattle.std.proofs.Common.{Option, Some, None, refl, sym, ◌∙◌, ap, subst, arith}
+use Rattle.std.proofs.Common.{◌≡◌, ◌⊎◌, inl, inr, ℕ, zero, suc, ◌+◌, ◌≤◌, min, List, [], ◌∷◌, length, map, ℤ, get_or}
+use Rattle.std.proofs.Common.{drop, Option, Some, None, is_some, refl, sym, ◌∙◌, ap, subst, arith}
 use Rattle.std.specs.Prelude.{slice_get}
 use Rattle.std.proofs.lemmas.List.{length-map}
 use Rattle.std.specs.List.{AllByRecursion, range_with_len}
 use Rattle.its_model.specs.Valid.{IsValidRule, IsValid}
 use Rattle.model.specs.Bounds.{Bound, val}
-use Rattle.model.specs.Facts.{HoldsLength}
+use Rattle.model.specs.Facts.{HoldsTotal}
 use Rattle.model.specs.Programs.{Rule, Program, arity_of, rule_at}
 use Rattle.model.specs.Runs.{Step, IsRun, count, sizes_of_start}
-use Rattle.outcome.specs.Reports.{Time, Timed, Untimed, Size, Sized, Unsized, Report}
+use Rattle.model.specs.Spending.{spent, spent_all}
+use Rattle.bound_expr.specs.Capped.{capped}
+use Rattle.bound_expr.specs.Limits.{cap}
+use Rattle.outcome.specs.Reports.{Time, Timed, Untimed, RuleCost, Costed, Uncosted, Size, Sized, Unsized, Report}
 use Rattle.outcome.specs.Holding.{place_entry, numbered_entry, IsReportOn, ReportHolds}
 use Rattle.run_replay.specs.ReplayLaws.{ReplaysAreDecided}
 use Rattle.run_replay.specs.Replays.{IsRunInRange, IsSizeAfter, greatest_size, greatest_sizes, places_reached}
 use Rattle.run_replay.specs.Replays.{tally_along}
-use Rattle.koat_cli.specs.WithinBounds.{AreBeside, IsWithinTime, IsWithinSize, IsWithinTotal, IsWithinBounds}
+use Rattle.koat_cli.specs.WithinBounds.{AreBeside, IsWithinTime, IsWithinCost, IsWithinSize, IsWithinTotal}
+use Rattle.koat_cli.specs.WithinBounds.{IsWithinBounds}
 
 -- if each number from k on has its partner, as many as there are, all of them do
 beside_numbers : {X Y : Type 0} (Beside : X → Y → Type 0) (f : ℕ → X) (k n : ℕ) (ys : List Y) → length ys ≡ n
@@ -47,6 +51,16 @@ as_many_rows p r on =
     sym (length-map r.sizes length)
     ∙ (ap (λ (ns : List ℕ). length ns) on.sizes ∙ length-map p.rules (λ (rule : Rule). arity_of p rule.target))
 
+-- and an entry for the cost of each of them
+as_many_costs : (p : Program) (r : Report) → IsReportOn p r → length r.costs ≡ length p.rules
+as_many_costs p r on =
+    sym (length-map r.costs is_some)
+    ∙ (ap length on.costs ∙ length-map p.rules (λ (rule : Rule). is_some rule.cost))
+
+-- the lesser of two numbers is within what one of them is within
+least_within : (n k m : ℕ) → n ≤ m → min n k ≤ m
+least_within n k m h = grind arith
+
 module _ (law : ReplaysAreDecided) (p : Program) (r : Report) (valid : IsValid p) (on : IsReportOn p r)
     (holds : ReportHolds p r) (start : List ℤ) (steps : List Step)
     (in_range : IsRunInRange p start steps) where
@@ -67,11 +81,28 @@ module _ (law : ReplaysAreDecided) (p : Program) (r : Report) (valid : IsValid p
       (λ j m t e is. let next : suc j ≡ m = omega (arith, e) in
       subst (λ (k : ℕ). IsWithinTime (sizes_of_start start) (count k steps) t) next (count_within j t is))
 
-  -- how many steps there are
-  total_within : (o : Option Bound) → ((b : Bound) → o ≡ Some b → HoldsLength p b)
-      → IsWithinTotal (sizes_of_start start) (length steps) o
+  -- what the steps by a rule cost together
+  cost_within : (j : ℕ) (c : Option RuleCost) → slice_get r.costs j ≡ Some c
+      → IsWithinCost (sizes_of_start start) (capped (spent p (suc j) start steps)) c
+  cost_within j None e = tt
+  cost_within j (Some (Costed b)) e =
+      least_within (spent p (suc j) start steps) cap (val b (sizes_of_start start))
+      ((holds.costs (suc j) b e).each start steps in_range.0 run)
+  cost_within j (Some (Uncosted why)) e = tt
+
+  costs_within : (n : ℕ) → length r.costs ≡ n
+      → AreBeside (IsWithinCost (sizes_of_start start)) (map (λ t. capped (spent p t start steps)) (range_with_len 1 n)) r.costs
+  costs_within n len =
+      beside_numbers (IsWithinCost (sizes_of_start start)) (λ t. capped (spent p t start steps)) 1 n r.costs len
+      (λ j m c e is. let next : suc j ≡ m = omega (arith, e) in
+      subst (λ (k : ℕ). IsWithinCost (sizes_of_start start) (capped (spent p k start steps)) c) next (cost_within j c is))
+
+  -- what all steps cost together
+  total_within : (o : Option Bound) → ((b : Bound) → o ≡ Some b → HoldsTotal p b)
+      → IsWithinTotal (sizes_of_start start) (capped (spent_all p start steps)) o
   total_within None h = tt
-  total_within (Some b) h = (h b refl).each start steps in_range.0 run
+  total_within (Some b) h =
+      least_within (spent_all p start steps) cap (val b (sizes_of_start start)) ((h b refl).each start steps in_range.0 run)
 
   -- the greatest absolute value at a place after a rule
   size_within : (j i : ℕ) (s : Size) → place_entry (numbered_entry r.sizes (suc j)) (suc i) ≡ Some s
@@ -109,6 +140,7 @@ pub tally_within : ReplaysAreDecided → (p : Program) (r : Report) (start : Lis
     → IsReportOn p r → ReportHolds p r → IsRunInRange p start steps → IsWithinBounds (sizes_of_start start) (tally_along p start steps) r
 tally_within law p r start steps valid on holds h = record {
   counts = counts_within law p r valid on holds start steps h (length p.rules) on.times;
-  steps = total_within law p r valid on holds start steps h r.total holds.total;
+  costs = costs_within law p r valid on holds start steps h (length p.rules) (as_many_costs p r on);
+  total = total_within law p r valid on holds start steps h r.total holds.total;
   greatest = rows_within law p r valid on holds start steps h (length p.rules) (as_many_rows p r on);
 }

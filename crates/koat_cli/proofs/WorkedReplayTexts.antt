@@ -1,7 +1,8 @@
 -- Texts of replays come to what was worked out, and so do the tallies that are within bounds.
-use Rattle.std.proofs.Common.{refl, arith}
+use Rattle.std.proofs.Common.{ℕ, ◌≤◌, [], ◌∷◌, refl, arith}
 use Rattle.std.specs.Fmt.{digits}
-use Rattle.koat_cli.specs.WorkedReplayTexts.{ReplaysAreTexts, TalliesAreBounded}
+use Rattle.koat_cli.specs.WithinBounds.{IsWithinBounds}
+use Rattle.koat_cli.specs.WorkedReplayTexts.{paying, paid_steps, ReplaysAreTexts, TalliesAreBounded}
 
 -- all of them by computing
 pub replays_texts : ReplaysAreTexts
@@ -10,11 +11,16 @@ replays_texts = record {
   whole = refl;
   other_input = refl;
   unknown = refl;
+  paid = refl;
+  unknown_cost = refl;
+  much_spent = refl;
+  no_cost = refl;
   below_the_cap = refl;
   at_the_cap = refl;
   power = refl;
   large_power = refl;
   large_time = refl;
+  large_cost = refl;
   large_size = refl;
   wrong_rule = refl;
   atom = refl;
@@ -28,29 +34,61 @@ replays_texts = record {
   most_bytes = refl;
 }
 
+-- where the second rule's steps cost at most 9 together, and all at most 10, the tally is within the bounds
+paid_within : (cost spent : ℕ) → cost ≤ 9 → spent ≤ 10
+    → IsWithinBounds (3 ∷ []) (record paid_steps { costs = 1 ∷ cost ∷ []; spent = spent }) paying
+paid_within cost spent c s = record {
+  counts = (omega arith, (omega arith, tt));
+  costs = (tt, (c, tt));
+  total = s;
+  greatest = ((omega arith, tt), ((omega arith, tt), tt));
+}
+
 -- the same for tallies that are within bounds
 pub tallies_bounded : TalliesAreBounded
 tallies_bounded = record {
   whole = record {
     counts = (omega arith, (omega arith, tt));
-    steps = omega arith;
+    costs = (tt, (tt, tt));
+    total = omega arith;
     greatest = ((omega arith, tt), ((omega arith, tt), tt));
   };
   count = λ h. let most = h.counts.1.0 in omega (arith, most);
   greatest = record {
     counts = (omega arith, (omega arith, tt));
-    steps = omega arith;
+    costs = (tt, (tt, tt));
+    total = omega arith;
     greatest = ((omega arith, tt), ((omega arith, tt), tt));
   };
   greater = λ h. let most = h.greatest.1.0.0 in omega (arith, most);
-  steps = λ h. let most = h.steps in omega (arith, most);
+  total = λ h. let most = h.total in omega (arith, most);
+  paid = paid_within 6 7 (omega arith) (omega arith);
+  most_paid = paid_within 9 10 (omega arith) (omega arith);
+  overpaid = λ h. let most = h.costs.1.0 in omega (arith, most);
+  total_overpaid = λ h. let most = h.total in omega (arith, most);
+  paid_for_nothing = λ h. let most = h.costs.1.0 in omega (arith, most);
+  nothing_paid = record {
+    counts = (omega arith, (omega arith, tt));
+    costs = (tt, (omega arith, tt));
+    total = omega arith;
+    greatest = ((omega arith, tt), ((omega arith, tt), tt));
+  };
+  cost_unknown = record {
+    counts = (omega arith, (omega arith, tt));
+    costs = (tt, (tt, tt));
+    total = tt;
+    greatest = ((omega arith, tt), ((omega arith, tt), tt));
+  };
   unknown = record {
     counts = (omega arith, (tt, tt));
-    steps = tt;
+    costs = (tt, (tt, tt));
+    total = tt;
     greatest = ((omega arith, tt), ((tt, tt), tt));
   };
   first = λ h. let most = h.greatest.0.0 in omega (arith, most);
   no_times = λ h. h.counts;
+  no_costs = λ h. h.costs;
+  no_spent = λ h. h.costs;
   no_places = λ h. h.greatest.0;
   no_counts = λ h. h.counts;
   no_greatest = λ h. h.greatest;

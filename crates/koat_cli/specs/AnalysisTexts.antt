@@ -6,7 +6,7 @@ use Rattle.model.specs.Bounds.{Bound}
 use Rattle.its_model.specs.Valid.{IsValid}
 use Rattle.outcome.specs.cert_rules.Gaps.{Gap}
 use Rattle.outcome.specs.Reports.{NoTime, NoFunction, TimeTripped, TimeLarge, Time, Timed, Untimed}
-use Rattle.outcome.specs.Reports.{Size, Sized, Unsized, Report}
+use Rattle.outcome.specs.Reports.{Size, Sized, Unsized, RuleCost, Costed, Uncosted, Report}
 use Rattle.report_text.specs.bound_text.Texts.{FitsTypes}
 use Rattle.report_text.specs.Printable.{IsShort, IsPrintablePoint, IsPrintableLimitHit, IsPrintableNoSize}
 use Rattle.report_text.specs.Printable.{IsPrintableReport}
@@ -28,10 +28,16 @@ ReasonFits (NoFunction g) = HasShortNumbers g
 ReasonFits (TimeTripped t) = IsPrintableLimitHit t
 ReasonFits (TimeLarge nodes) = IsShort nodes
 
--- the numbers of a time, of a size and of the total fit the types that hold them: those of a bound, or of a reason
+-- the numbers of a time, of a rule's cost, of a size and of the total fit the types that hold them: those of a bound,
+-- or of a reason
 abbrev pub TimeFits : Time → Type 0
 TimeFits (Timed b) = FitsTypes b
 TimeFits (Untimed why) = ReasonFits why
+
+abbrev pub CostFits : Option RuleCost → Type 0
+CostFits None = ⊤
+CostFits (Some (Costed b)) = FitsTypes b
+CostFits (Some (Uncosted why)) = IsPrintableNoSize why
 
 abbrev pub SizeFits : Size → Type 0
 SizeFits (Sized b) = FitsTypes b
@@ -44,6 +50,7 @@ TotalFits None = ⊤
 -- all numbers of a report fit the types that hold them
 pub record ReportFits (r : Report) : Type 0 where
   pub times : AllByRecursion TimeFits r.times
+  pub costs : AllByRecursion CostFits r.costs
   pub total : TotalFits r.total
   pub sizes : AllByRecursion (AllByRecursion SizeFits) r.sizes
 

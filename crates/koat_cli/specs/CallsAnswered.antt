@@ -4,7 +4,7 @@ use Rattle.outside_io.specs.Counts.{Rose}
 use Rattle.outside_io.specs.Files.{Files}
 use Rattle.command_line.specs.Requests.{Request, Asks}
 use Rattle.call_plans.specs.declared.status.Status.{Status}
-use Rattle.call_plans.specs.declared.status.Status.TheVariants.{Usage, WriteFault, Memory}
+use Rattle.call_plans.specs.declared.status.Status.TheVariants.{Usage, ReadFault, WriteFault, Memory}
 use Rattle.call_plans.specs.Calls.{Put}
 use Rattle.call_plans.specs.Plans.{IsLast}
 use Rattle.call_plans.specs.Endings.{EndsOn}
@@ -13,11 +13,10 @@ use Rattle.koat_cli.specs.RequestPlans.{plan_of}
 use Rattle.koat_cli.specs.Answers.{AsksForNothing}
 use Rattle.koat_cli.specs.Ends.{Ends}
 
--- the shelf discloses these contents, and neither its count of faults nor that of the sink rises
-pub record IsOnShelf (call : Call) (put : Put) (files : Files) : Type 0 where
+-- the shelf discloses these contents; and with the status of a fault of reading its count of faults doesn't rise
+pub record IsOnShelf (status : Status) (call : Call) (files : Files) : Type 0 where
   pub held : call.shelf.held ≡ Some files
-  pub no_read_fault : ¬ (Rose call.shelf.faults_before call.shelf.faults_after)
-  pub no_write_fault : ¬ (Rose put.faults_before put.faults_after)
+  pub no_read_fault : status ≡ ReadFault → ¬ (Rose call.shelf.faults_before call.shelf.faults_after)
 
 -- a call ends so, neither with the status of a fault of the sink nor because memory ran out
 pub record EndsWell (status : Status) (call : Call) (put : Put) : Type 0 where
@@ -25,15 +24,15 @@ pub record EndsWell (status : Status) (call : Call) (put : Put) : Type 0 where
   pub ends : Ends status call put
   pub memory : status ≢ Memory
 
--- With which status a call ends, if memory suffices. Where the shelf discloses its contents, and no count of faults
--- rises, a call with a request ends with a status exactly where the contents say so by the request's plan: with that of
--- a fault of reading where a file that is reached is lacking, with that of a refusal where one is too long or its bytes
--- stand for nothing, and with that of a row where the files stand for what the row is for. A call with a request for
--- which no file is read ends with a status exactly where its table says so, whatever the shelf discloses. And a call
--- ends with `Usage` exactly where its words make no request.
+-- With which status a call ends, if memory suffices and the sink has no fault. Where the shelf discloses its contents,
+-- and has no fault that the status would come of, a call with a request ends with a status exactly where the contents
+-- say so by the request's plan: with that of a fault of reading where a file that is reached is lacking, with that of a
+-- refusal where one is too long or its bytes stand for nothing, and with that of a row where the files stand for what
+-- the row is for. A call with a request for which no file is read ends with a status exactly where its table says so,
+-- whatever the shelf discloses. And a call ends with `Usage` exactly where its words make no request.
 pub record CallsAreAnswered : Type 0 where
   pub on_shelf : (call : Call) (put : Put) (files : Files) (request : Request) (s t : Status)
-      → Asks call.words request → IsOnShelf call put files → Ends s call put → s ≢ Memory
+      → Asks call.words request → IsOnShelf s call files → EndsWell s call put
       → (s ≡ t) ↔ EndsOn files (plan_of request) t
   pub without_file : (call : Call) (put : Put) (files : Files) (request : Request) (s t : Status)
       → Asks call.words request → IsLast (plan_of request) → EndsWell s call put

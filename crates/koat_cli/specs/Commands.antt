@@ -4,5 +4,7 @@ pub mod Prove
 pub mod Facts
 pub mod Check
 pub mod Replay
+pub mod Lasso
 pub mod Generate
 pub mod Selfrun
+pub mod Lp

@@ -1,8 +1,7 @@
--- What an analysis finds of a program, and whether every rule has a time in it.
+-- What an analysis finds of a program, and tables by whether its report lacks a bound.
 use Rattle.std.specs.Prelude.{◌≡◌, ℕ, Bool, true, false, if◌then◌else◌, List}
-use Rattle.std.specs.List.{list_all}
 use Rattle.model.specs.Programs.{Program}
-use Rattle.outcome.specs.Reports.{Report, is_timed}
+use Rattle.outcome.specs.Reports.{Report, is_bounded}
 use Rattle.outcome.specs.Holding.{ReportHolds}
 use Rattle.time_bounds.specs.Analysis.{IsAnalysis}
 use Rattle.time_bounds.specs.Whys.{ReasonsAreTrue}
@@ -18,16 +17,20 @@ pub record IsFound (program : Program) (pivots : ℕ) (report : Report) : Type 0
   pub true_on_all_runs : ReportHolds program report
   pub reasons : ReasonsAreTrue program pivots report
 
--- whether every rule has a time in the report of the program's analysis: `all` says it
-pub record FindsTimes (program : Program) (pivots : ℕ) (all : Bool) : Type 0 where
-  pub report : Report
-  pub found : IsAnalysis program pivots report
-  pub times : list_all is_timed report.times ≡ all
-
--- the status of a report: whether every rule has a time
+-- the status of a report: whether every rule has a time, and every rule with a cost a bound on it
 abbrev pub status_of : Report → Status
-status_of report = if list_all is_timed report.times then Done else Unknown
+status_of report = if is_bounded report then Done else Unknown
 
--- a table with `Done` for that every rule has a time, and `Unknown` for that some rule has none
-abbrev pub by_times : (Bool → Type 0) → (Bool → List ℕ → Type 0) → Cases
-by_times Finds Text = Case Done (Finds true) (Text true) (Case Unknown (Finds false) (Text false) End)
+-- this holds of a report in which every rule has a time, and every rule with a cost a bound on it, or of one in which
+-- one of them is missing, as `all` says
+pub record OfReport (Holds : Report → Type 0) (all : Bool) : Type 0 where
+  pub report : Report
+  pub holds : Holds report
+  pub bounded : is_bounded report ≡ all
+
+-- A table by the report of which `Found` holds: `Done` where in it every rule has a time, and every rule with a cost a
+-- bound on it, and `Unknown` where one of them is missing; with either status the texts that `Text` gives it.
+abbrev pub by_report : (Report → Type 0) → (Report → List ℕ → Type 0) → Cases
+by_report Found Text =
+    Case Done (OfReport Found true) (λ text. OfReport (λ report. Text report text) true)
+    (Case Unknown (OfReport Found false) (λ text. OfReport (λ report. Text report text) false) End)

@@ -1,5 +1,5 @@
--- what the contracts of the program cite: calls, texts, what each command answers, the plans of requests, how calls end,
--- and what their statuses mean
+-- what the contracts of the program cite: calls, texts, what each command answers, the plans of requests, how calls
+-- end, and what their statuses mean
 pub mod Calls
 pub mod Report
 pub mod Figures
@@ -7,6 +7,9 @@ pub mod ReplayTexts
 pub mod ProgramTexts
 pub mod ProofTexts
 pub mod RunTexts
+pub mod LassoTexts
+pub mod LassoLaws
+pub mod LpTexts
 pub mod WithinBounds
 pub mod Found
 pub mod Commands

@@ -1,6 +1,7 @@
 -- What `prove` writes is accepted by `check`.
 use Rattle.std.specs.Prelude.{◌≡◌, ◌≢◌, ◌⊎◌, ℕ, ◌≤◌, List, length, Some, IsSome}
 use Rattle.std.specs.FinMap.{get}
+use Rattle.outside_io.specs.Counts.{Rose}
 use Rattle.outside_io.specs.Files.{Files}
 use Rattle.command_line.specs.Lines.{Word}
 use Rattle.command_line.specs.Requests.{OfProgram, OfPair, Asks}
@@ -13,7 +14,12 @@ use Rattle.call_plans.specs.Meanings.{Appended}
 use Rattle.koat_cli.specs.Calls.{Call}
 use Rattle.koat_cli.specs.ProofTexts.{proof_limit}
 use Rattle.koat_cli.specs.Ends.{Ends}
-use Rattle.koat_cli.specs.CallsAnswered.{IsOnShelf}
+
+-- the shelf discloses these contents, and neither its count of faults nor that of the sink rises
+pub record IsSteady (call : Call) (put : Put) (files : Files) : Type 0 where
+  pub held : call.shelf.held ≡ Some files
+  pub no_read_fault : ¬ (Rose call.shelf.faults_before call.shelf.faults_after)
+  pub no_write_fault : ¬ (Rose put.faults_before put.faults_after)
 
 -- of a program in a file with these bytes `prove` wrote this text: a call requested it, with some number of pivots, the
 -- file being held and no count of faults rising; it ended with `Done` or `Unknown`; and the sink discloses that this
@@ -25,7 +31,7 @@ pub record WroteProofText (bytes text : List ℕ) : Type 0 where
   pub pivots : ℕ
   pub file : Word
   pub asked : Asks call.words (OfProgram Prove pivots file)
-  pub on_shelf : IsOnShelf call put files
+  pub steady : IsSteady call put files
   pub held : get files file ≡ Some bytes
   pub status : Status
   pub proved : (status ≡ Done) ⊎ (status ≡ Unknown)
@@ -40,7 +46,7 @@ pub record AsksToCheck (call : Call) (put : Put) (bytes text : List ℕ) : Type 
   pub file : Word
   pub second : Word
   pub asked : Asks call.words (OfPair Check file second)
-  pub on_shelf : IsOnShelf call put files
+  pub steady : IsSteady call put files
   pub held : get files file ≡ Some bytes
   pub second_held : get files second ≡ Some text
 

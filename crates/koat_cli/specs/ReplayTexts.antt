@@ -3,7 +3,7 @@ use Rattle.std.specs.Prelude.{ℕ, suc, nat_lt, cond, List, [], ◌∷◌, ◌++
 use Rattle.model.specs.Bounds.{Bound}
 use Rattle.bound_expr.specs.Capped.{capped_val}
 use Rattle.bound_expr.specs.Limits.{cap}
-use Rattle.outcome.specs.Reports.{Time, Timed, Untimed, Size, Sized, Unsized, Report}
+use Rattle.outcome.specs.Reports.{Time, Timed, Untimed, RuleCost, Costed, Uncosted, Size, Sized, Unsized, Report}
 use Rattle.report_text.specs.Pieces.{place_text}
 use Rattle.run_replay.specs.Replays.{Sums}
 use Rattle.koat_cli.specs.Figures.{number_end}
@@ -17,18 +17,25 @@ abbrev pub bound_value : List ℕ → Option Bound → List ℕ
 bound_value at None = codes "unknown"
 bound_value at (Some b) = value_text (capped_val b at)
 
--- the value of a time, and of a size
+-- the value of a time, of a cost, and of a size
 abbrev pub time_value : List ℕ → Time → List ℕ
 time_value at (Timed b) = bound_value at (Some b)
 time_value at (Untimed why) = bound_value at None
+
+abbrev pub cost_value : List ℕ → RuleCost → List ℕ
+cost_value at (Costed b) = bound_value at (Some b)
+cost_value at (Uncosted why) = bound_value at None
 
 abbrev pub size_value : List ℕ → Size → List ℕ
 size_value at (Sized b) = bound_value at (Some b)
 size_value at (Unsized why) = bound_value at None
 
--- a number beside a value, at the end of a line
+-- a number beside a value, at the end of a line; what steps cost together is itself told up to 2^127
 abbrev pub beside_end : ℕ → List ℕ → List ℕ
 beside_end n value = decimal n ++ (codes " of " ++ (value ++ codes "\n"))
+
+abbrev pub spent_end : ℕ → List ℕ → List ℕ
+spent_end n value = value_text n ++ (codes " of " ++ (value ++ codes "\n"))
 
 -- how many steps the run has
 abbrev pub steps_line : ℕ → List ℕ
@@ -38,9 +45,14 @@ steps_line n = codes "steps " ++ number_end n
 abbrev pub count_line : ℕ → ℕ → List ℕ → List ℕ
 count_line rule n value = codes "time " ++ (decimal rule ++ (codes ": " ++ beside_end n value))
 
--- how many steps there are, beside the value of the total
-abbrev pub steps_beside : ℕ → List ℕ → List ℕ
-steps_beside n value = codes "total: " ++ beside_end n value
+-- what the steps by a rule cost together, beside the value of the bound on it; a rule without a cost has no such line
+abbrev pub spent_line : List ℕ → ℕ → ℕ → Option RuleCost → List ℕ
+spent_line at rule n None = []
+spent_line at rule n (Some c) = codes "cost " ++ (decimal rule ++ (codes ": " ++ spent_end n (cost_value at c)))
+
+-- what all steps cost together, beside the value of the total
+abbrev pub total_beside : ℕ → List ℕ → List ℕ
+total_beside n value = codes "total: " ++ spent_end n value
 
 -- the greatest absolute value at a place after a rule, beside the value of its size
 abbrev pub greatest_line : ℕ → ℕ → ℕ → List ℕ → List ℕ
@@ -57,6 +69,10 @@ lines_beside line n (x ∷ xs) (y ∷ ys) = line n x y ++ lines_beside line (suc
 abbrev pub count_lines : List ℕ → List ℕ → List Time → List ℕ
 count_lines at counts times = lines_beside (λ rule n t. count_line rule n (time_value at t)) 1 counts times
 
+-- what the steps by each rule cost together
+abbrev pub spent_lines : List ℕ → List ℕ → List (Option RuleCost) → List ℕ
+spent_lines at spent costs = lines_beside (spent_line at) 1 spent costs
+
 -- the greatest absolute values at the places after a rule, and after all
 abbrev pub greatest_lines : List ℕ → ℕ → List ℕ → List Size → List ℕ
 greatest_lines at rule numbers sizes =
@@ -70,4 +86,5 @@ abbrev pub text_of_replay : List ℕ → Sums → Report → List ℕ
 text_of_replay at tally r =
     steps_line tally.steps
     ++ (count_lines at tally.counts r.times
-    ++ (steps_beside tally.steps (bound_value at r.total) ++ all_greatest_lines at tally.greatest r.sizes))
+    ++ (spent_lines at tally.costs r.costs
+    ++ (total_beside tally.spent (bound_value at r.total) ++ all_greatest_lines at tally.greatest r.sizes)))

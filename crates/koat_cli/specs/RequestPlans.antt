@@ -5,21 +5,26 @@ use Rattle.command_line.specs.declared.task.ProgramTask.{ProgramTask}
 use Rattle.command_line.specs.declared.task.PairTask.{PairTask}
 use Rattle.command_line.specs.declared.task.NumberTask.{NumberTask}
 use Rattle.command_line.specs.Lines.{Word}
-use Rattle.command_line.specs.Requests.{Request, OfProgram, OfPair, OfNumber}
+use Rattle.command_line.specs.Requests.{Request, OfProgram, OfPair, OfNumber, OfFile}
 use Rattle.command_line.specs.declared.task.ProgramTask.TheVariants.{Analyse, Prove, Facts}
-use Rattle.command_line.specs.declared.task.PairTask.TheVariants.{Check, Replay}
+use Rattle.command_line.specs.declared.task.PairTask.TheVariants.{Check, Replay, Lasso}
 use Rattle.command_line.specs.declared.task.NumberTask.TheVariants.{Generate, Selfrun}
+use Rattle.command_line.specs.declared.task.FileTask.TheVariants.{Lp}
 use Rattle.call_plans.specs.Plans.{Cases, Plan, Answers, Reads}
 use Rattle.koat_cli.specs.ProgramTexts.{programs}
 use Rattle.koat_cli.specs.ProofTexts.{proofs}
 use Rattle.koat_cli.specs.RunTexts.{runs}
+use Rattle.koat_cli.specs.LassoTexts.{lassos}
+use Rattle.koat_cli.specs.LpTexts.{linear_programs}
 use Rattle.koat_cli.specs.Commands.Analyse.{analyse_answers}
 use Rattle.koat_cli.specs.Commands.Prove.{prove_answers}
 use Rattle.koat_cli.specs.Commands.Facts.{facts_answers}
 use Rattle.koat_cli.specs.Commands.Check.{check_answers}
 use Rattle.koat_cli.specs.Commands.Replay.{replay_answers}
+use Rattle.koat_cli.specs.Commands.Lasso.{lasso_answers}
 use Rattle.koat_cli.specs.Commands.Generate.{generate_answers}
 use Rattle.koat_cli.specs.Commands.Selfrun.{selfrun_answers}
+use Rattle.koat_cli.specs.Commands.Lp.{lp_answers}
 
 -- what is answered of a program
 abbrev pub program_answers : ProgramTask → ℕ → Program → Cases
@@ -31,6 +36,7 @@ program_answers Facts pivots program = facts_answers pivots program
 abbrev pub second_plan : PairTask → Program → Word → Plan
 second_plan Check program second = Reads (proofs program) second (λ proof. Answers (check_answers program proof))
 second_plan Replay program second = Reads (runs program) second (λ run. Answers (replay_answers program run))
+second_plan Lasso program second = Reads (lassos program) second (λ lasso. Answers (lasso_answers program lasso))
 
 -- what is answered of a number
 abbrev pub number_answers : NumberTask → ℕ → Cases
@@ -42,3 +48,4 @@ abbrev pub plan_of : Request → Plan
 plan_of (OfProgram task pivots file) = Reads programs file (λ program. Answers (program_answers task pivots program))
 plan_of (OfPair task file second) = Reads programs file (λ program. second_plan task program second)
 plan_of (OfNumber task n) = Answers (number_answers task n)
+plan_of (OfFile Lp file) = Reads linear_programs file (λ p. Answers (lp_answers p))

@@ -1,13 +1,15 @@
 -- Intermediate results on the way to an answer.
-use Rattle.std.specs.Prelude.{◌≡◌, ℕ, Bool, true, false, List, codes}
+use Rattle.std.specs.Prelude.{ℕ, Bool, true, false, List, Option, codes}
 use Rattle.bound_expr.specs.Capped.{capped_val}
 use Rattle.bound_expr.specs.Views.{bound_of}
 use Rattle.outcome.specs.Views.{size_of}
 use Rattle.outcome.specs.declared.entry.TimeEntry.{TimeEntry}
 use Rattle.outcome.specs.declared.entry.TimeEntry.TheVariants as times
+use Rattle.outcome.specs.declared.entry.CostEntry.{CostEntry}
 use Rattle.outcome.specs.declared.entry.SizeEntry.{SizeEntry}
 use Rattle.outcome.specs.declared.entry.SizeEntry.TheVariants as sizes
-use Rattle.koat_cli.specs.ReplayTexts.{value_text, lines_beside, count_line, greatest_line, size_value}
+use Rattle.report_text.specs.Conditions.{rule_cost_of}
+use Rattle.koat_cli.specs.ReplayTexts.{value_text, lines_beside, count_line, spent_line, greatest_line, size_value}
 
 -- whether an entry is a size
 abbrev pub is_known_size : SizeEntry → Bool
@@ -29,6 +31,10 @@ entry_value at (times.Large nodes) = codes "unknown"
 -- how often the rules occur, beside the values of their entries
 abbrev pub entry_lines : List ℕ → ℕ → List ℕ → List TimeEntry → List ℕ
 entry_lines at k counts entries = lines_beside (λ rule n e. count_line rule n (entry_value at e)) k counts entries
+
+-- what the steps by each rule cost together, beside the values of their entries
+abbrev pub cost_lines : List ℕ → ℕ → List ℕ → List (Option CostEntry) → List ℕ
+cost_lines at k spent entries = lines_beside (λ rule n e. spent_line at rule n (rule_cost_of e)) k spent entries
 
 -- the greatest absolute values at the places after a rule, beside the values of their entries
 abbrev pub place_lines : List ℕ → ℕ → ℕ → List ℕ → List SizeEntry → List ℕ

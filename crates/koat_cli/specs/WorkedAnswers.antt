@@ -21,6 +21,7 @@ two_rules = record { symbols = []; start = 0; start_names = []; rules = entry_ru
 abbrev pub one_of_each : Report
 one_of_each = record {
   times = Timed (Constant 1) ∷ Untimed (TimeLarge 9) ∷ [];
+  costs = None ∷ None ∷ [];
   total = None;
   sizes = (Unsized (SizeUntimed 2) ∷ Sized (Constant 5) ∷ []) ∷ (Unsized (SizeLarge 9) ∷ []) ∷ [];
 }
@@ -39,8 +40,8 @@ Answered words before seen status text =
 -- whatever a call sees of the shelf: `generate 0` is answered with `Done` and the program's text, where nothing was
 -- fetched, neither with `Unknown` nor with the usage text, and not where something was; `analyse p`, `facts p` and
 -- `prove --pivots=5 p` never with `Usage`, and the latter not with `No`; `check p q` neither with `Usage` nor with
--- `Unknown`, nor as a run is refused; `replay p -- -q` neither with `Usage` nor with `Unknown`; and `selfrun 0` never with
--- a fault of reading
+-- `Unknown`, nor as a run is refused; `replay p -- -q` neither with `Usage` nor with `Unknown`; and `selfrun 0` never
+-- with a fault of reading
 pub record AnswersAreWorkedOut : Type 0 where
   pub generate : (seen : Seen)
       → Answered (codes "generate" ∷ codes "0" ∷ []) seen.fetches_after seen Done (canonical_text (generated 0))

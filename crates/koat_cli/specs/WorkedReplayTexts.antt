@@ -1,12 +1,14 @@
 -- Worked values of texts of replays, and of which tallies are within bounds.
 use Rattle.std.specs.Prelude.{◌≡◌, ℕ, ◌-◌, ◌^◌, [], ◌∷◌, ◌++◌, None, Some, codes}
-use Rattle.model.specs.Bounds.{Constant, Input, SumOf, PowerOf, Part, NoParts}
+use Rattle.model.specs.Bounds.{Constant, Input, SumOf, ProductOf, PowerOf, Part, NoParts}
 use Rattle.its_model.specs.Steps.{OtherRule, AtomFails, PastRange}
-use Rattle.outcome.specs.Reports.{Timed, Untimed, TimeLarge, Sized, Unsized, SizeLarge, Report}
+use Rattle.outcome.specs.Reports.{Timed, Untimed, TimeLarge, Costed, Uncosted, Sized, Unsized, SizeLarge}
+use Rattle.outcome.specs.Reports.{Report}
 use Rattle.run_replay.specs.Replays.{Sums}
 use Rattle.run_replay.specs.declared.kind.RunKind.TheVariants.{Syntax, NumberTooLarge, BadReference}
 use Rattle.run_replay.specs.declared.kind.RunKind.TheVariants.{ArityDiffers, Limit}
-use Rattle.koat_cli.specs.ReplayTexts.{value_text, bound_value, time_value, size_value, text_of_replay}
+use Rattle.koat_cli.specs.ReplayTexts.{value_text, bound_value, time_value, cost_value, size_value, spent_line}
+use Rattle.koat_cli.specs.ReplayTexts.{text_of_replay}
 use Rattle.koat_cli.specs.RunTexts.{run_limit, run_refusal_text, bad_step_text}
 use Rattle.koat_cli.specs.WithinBounds.{IsWithinBounds}
 
@@ -14,6 +16,7 @@ use Rattle.koat_cli.specs.WithinBounds.{IsWithinBounds}
 abbrev pub counting : Report
 counting = record {
   times = Timed (Constant 1) ∷ Timed (Input 0) ∷ [];
+  costs = None ∷ None ∷ [];
   total = Some (SumOf (Part (Input 0) (Part (Constant 1) NoParts)));
   sizes = (Sized (Input 0) ∷ []) ∷ (Sized (Input 0) ∷ []) ∷ [];
 }
@@ -22,9 +25,27 @@ counting = record {
 abbrev pub silent : Report
 silent = record {
   times = Timed (Constant 1) ∷ Untimed (TimeLarge 9) ∷ [];
+  costs = None ∷ None ∷ [];
   total = None;
   sizes = (Sized (Input 0) ∷ []) ∷ (Unsized (SizeLarge 9) ∷ []) ∷ [];
 }
+
+-- the report of the same loop where a round costs what the input is
+abbrev pub paying : Report
+paying = record {
+  times = Timed (Constant 1) ∷ Timed (Input 0) ∷ [];
+  costs = None ∷ Some (Costed (ProductOf (Part (Input 0) (Part (Input 0) NoParts)))) ∷ [];
+  total = Some (SumOf (Part (ProductOf (Part (Input 0) (Part (Input 0) NoParts))) (Part (Constant 1) NoParts)));
+  sizes = (Sized (Input 0) ∷ []) ∷ (Sized (Input 0) ∷ []) ∷ [];
+}
+
+-- one that gives no bound on this cost
+abbrev pub silent_on_cost : Report
+silent_on_cost = record paying { costs = None ∷ Some (Uncosted (SizeLarge 9)) ∷ []; total = None }
+
+-- and one of the loop where a round costs nothing
+abbrev pub free : Report
+free = record paying { costs = None ∷ Some (Costed (Constant 0)) ∷ []; total = Some (Constant 1) }
 
 -- the tally of one step by the first rule and three by the second one, from 3
 abbrev pub four_steps : Sums
@@ -36,9 +57,14 @@ four_steps = record {
   spent = 4;
 }
 
+-- the tally of the same steps, where a step by the second rule costs what the input is
+abbrev pub paid_steps : Sums
+paid_steps = record four_steps { costs = 1 ∷ 6 ∷ []; spent = 7 }
+
 -- each number is beside the value of its bound at the inputs, a bound that is missing is unknown, and values are capped
--- at 2^127, for a time and for a size; the first bad step is stated by its number, and each kind of refusal by its
--- word; a run's text may have this many bytes
+-- at 2^127, for a time, for a cost and for a size; a rule without a cost has no line of a cost, whatever its steps
+-- cost; what was spent is told up to 2^127, too; the first bad step is stated by its number, and each kind of refusal
+-- by its word; a run's text may have this many bytes
 pub record ReplaysAreTexts : Type 0 where
   pub whole : text_of_replay (3 ∷ []) four_steps counting
       ≡ codes "steps 4\ntime 1: 1 of 1\ntime 2: 3 of 3\ntotal: 4 of 4\nsize 1.1: 3 of 3\nsize 2.1: 2 of 3\n"
@@ -47,11 +73,23 @@ pub record ReplaysAreTexts : Type 0 where
   pub unknown : text_of_replay (3 ∷ []) four_steps silent
       ≡ codes "steps 4\ntime 1: 1 of 1\ntime 2: 3 of unknown\ntotal: 4 of unknown\n"
       ++ codes "size 1.1: 3 of 3\nsize 2.1: 2 of unknown\n"
+  pub paid : text_of_replay (3 ∷ []) paid_steps paying
+      ≡ codes "steps 4\ntime 1: 1 of 1\ntime 2: 3 of 3\ncost 2: 6 of 9\ntotal: 7 of 10\n"
+      ++ codes "size 1.1: 3 of 3\nsize 2.1: 2 of 3\n"
+  pub unknown_cost : text_of_replay (3 ∷ []) paid_steps silent_on_cost
+      ≡ codes "steps 4\ntime 1: 1 of 1\ntime 2: 3 of 3\ncost 2: 6 of unknown\ntotal: 7 of unknown\n"
+      ++ codes "size 1.1: 3 of 3\nsize 2.1: 2 of 3\n"
+  pub much_spent :
+      text_of_replay (3 ∷ []) (record paid_steps { costs = 1 ∷ 2 ^ 127 ∷ []; spent = 2 ^ 127 }) silent_on_cost
+      ≡ codes "steps 4\ntime 1: 1 of 1\ntime 2: 3 of 3\ncost 2: 2^127 or more of unknown\n"
+      ++ codes "total: 2^127 or more of unknown\nsize 1.1: 3 of 3\nsize 2.1: 2 of 3\n"
+  pub no_cost : spent_line (3 ∷ []) 1 5 None ≡ []
   pub below_the_cap : value_text (2 ^ 127 - 1) ≡ codes "170141183460469231731687303715884105727"
   pub at_the_cap : value_text (2 ^ 127) ≡ codes "2^127 or more"
   pub power : bound_value (126 ∷ []) (Some (PowerOf 2 (Input 0))) ≡ codes "85070591730234615865843651857942052864"
   pub large_power : bound_value (200 ∷ []) (Some (PowerOf 2 (Input 0))) ≡ codes "2^127 or more"
   pub large_time : time_value (200 ∷ []) (Timed (PowerOf 2 (Input 0))) ≡ codes "2^127 or more"
+  pub large_cost : cost_value (200 ∷ []) (Costed (PowerOf 2 (Input 0))) ≡ codes "2^127 or more"
   pub large_size : size_value (200 ∷ []) (Sized (PowerOf 2 (Input 0))) ≡ codes "2^127 or more"
   pub wrong_rule : bad_step_text (record { number = 1; fault = OtherRule }) ≡ codes "not a run at step 1: wrong rule\n"
   pub atom : bad_step_text (record { number = 5; fault = AtomFails 1 }) ≡ codes "not a run at step 5: atom 1\n"
@@ -76,14 +114,15 @@ tally_with count greatest = record {
   spent = 4;
 }
 
--- each number is at most the value of the bound beside it: of a count, of the steps and of a greatest value one more is
--- too many, and where a bound is missing nothing is too many; no entry is left out on either side
+-- each number is at most the value of the bound beside it: of a count, of what the steps by a rule or all steps cost
+-- together, and of a greatest value one more is too many, and where a bound is missing nothing is too many; more steps
+-- than the total says are none too many, where they cost no more; no entry is left out on either side
 pub record TalliesAreBounded : Type 0 where
   pub whole : IsWithinBounds (3 ∷ []) four_steps counting
   pub count : ¬ (IsWithinBounds (3 ∷ []) (tally_with 4 2) counting)
   pub greatest : IsWithinBounds (3 ∷ []) (tally_with 3 3) counting
   pub greater : ¬ (IsWithinBounds (3 ∷ []) (tally_with 3 4) counting)
-  pub steps : ¬ (IsWithinBounds (2 ∷ [])
+  pub total : ¬ (IsWithinBounds (2 ∷ [])
       (record {
         steps = 4;
         counts = 1 ∷ 2 ∷ [];
@@ -91,9 +130,18 @@ pub record TalliesAreBounded : Type 0 where
         costs = 1 ∷ 2 ∷ [];
         spent = 4;
       }) counting)
+  pub paid : IsWithinBounds (3 ∷ []) paid_steps paying
+  pub most_paid : IsWithinBounds (3 ∷ []) (record paid_steps { costs = 1 ∷ 9 ∷ []; spent = 10 }) paying
+  pub overpaid : ¬ (IsWithinBounds (3 ∷ []) (record paid_steps { costs = 1 ∷ 10 ∷ []; spent = 10 }) paying)
+  pub total_overpaid : ¬ (IsWithinBounds (3 ∷ []) (record paid_steps { spent = 11 }) paying)
+  pub paid_for_nothing : ¬ (IsWithinBounds (3 ∷ []) (record paid_steps { costs = 1 ∷ 1 ∷ []; spent = 1 }) free)
+  pub nothing_paid : IsWithinBounds (3 ∷ []) (record paid_steps { costs = 1 ∷ 0 ∷ []; spent = 1 }) free
+  pub cost_unknown : IsWithinBounds (3 ∷ []) (record paid_steps { costs = 1 ∷ 99 ∷ []; spent = 99 }) silent_on_cost
   pub unknown : IsWithinBounds (3 ∷ []) (tally_with 9 9) silent
   pub first : ¬ (IsWithinBounds (2 ∷ []) (tally_with 9 9) silent)
   pub no_times : ¬ (IsWithinBounds (3 ∷ []) four_steps (record counting { times = [] }))
+  pub no_costs : ¬ (IsWithinBounds (3 ∷ []) paid_steps (record paying { costs = [] }))
+  pub no_spent : ¬ (IsWithinBounds (3 ∷ []) (record paid_steps { costs = [] }) paying)
   pub no_places : ¬ (IsWithinBounds (3 ∷ []) four_steps (record counting { sizes = [] ∷ [] ∷ [] }))
   pub no_counts : ¬ (IsWithinBounds (3 ∷ []) (record four_steps { counts = [] }) counting)
   pub no_greatest : ¬ (IsWithinBounds (3 ∷ []) (record four_steps { greatest = [] }) counting)

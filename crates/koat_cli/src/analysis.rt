@@ -1,11 +1,9 @@
 //! Analyses a program, with facts at its locations or without, and chooses the status.
 
-ghost use Rattle.std.specs.Prelude.{◌≡◌, if◌then◌else◌, IfOk};
-ghost use Rattle.std.specs.List.{list_all};
+ghost use Rattle.std.specs.Prelude.{◌≡◌, IfOk};
 ghost use Rattle.its_model.specs.Valid.{IsValid};
 ghost use Rattle.its_model.specs.Views.{program_of};
 ghost use Rattle.outcome.specs.Views.{report_of};
-ghost use Rattle.report_text.specs.Conditions.{is_known};
 ghost use Rattle.call_plans.specs.Plans.{Tells};
 ghost use Rattle.koat_cli.specs.Commands.Analyse.{analyse_answers};
 ghost use Rattle.koat_cli.specs.Commands.Facts.{facts_answers};
@@ -14,7 +12,7 @@ ghost use Rattle.koat_cli.specs.Found.{status_of as status_of_report};
 use call_plans::{Status, StatusText};
 use its_model::Program;
 use model::Memory;
-use outcome::{Outcome, TimeEntry};
+use outcome::Outcome;
 use report_text::print;
 use std::alloc::Global;
 use time_bounds::analyse;
@@ -52,25 +50,13 @@ pub(crate) fn report_with_facts(
     })
 }
 
-/// The status of an outcome: whether every rule has a time.
+/// The status of an outcome: whether every rule has a time, and every rule with a cost a bound on it.
 pub(crate) fn status_of(found: &Outcome) -> Status
     ensures { result ≡ status_of_report (report_of found.now) }
 {
-    status_where(all_known(&found.times))
-}
-
-// The status where every rule has a time, or else.
-fn status_where(all: bool) -> Status
-    ensures { result ≡ (if all then Status.Done else Status.Unknown) }
-{
-    if all { Status::Done } else { Status::Unknown }
-}
-
-// Whether each entry is a time.
-fn all_known(times: &[TimeEntry]) -> bool
-    ensures { result ≡ list_all is_known times.now }
-{
-    times
-        .iter()
-        .all(|entry| matches!(entry, TimeEntry::Known(_)))
+    if found.is_bounded() {
+        Status::Done
+    } else {
+        Status::Unknown
+    }
 }

@@ -3,8 +3,8 @@
 ghost use Rattle.std.specs.Prelude.{◌≡◌, ◌++◌, length, count_by, sum_by, decimal, IfOk, OnOk};
 ghost use Rattle.its_model.specs.Views.{program_of};
 ghost use Rattle.outcome.specs.Views.{report_of};
+ghost use Rattle.outcome.specs.Entries.{is_known};
 ghost use Rattle.outcome.specs.Printing.{IsPrintableOutcome};
-ghost use Rattle.report_text.specs.Conditions.{is_known};
 ghost use Rattle.report_text.specs.Reports.{total_line};
 ghost use Rattle.koat_cli.specs.Figures.{rules_line, times_line, sizes_line, lemmas_line, part_end, text_of_figures};
 ghost use Rattle.koat_cli.specs.Steps.{is_known_size};

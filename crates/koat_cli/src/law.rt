@@ -4,12 +4,14 @@
 ghost use Rattle.koat_cli.specs.CallsAnswered.{CallsAreAnswered};
 ghost use Rattle.koat_cli.specs.ProvenChecks.{WhatIsProvedIsAccepted};
 ghost use Rattle.koat_cli.specs.Exclusion.{AnswersExcludeEachOther};
+ghost use Rattle.koat_cli.specs.LassoLaws.{LassosLeaveTimesMissing};
 ghost use Rattle.koat_cli.specs.AnalysisTexts.{AnalysisTextsStateOneReport};
 ghost use Rattle.koat_cli.specs.WorkedEnds.{FaultsLeaveFirstBytes};
 ghost use Rattle.koat_cli.specs.WorkedAnswers.{FiguresAreWorkedOut, AnswersAreWorkedOut};
 ghost use Rattle.koat_cli.specs.WorkedMissingFiles.{FilesAreReadInOrder};
 ghost use Rattle.koat_cli.specs.WorkedReplayTexts.{ReplaysAreTexts, TalliesAreBounded};
 
+use lassos::lassos_are_endless;
 use run_replay::replays_are_decided;
 
 /// The law that a call of `run` has at most one answer where no file is fetched for its words, or the shelf discloses
@@ -22,12 +24,12 @@ pub fn answers_exclude_each_other()
     replays_are_decided();
 }
 
-/// The law on the status with which a call ends, if memory suffices. Where the shelf discloses its contents, and no count
-/// of faults rises, a call with a request ends with a status exactly where these contents say so by the plan of the
-/// request: with `ReadFault` where a file that is reached is lacking, with the status of a refusal where one is too long
-/// or its bytes stand for nothing, and with that of an answer where the files stand for what it is for. A call for which
-/// no file is fetched ends by its number alone, whatever the shelf discloses; and one ends with `Usage` exactly where its
-/// words make no request. Its contract is the law; it has no code but the law of replays.
+/// The law on the status with which a call ends, if memory suffices. Where the shelf discloses its contents, and no
+/// count of faults rises, a call with a request ends with a status exactly where these contents say so by the plan of
+/// the request: with `ReadFault` where a file that is reached is lacking, with the status of a refusal where one is too
+/// long or its bytes stand for nothing, and with that of an answer where the files stand for what it is for. A call for
+/// which no file is fetched ends by its number alone, whatever the shelf discloses; and one ends with `Usage` exactly
+/// where its words make no request. Its contract is the law; it has no code but the law of replays.
 pub fn calls_are_answered()
     ensures { CallsAreAnswered }
 {
@@ -51,6 +53,14 @@ pub fn analysis_texts_state_one_report()
     ensures { AnalysisTextsStateOneReport }
 {}
 
+/// The law that no report on a program with a lasso has a time for every rule, where its bounds hold on all runs. Its
+/// contract is the law; it has no code but the law of lassos.
+pub fn lassos_leave_times_missing()
+    ensures { LassosLeaveTimesMissing }
+{
+    lassos_are_endless();
+}
+
 /// Worked values of what a fault of the sink leaves of a text. The function has no code: its contract is these values.
 pub fn worked_ends_hold()
     ensures { FaultsLeaveFirstBytes }
@@ -70,8 +80,8 @@ pub fn worked_replay_texts_hold()
     ensures bounds { TalliesAreBounded }
 {}
 
-/// Worked values of the answers to an analysis, to a replay and to a check, where a shelf lacks a file: the first word is
-/// the program, and is read first. The function has no code but the law of replays: its contract is these values.
+/// Worked values of the answers to an analysis, to a replay and to a check, where a shelf lacks a file: the first word
+/// is the program, and is read first. The function has no code but the law of replays: its contract is these values.
 pub fn worked_missing_files_hold()
     ensures { FilesAreReadInOrder }
 {

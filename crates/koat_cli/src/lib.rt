@@ -2,14 +2,19 @@
 //!
 //! Builds on all other crates of the program. Its contract is the main theorem: after status 0 of `analyse` the report
 //! on the sink is true on every run of the program that the file spells; after status 0 of `facts` so are the facts and
-//! the report; after status 0 of `check` so are the facts of the proof, whoever made it; and after status 0 of `replay`
-//! each number of the tally on the sink is at most the value of the bound beside it.
+//! the report; after status 0 of `check` so are the facts of the proof, whoever made it; after status 0 of `replay` each
+//! number of the tally on the sink is at most the value of the bound beside it; and after status 0 of `lasso` no bound
+//! holds on the use of a rule on the sink.
 #![tactic(auto)]
 
 mod analysis;
 mod figures;
 mod generated;
+mod lasso_answer;
+mod lasso_reader;
 mod law;
+mod lp_reader;
+mod lp_solving;
 mod preparation;
 mod program;
 mod program_reader;
@@ -23,11 +28,11 @@ mod run_refusal;
 mod top_call;
 
 pub use call_plans::Status;
-pub use command_line::{NumberTask, PairTask, ProgramTask, Request, asks};
+pub use command_line::{FileTask, NumberTask, PairTask, ProgramTask, Request, asks};
 pub use law::{
     analysis_texts_state_one_report, answers_exclude_each_other, calls_are_answered,
-    what_is_proved_is_accepted, worked_answers_hold, worked_ends_hold, worked_missing_files_hold,
-    worked_replay_texts_hold,
+    lassos_leave_times_missing, what_is_proved_is_accepted, worked_answers_hold, worked_ends_hold,
+    worked_missing_files_hold, worked_replay_texts_hold,
 };
 pub use program::run_program;
 pub use report_text::print as print_report;

@@ -12,6 +12,9 @@ ghost use Rattle.koat_cli.specs.RequestPlans.{plan_of, program_answers, second_p
 
 use crate::analysis::{report, report_with_facts};
 use crate::generated::{generated, summary};
+use crate::lasso_answer::lasso_answer;
+use crate::lasso_reader::Lassos;
+use crate::lp_solving::on_file;
 use crate::program_reader::Programs;
 use crate::proof_reader::Proofs;
 use crate::proving::{checked, proved};
@@ -46,6 +49,7 @@ pub(crate) fn prepare<F: Shelf>(
             on_pair(alloc, task, &file, &second, shelf)
         }
         Some(Request::OfNumber { task, n }) => of_number(alloc, task, n),
+        Some(Request::OfFile { task, file }) => on_file(alloc, task, &file, shelf),
         None => status_with_text(alloc, Status::Usage, usage()),
     }
 }
@@ -130,6 +134,7 @@ fn on_second<F: Shelf>(
     match task {
         PairTask::Check => check_on(alloc, program, second, shelf),
         PairTask::Replay => replay_on(alloc, program, second, shelf),
+        PairTask::Lasso => lasso_on(alloc, program, second, shelf),
     }
 }
 
@@ -173,6 +178,27 @@ fn replay_on<F: Shelf>(
     match take(alloc, &Runs { program }, file, shelf)? {
         Got::Answer(said) => Ok(said),
         Got::Thing(run) => replayed(alloc, program, &run),
+    }
+}
+
+// Whether the turn of the lasso in a file leads back, or the answer where the file gives none.
+fn lasso_on<F: Shelf>(
+    alloc: Global,
+    program: &Program,
+    file: &String,
+    shelf: &mut F,
+) -> Result<StatusText, Memory>
+    requires { IsValid (program_of program.now) }
+    ensures keeps_files { F.held shelf.new ≡ F.held shelf.old }
+    ensures keeps_count { F.faults shelf.old ≤ F.faults shelf.new }
+    ensures fault { IfOk result (λ said.
+        F.faults shelf.old < F.faults shelf.new → said.status ≡ Status.ReadFault) }
+    ensures says { IfOk result (λ said. OnPlan (seen_of F.Shelf shelf.old shelf.new) (F.fetches shelf.old)
+        (second_plan PairTask.Lasso (program_of program.now) (string_bytes file.now)) said.status said.text.items) }
+{
+    match take(alloc, &Lassos { program }, file, shelf)? {
+        Got::Answer(said) => Ok(said),
+        Got::Thing(lasso) => lasso_answer(alloc, program, &lasso),
     }
 }
 

@@ -1,20 +1,22 @@
 //! The tally of a run beside the bounds of an outcome, as text.
 
-ghost use Rattle.std.specs.Prelude.{◌≡◌, ◌++◌, length, IfOk, OnOk};
+ghost use Rattle.std.specs.Prelude.{◌≡◌, ◌++◌, length, IfOk, OnOk, Some};
 ghost use Rattle.std.specs.List.{All};
-ghost use Rattle.outcome.specs.Printing.{IsPrintableTime, IsPrintableSize, IsPrintableTotal, IsPrintableOutcome};
-ghost use Rattle.outcome.specs.Views.{report_of, size_of};
-ghost use Rattle.report_text.specs.Conditions.{total_of};
+ghost use Rattle.outcome.specs.Printing.{IsPrintableTime, IsPrintableCost, IsPrintableSize, IsPrintableTotal};
+ghost use Rattle.outcome.specs.Printing.{IsPrintableOutcome};
+ghost use Rattle.outcome.specs.Views.{report_of, cost_of, size_of};
+ghost use Rattle.report_text.specs.Conditions.{rule_cost_of, total_of};
 ghost use Rattle.report_text.specs.Pieces.{place_text};
 ghost use Rattle.run_replay.specs.ReplayAnswers.{sums_of};
-ghost use Rattle.koat_cli.specs.ReplayTexts.{value_text, bound_value, size_value, steps_line, count_line};
-ghost use Rattle.koat_cli.specs.ReplayTexts.{steps_beside, greatest_line, lines_beside, text_of_replay};
-ghost use Rattle.koat_cli.specs.Steps.{entry_value, entry_lines, place_lines};
+ghost use Rattle.koat_cli.specs.ReplayTexts.{value_text, bound_value, cost_value, size_value, steps_line, count_line};
+ghost use Rattle.koat_cli.specs.ReplayTexts.{spent_line, total_beside, greatest_line, lines_beside};
+ghost use Rattle.koat_cli.specs.ReplayTexts.{text_of_replay};
+ghost use Rattle.koat_cli.specs.Steps.{entry_value, entry_lines, cost_lines, place_lines};
 
 use bound_expr::{Bound, CAP};
 use itoa::Buffer;
 use model::Memory;
-use outcome::{Outcome, SizeEntry, TimeEntry};
+use outcome::{CostEntry, Outcome, SizeEntry, TimeEntry};
 use run_replay::Tally;
 use std::alloc::Global;
 
@@ -31,7 +33,8 @@ pub(crate) fn replay_text(
     let mut text = Vec::new(alloc);
     push_steps(&mut text, tally.steps)?;
     push_counts(&mut text, at, &tally.counts, &o.times)?;
-    push_total(&mut text, at, tally.steps, &o.total)?;
+    push_costs(&mut text, at, &tally.costs, &o.costs)?;
+    push_total(&mut text, at, tally.spent, &o.total)?;
     push_greatest(&mut text, at, &tally.greatest, &o.sizes)?;
     Ok(text)
 }
@@ -95,19 +98,89 @@ fn push_time_value(text: &mut Vec<u8>, at: &[u128], time: &TimeEntry) -> Result<
     }
 }
 
-// How many steps there are, beside the total.
+// What the steps by each rule with a cost cost together.
+fn push_costs(
+    text: &mut Vec<u8>,
+    at: &[u128],
+    spent: &[u128],
+    costs: &[Option<CostEntry>],
+) -> Result<(), Memory>
+    requires { All (IsPrintableCost (length at.now)) costs.now }
+    ensures { OnOk result (text.new.items ≡ text.old.items ++ cost_lines at.now 1 spent.now costs.now) }
+{
+    for i in 0..spent.len().min(costs.len()) {
+        push_cost(text, at, i as u64 + 1, spent[i], &costs[i])?;
+    }
+    Ok(())
+}
+
+// What the steps by a rule cost together, if it has a cost.
+fn push_cost(
+    text: &mut Vec<u8>,
+    at: &[u128],
+    rule: u64,
+    spent: u128,
+    cost: &Option<CostEntry>,
+) -> Result<(), Memory>
+    requires { IsPrintableCost (length at.now) cost.now }
+    ensures { OnOk result
+        (text.new.items ≡ text.old.items ++ spent_line at.now rule spent (rule_cost_of cost.now)) }
+{
+    match cost {
+        Some(cost) => push_cost_line(text, at, rule, spent, cost),
+        None => Ok(()),
+    }
+}
+
+// The line of a rule with a cost.
+fn push_cost_line(
+    text: &mut Vec<u8>,
+    at: &[u128],
+    rule: u64,
+    spent: u128,
+    cost: &CostEntry,
+) -> Result<(), Memory>
+    requires { IsPrintableCost (length at.now) (Some cost.now) }
+    ensures { OnOk result
+        (text.new.items ≡ text.old.items ++ spent_line at.now rule spent (Some (cost_of cost.now))) }
+{
+    text.extend_from_slice(b"cost ")?;
+    text.extend_from_slice(Buffer::new().format(rule).as_bytes())?;
+    text.extend_from_slice(b": ")?;
+    push_value(text, spent)?;
+    text.extend_from_slice(b" of ")?;
+    push_cost_value(text, at, cost)?;
+    text.extend_from_slice(b"\n")
+}
+
+// The value of a bound on a cost.
+fn push_cost_value(text: &mut Vec<u8>, at: &[u128], cost: &CostEntry) -> Result<(), Memory>
+    requires { IsPrintableCost (length at.now) (Some cost.now) }
+    ensures { OnOk result (text.new.items ≡ text.old.items ++ cost_value at.now (cost_of cost.now)) }
+{
+    match cost {
+        CostEntry::Known(stored) => push_value(text, stored.bound.capped_value(at)),
+        CostEntry::UnboundedSide(_) => text.extend_from_slice(b"unknown"),
+        CostEntry::OutOfLimits(_) => text.extend_from_slice(b"unknown"),
+        CostEntry::Missing(_) => text.extend_from_slice(b"unknown"),
+        CostEntry::Untimed { .. } => text.extend_from_slice(b"unknown"),
+        CostEntry::Large { .. } => text.extend_from_slice(b"unknown"),
+    }
+}
+
+// What all steps cost together, beside the total.
 fn push_total(
     text: &mut Vec<u8>,
     at: &[u128],
-    steps: u64,
+    spent: u128,
     total: &Option<Bound>,
 ) -> Result<(), Memory>
     requires { IsPrintableTotal (length at.now) total.now }
     ensures { OnOk result
-        (text.new.items ≡ text.old.items ++ steps_beside steps (bound_value at.now (total_of total.now))) }
+        (text.new.items ≡ text.old.items ++ total_beside spent (bound_value at.now (total_of total.now))) }
 {
     text.extend_from_slice(b"total: ")?;
-    text.extend_from_slice(Buffer::new().format(steps).as_bytes())?;
+    push_value(text, spent)?;
     text.extend_from_slice(b" of ")?;
     match total {
         Some(bound) => push_value(text, bound.capped_value(at))?,
@@ -197,8 +270,8 @@ fn push_size_value(text: &mut Vec<u8>, at: &[u128], size: &SizeEntry) -> Result<
     }
 }
 
-// A value up to 2^127.
-fn push_value(text: &mut Vec<u8>, value: u128) -> Result<(), Memory>
+/// A value up to 2^127.
+pub(crate) fn push_value(text: &mut Vec<u8>, value: u128) -> Result<(), Memory>
     ensures { OnOk result (text.new.items ≡ text.old.items ++ value_text value) }
 {
     if value < CAP {

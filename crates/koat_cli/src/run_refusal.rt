@@ -63,8 +63,8 @@ pub(crate) fn bad_step(alloc: Global, error: &ReplayError) -> Result<Vec<u8>, Me
     }
 }
 
-// The number of the atom that doesn't hold.
-fn atom_fails(alloc: Global, atom: u32) -> Result<Vec<u8>, Memory>
+/// The number of the atom that doesn't hold.
+pub(crate) fn atom_fails(alloc: Global, atom: u32) -> Result<Vec<u8>, Memory>
     ensures { IfOk result (λ text. text.items ≡ fault_text (AtomFails atom)) }
 {
     let mut text = Vec::from_slice(alloc, b"atom ")?;
@@ -72,8 +72,8 @@ fn atom_fails(alloc: Global, atom: u32) -> Result<Vec<u8>, Memory>
     Ok(text)
 }
 
-// The text of the step with this number, with this fault.
-fn bad_at(alloc: Global, step: u64, fault: &[u8]) -> Result<Vec<u8>, Memory>
+/// The text of the step with this number, with this fault.
+pub(crate) fn bad_at(alloc: Global, step: u64, fault: &[u8]) -> Result<Vec<u8>, Memory>
     ensures { IfOk result (λ text. text.items ≡ bad_step_line step fault.now) }
 {
     let mut text = Vec::from_slice(alloc, b"not a run at step ")?;

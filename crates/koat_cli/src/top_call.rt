@@ -16,9 +16,10 @@ use std::alloc::Global;
 ///
 /// - `analyse [--pivots N] FILE` fetches the file, of at most 4,194,304 bytes, and writes its report. The file is an
 ///   integer transition system in the KoAT format. The report gives each rule a bound on how often it occurs in a run,
-///   and each argument after a rule a bound on its absolute value, in terms of the absolute values of the inputs, or
-///   says why there is none. N is how many pivots each linear program may take, from 0 to 1,000,000; the default is
-///   10,000.
+///   each rule with a cost a bound on what its steps cost together, the run a total of what all its steps cost, and
+///   each argument after a rule a bound on its absolute value, in terms of the absolute values of the inputs, or says
+///   why there is none. A step by a rule without a cost costs 1. N is how many pivots each linear program may take,
+///   from 0 to 1,000,000; the default is 10,000.
 /// - `prove [--pivots N] FILE` fetches the file of a program, and writes the proof file of what its analysis finds: a
 ///   lemma for each bound, or for several, and a gap for each rule that no function of the places of known size ranks.
 ///   `check` accepts it, if it has at most 67,108,864 bytes.
@@ -26,9 +27,13 @@ use std::alloc::Global;
 ///   writes the facts of all its lemmas, and its gaps, if all of them are accepted. It solves no linear program, and
 ///   trusts none that was solved.
 /// - `replay FILE RUN` fetches the file of a program, and then that of a run, of at most 67,108,864 bytes, and writes
-///   the tally along the run: how many steps it has, how often each rule occurs, and the greatest absolute value of
-///   each argument after each rule; each beside the value, up to 2^127, of its bound at the absolute start values, or
+///   the tally along the run: how many steps it has, how often each rule occurs, what the steps by each rule with a
+///   cost and all steps cost together, each up to 2^127, and the greatest absolute value of each argument after each
+///   rule; each but the number of steps beside the value, up to 2^127, of its bound at the absolute start values, or
 ///   `unknown` if there is none. The bounds are those that an analysis with 10,000 pivots finds.
+/// - `lasso FILE RUN` fetches the file of a program, and then that of a lasso, of at most 67,108,864 bytes, and writes
+///   the rules of its turn, and what the turn costs, up to 2^127, if all steps are steps of the program and the turn
+///   leads back to where it begins.
 /// - `generate N` writes the generated program of a number from 0 to 100 as its canonical text, which spells it.
 /// - `selfrun N` analyses that program, with 10,000 pivots for each linear program, and writes the figures of what was
 ///   found: how many rules there are, how many of them have a time, how many of all places have a size, the total, and
@@ -37,37 +42,51 @@ use std::alloc::Global;
 ///   each two places the strongest one: `fact NAME: x2 >= 1` says that in every run the second value is at least 1
 ///   whenever the run is at the location. It is followed by the report of the program whose guards have these facts at
 ///   the sources of its rules, too, so that more bounds are found; they are bounds of the program itself.
+/// - `lp FILE` fetches the file of a linear program, of at most 4,194,304 bytes, solves it exactly, and writes the
+///   end: a solution of least cost, or a dual, which shows that there is no solution, and after how many pivots of
+///   Bland's rule it is reached. No number of pivots is set.
 /// - Other words get the usage text.
 ///
 /// Each file is fetched once, the second of two only after the first gave a program. The whole text is written by one
 /// put, and the status is this:
 ///
-/// - `Done`: with `analyse`, the file spells a program, and its report was written, in which every rule has a time. On
-///   every run of the program, from any integers and by any choice of rules, each rule occurs at most as often as its
-///   time says, there are at most as many steps as the total says, and each argument after a rule stays within its
-///   size, if it has one. With `facts`, the same with the report behind the facts, and each fact holds on every run,
-///   too. With `prove`, the proof file of the same analysis was written. With `check`, the files spell a program and a
-///   proof file that is accepted, and its facts were written: each of them holds on every run of the program, whoever
-///   made the proof. With `replay`, the steps are a run of the program, no value exceeds 128 bits on the way, and the
-///   tally was written: each number of it is at most the value of the bound beside it. With `selfrun`, its figures were
-///   written, and every rule of the generated program has a time. With `generate`, that program's text was written.
-/// - `Unknown`: with `analyse` and `facts`, the same, where some rule has no time: the report says why, and every bound
-///   that it gives holds on every run. With `facts` the reasons are those of the strengthened program. With `prove`,
-///   the proof file of such an analysis was written. With `selfrun`, only its figures were written, and some rule of
-///   the generated program has no time.
+/// - `Done`: with `analyse`, the file spells a program, and its report was written, in which every rule has a time,
+///   every rule with a cost a bound on it, and the run a total. On every run of the program, from any integers and by
+///   any choice of rules, each rule occurs at most as often as its time says, its steps together cost at most what its
+///   cost says, if it has one, all steps together cost at most what the total says, and each argument after a rule
+///   stays within its size, if it has one. With `facts`, the same with the report behind the facts, and each fact
+///   holds on every run, too. With `prove`, the proof file of the same analysis was written. With `check`, the files
+///   spell a program and a proof file that is accepted, and its facts were written: each of them holds on every run of
+///   the program, whoever made the proof. With `replay`, the steps are a run of the program, no value exceeds 128 bits
+///   on the way, that of a step's cost included, and the tally was written: each number of it is at most the value of
+///   the bound beside it. With `lasso`, the steps are a run of the program, no value exceeds 128 bits on the way, and
+///   the turn leads back: each rule that was written occurs without end, so no bound on its use holds, and where the
+///   turn costs something, no bound on what all steps cost. With `selfrun`, its figures were written, and every rule
+///   of the generated program has a time. With `generate`, that program's text was written. With `lp`, the end of the
+///   sequence of tableaux was written.
+/// - `Unknown`: with `analyse` and `facts`, the same, where some rule has no time, or some rule with a cost no bound
+///   on it: the report says why, and every bound that it gives holds on every run. With `facts` the reasons are those
+///   of the strengthened program. With `prove`, the proof file of such an analysis was written. With `selfrun`, the
+///   figures of such an analysis of the generated program were written. With `lp`, why the end isn't reached was
+///   written.
 /// - `Usage`: the words are no command line.
-/// - `ReadFault`: the command needs a file, and the shelf had a fault in this call, or discloses that it lacks the file
-///   of the program, or, where that spells a program, the file of the proof or of the run.
+/// - `ReadFault`: the command needs a file, and the shelf had a fault in this call, or discloses that it lacks the
+///   file of the program or of the linear program, or, where a program is spelled, the file of the proof, of the run
+///   or of the lasso.
 /// - `ProgramRefused`: the command needs a file, and the file of the program has too many bytes, or has a fault as the
-///   text of a program within the limits: the text states the first fault, and its byte.
+///   text of a program within the limits: the text states the first fault, and its byte. With `lp`, the same of the
+///   file of the linear program.
 /// - `ProofRefused`: with `check`, the first file spells a program, and the second has too many bytes, or has a fault
 ///   as the text of a proof file of the program within the limits: the text states the first fault, and its byte.
 /// - `No`: with `check`, the files spell a program and a proof file, of which some node of a lemma isn't accepted, or
 ///   some gap: the text states the first one, and why.
-/// - `RunRefused`: with `replay`, the first file spells a program, and the second has too many bytes, or has a fault as
-///   the text of a run of the program within the limits: the text states the first fault, and its byte.
-/// - `NotARun`: with `replay`, the files spell a program and steps of it, of which some isn't a step from where the run
-///   is, or a value of it exceeds 128 bits: the text states the first one, and why.
+/// - `RunRefused`: with `replay` and `lasso`, the first file spells a program, and the second has too many bytes, or
+///   has a fault as the text of a run, or of a lasso, of the program within the limits: the text states the first
+///   fault, and its byte.
+/// - `NotARun`: with `replay` and `lasso`, the files spell a program and steps of it, of which some isn't a step from
+///   where the run is, or a value of it or of its cost exceeds 128 bits: the text states the first one, and why. With
+///   `lasso` also where the turn leads elsewhere: the text states the first place with another value, or 0 where the
+///   symbol is another one.
 /// - `WriteFault`: the sink had a fault; a prefix of the text of the status that would have come was written.
 /// - `Memory`: memory ran out; the sink is unchanged.
 ///

@@ -1,4 +1,4 @@
--- The one text of a linear program, and which linear programs have one that is taken.
+-- The one text of a linear program, and which linear programs have one that is accepted.
 use Rattle.std.specs.Prelude.{◌≡◌, ℕ, ◌≤◌, ℤ, pos, unsigned_abs, List, [], ◌∷◌, ◌++◌, codes, length, ⊤}
 use Rattle.std.specs.Fmt.{decimal, signed_decimal}
 use Rattle.lp_text.specs.Lps.{Row, Lp, number_limit, size_limit}

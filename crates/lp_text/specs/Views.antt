@@ -1,7 +1,8 @@
 -- What the types of the code are as plain data, and what a result says.
-use Rattle.std.specs.Prelude.{ℕ, List, map, Result, Option, Some, None}
+use Rattle.std.specs.Prelude.{◌≡◌, ℕ, List, map, Result, MatchResult, Option, Some, None, IfSome}
 use Rattle.text_grammar.specs.text_core.Readers.{Fault}
 use Rattle.text_grammar.specs.Results.{IsRight, Yields}
+use Rattle.lp_builder.specs.simplex_core.declared.problem.Problem.{Problem}
 use Rattle.lp_text.specs.declared.written.WrittenLp.{WrittenLp}
 use Rattle.lp_text.specs.declared.written.WrittenRow.{WrittenRow}
 use Rattle.lp_text.specs.declared.text.State as code
@@ -12,6 +13,8 @@ use Rattle.lp_text.specs.declared.error.LpTextError.TheVariants.{Syntax, NumberT
 use Rattle.lp_text.specs.Lps.{Row, Lp}
 use Rattle.lp_text.specs.Texts.{State, lps}
 use Rattle.lp_text.specs.Spelled.{IsTextWithin}
+use Rattle.lp_text.specs.Decided.{IsFirstFault}
+use Rattle.lp_text.specs.Problems.{IsProblemOf}
 
 -- a row as plain data
 abbrev pub row_of : WrittenRow → Row
@@ -39,9 +42,23 @@ refusal_in Memory = None
 
 -- a result is right: the linear program within the limits of which the bytes are the text, or exactly their first fault,
 -- or memory ran out
-abbrev pub Answers : List ℕ → Result WrittenLp LpTextError → Type 0
-Answers bytes result = IsRight lp_of refusal_in lps (IsTextWithin bytes) bytes result
+abbrev pub AnswersWritten : List ℕ → Result WrittenLp LpTextError → Type 0
+AnswersWritten bytes result = IsRight lp_of refusal_in lps (IsTextWithin bytes) bytes result
 
 -- a result is the linear program, unless memory ran out
 abbrev pub GivesBack : Lp → Result WrittenLp LpTextError → Type 0
 GivesBack p result = Yields lp_of refusal_in p result
+
+-- an error is the first fault of the bytes, or memory ran out
+abbrev pub IsRefusedAs : List ℕ → LpTextError → Type 0
+IsRefusedAs bytes e = IfSome (refusal_in e) (IsFirstFault bytes)
+
+-- a result is the problem of the linear program within the limits of which the bytes are the text, or exactly their
+-- first fault, or memory ran out
+abbrev pub Answers : List ℕ → Result Problem LpTextError → Type 0
+Answers bytes result =
+    MatchResult result (λ q. (p : Lp) × IsTextWithin bytes p × IsProblemOf p q) (IsRefusedAs bytes)
+
+-- a result is the problem of the linear program, unless memory ran out
+abbrev pub GivesProblem : Lp → Result Problem LpTextError → Type 0
+GivesProblem p result = MatchResult result (IsProblemOf p) (λ e. refusal_in e ≡ None)

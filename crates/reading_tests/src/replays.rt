@@ -8,9 +8,9 @@ use model::Memory;
 use run_replay::{ReplayError, Tally, read_run, replay};
 use std::alloc::{AllocError, Global};
 
-/// The result of replaying a run of a program: how many steps it has, and for each rule how often it occurs and the
-/// greatest absolute values after it; or the first bad step. Where the program's text is refused there is no program,
-/// and where the run's is, no run.
+/// The result of replaying a run of a program: how many steps it has, for each rule how often it occurs and the
+/// greatest absolute values after it, then for each rule what its steps cost, and what all steps cost, up to 2^127; or
+/// the first bad step. Where the program's text is refused there is no program, and where the run's is, no run.
 pub(crate) fn replayed(alloc: Global, line: &str) -> Result<String, Memory> {
     match line.split_once(';') {
         Some((rules, run)) => {
@@ -53,6 +53,10 @@ fn tallied(alloc: Global, tally: &Tally) -> Result<String, Memory> {
         out.extend_from_slice(b" :")?;
         push_sizes(&mut out, sizes)?;
     }
+    out.extend_from_slice(b" | costs")?;
+    push_sizes(&mut out, &tally.costs)?;
+    out.extend_from_slice(b" | spent")?;
+    push_size(&mut out, tally.spent)?;
     String::from_str(alloc, str::from_utf8(&out).unwrap_or("no text"))
 }
 

@@ -16,9 +16,10 @@ use Rattle.cert_types.specs.cert_rules.WorkedReasons.{tower}
 use Rattle.cert_types.proofs.cert_rules.WorkedSizes.{below_one}
 use Rattle.cert_types.specs.cert_program.Setting.{setting_of}
 use Rattle.outcome.specs.Holding.{numbered_entry, place_entry}
-use Rattle.outcome.specs.Reports.{NoTime, TimeTripped, Untimed, NoSize, SizeMissing, SizeNonlinear, Unsized}
+use Rattle.outcome.specs.Reports.{NoTime, TimeTripped, Untimed, NoSize, SizeMissing, SizeNonlinear, Unsized, Uncosted}
 use Rattle.bound_fixpoint.specs.Keys.{Bounds, key, over}
 use Rattle.bound_fixpoint.specs.Loops.{do_loop}
+use Rattle.time_bounds.specs.CostWhys.{HasNoCost}
 use Rattle.time_bounds.specs.SaidBounds.{bounds_said}
 use Rattle.time_bounds.specs.SizeWhys.{RestsOnSize, BendsAt, SizeIsLarge, composed_size, HasNoSize}
 use Rattle.time_bounds.specs.TimeWhys.{HasNoTime}
@@ -193,6 +194,13 @@ whole_times (suc (suc zero)) why e =
     subst (λ (w : NoTime). HasNoTime squares 0 squares_said 2 w) same second_time
 whole_times (suc (suc (suc t))) why e = absurd (none_some (Untimed why) e)
 
+whole_costs : (t : ℕ) (why : NoSize) → numbered_entry squares_report.costs t ≡ Some (Some (Uncosted why))
+    → HasNoCost squares 0 squares_said t why
+whole_costs zero why e = absurd (none_some (Some (Uncosted why)) e)
+whole_costs (suc zero) why e = absurd (let none : ⊥ = cc in none)
+whole_costs (suc (suc zero)) why e = absurd (let none : ⊥ = cc in none)
+whole_costs (suc (suc (suc t))) why e = absurd (none_some (Some (Uncosted why)) e)
+
 whole_sizes : (t i : ℕ) (why : NoSize) → place_entry (numbered_entry squares_report.sizes t) i ≡ Some (Unsized why)
     → HasNoSize squares 0 squares_said t i why
 whole_sizes zero i why e = absurd (none_some (Unsized why) e)
@@ -215,6 +223,6 @@ squares_worked = record {
   not_missing = λ h. some_none (tower 200) h.missing;
   large = large;
   not_so_large = not_so_large;
-  whole = record { times = whole_times; sizes = whole_sizes };
+  whole = record { times = whole_times; costs = whole_costs; sizes = whole_sizes };
   not_whole = λ h. no_loop (bounds_said squares bending_report) (h.sizes 2 1 (SizeNonlinear (key 2 1)) refl);
 }

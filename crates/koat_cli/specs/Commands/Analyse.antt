@@ -1,19 +1,17 @@
 -- `analyse`: the report of a program.
-use Rattle.std.specs.Prelude.{◌≡◌, ℕ, Bool, List}
-use Rattle.std.specs.List.{list_all}
+use Rattle.std.specs.Prelude.{ℕ, List}
 use Rattle.model.specs.Programs.{Program}
-use Rattle.outcome.specs.Reports.{Report, is_timed}
+use Rattle.outcome.specs.Reports.{Report}
 use Rattle.report_text.specs.States.{States}
+use Rattle.time_bounds.specs.Analysis.{IsAnalysis}
 use Rattle.call_plans.specs.Plans.{Cases}
-use Rattle.koat_cli.specs.Found.{IsFound, FindsTimes, by_times}
+use Rattle.koat_cli.specs.Found.{IsFound, by_report}
 
--- the text states the report of the program's analysis, in which every rule has a time, or some has none, as `all` says
-pub record StatesReport (program : Program) (pivots : ℕ) (all : Bool) (text : List ℕ) : Type 0 where
-  pub report : Report
+-- the text states the report of the program's analysis
+pub record StatesReport (program : Program) (pivots : ℕ) (report : Report) (text : List ℕ) : Type 0 where
   pub found : IsFound program pivots report
-  pub times : list_all is_timed report.times ≡ all
   pub stated : States program text report
 
--- `Done` where every rule has a time, and `Unknown` where some has none; either with the report
+-- by the report of the program's analysis, which the text states
 abbrev pub analyse_answers : ℕ → Program → Cases
-analyse_answers pivots program = by_times (FindsTimes program pivots) (StatesReport program pivots)
+analyse_answers pivots program = by_report (IsAnalysis program pivots) (StatesReport program pivots)

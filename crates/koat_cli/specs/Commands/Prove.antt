@@ -1,16 +1,16 @@
 -- `prove`: the proof file of a program's analysis.
-use Rattle.std.specs.Prelude.{◌≡◌, ℕ, Bool, List}
-use Rattle.std.specs.List.{list_all}
+use Rattle.std.specs.Prelude.{◌≡◌, ℕ, List}
 use Rattle.model.specs.Programs.{Program}
+use Rattle.outcome.specs.Reports.{Report}
 use Rattle.outcome.specs.declared.outcome_of.Outcome.{Outcome}
-use Rattle.outcome.specs.Reports.{is_timed}
 use Rattle.outcome.specs.Views.{report_of}
 use Rattle.cert_types.specs.cert_program.Laws.{AcceptsFileFor}
 use Rattle.cert_text.specs.Spelled.{IsTextWithin}
+use Rattle.time_bounds.specs.Analysis.{IsAnalysis}
 use Rattle.time_bounds.specs.AnalysisLemmas.{HasLemmas}
 use Rattle.analysis_certs.specs.ProvedFiles.{file_of_outcome}
 use Rattle.call_plans.specs.Plans.{Cases}
-use Rattle.koat_cli.specs.Found.{IsFound, FindsTimes, by_times}
+use Rattle.koat_cli.specs.Found.{IsFound, by_report}
 
 -- what an analysis of the program with this many pivots found, with its lemmas and its gaps; their file is accepted for
 -- the program, and the text is that of this file, within the limits of proof files
@@ -20,13 +20,12 @@ pub record IsProved (program : Program) (pivots : ℕ) (outcome : Outcome) (text
   pub accepted : AcceptsFileFor program (file_of_outcome outcome)
   pub result_is : IsTextWithin program text (file_of_outcome outcome)
 
--- the text is that of the proof file of the program's analysis, in whose report every rule has a time, or some has
--- none, as `all` says
-pub record StatesProof (program : Program) (pivots : ℕ) (all : Bool) (text : List ℕ) : Type 0 where
+-- the text is that of the proof file of the program's analysis, which has this report
+pub record StatesProof (program : Program) (pivots : ℕ) (report : Report) (text : List ℕ) : Type 0 where
   pub outcome : Outcome
+  pub reported : report_of outcome ≡ report
   pub proved : IsProved program pivots outcome text
-  pub times : list_all is_timed (report_of outcome).times ≡ all
 
--- `Done` where every rule has a time, and `Unknown` where some has none; either with the proof file
+-- by the report of the program's analysis, with its proof file
 abbrev pub prove_answers : ℕ → Program → Cases
-prove_answers pivots program = by_times (FindsTimes program pivots) (StatesProof program pivots)
+prove_answers pivots program = by_report (IsAnalysis program pivots) (StatesProof program pivots)

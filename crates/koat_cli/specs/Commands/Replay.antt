@@ -43,8 +43,8 @@ pub record StatesBadStep (program : Program) (run : Run) (text : List ℕ) : Typ
   pub first : IsFirstBadStep program run.start (last_first run) bad
   pub result_is : text ≡ bad_step_text bad
 
--- `Done` where the steps are a run within 128 bits, with the tally beside the bounds; and `NotARun` where one of them is
--- bad, with the first bad one
+-- `Done` where the steps are a run within 128 bits, with the tally beside the bounds; and `NotARun` where one of them
+-- is bad, with the first bad one
 abbrev pub replay_answers : Program → Run → Cases
 replay_answers program run =
     Case Done (IsInRange program run) (StatesTally program run)

@@ -3,7 +3,7 @@ use Rattle.guard_prep.specs.declared.rule_rows.RuleRows.{RuleRows}
 use Rattle.gap_checks.proofs.GapFaults.{rule-range}
 use Rattle.cert_context.specs.CostRows.{TellsCost}
 use Rattle.cert_context.specs.CheckContexts.{program}
-use Rattle.cert_context.proofs.WrittenCosts.{cost-sound}
+use Rattle.cert_context.proofs.PreparedCosts.{cost-sound}
 use Rattle.cert_context.proofs.context.prepared_cost_rule.Goals as goal
 
 pub returns-in-Some : goal.returns-in-Some

@@ -1,5 +1,5 @@
 use Rattle.its_model.specs.Views.{program_of}
-use Rattle.cert_context.proofs.WrittenCosts.{AreCostsSoFar}
+use Rattle.cert_context.proofs.PreparedCosts.{AreCostsSoFar}
 use Rattle.cert_context.proofs.costs.all_costs.Given as goal
 
 -- the rules so far

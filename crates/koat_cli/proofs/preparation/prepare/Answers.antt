@@ -20,6 +20,13 @@ returns-in-Some-OfPair-clause-says g c =
     (requests.OfPair w.task w.file w.second) c.on_pair.result (cc (w.is, w.field-0-is)) c.in_ok-task.ensures
     c.on_pair.ensures.says
 
+pub returns-in-Some-OfFile-clause-says : goal.returns-in-Some-OfFile-clause-says
+returns-in-Some-OfFile-clause-says g c =
+    let w = c.in-Some-OfFile in
+    said_of (call_of g.F.Shelf c.args.words.now c.args.shelf.now c.on_file.new.shelf) c.in_ok-task.field-0
+    (requests.OfFile w.task w.file) c.on_file.result (cc (w.is, w.field-0-is)) c.in_ok-task.ensures
+    c.on_file.ensures.says
+
 pub returns-in-Some-OfNumber-clause-says : goal.returns-in-Some-OfNumber-clause-says
 returns-in-Some-OfNumber-clause-says g c =
     let w = c.in-Some-OfNumber in

@@ -1,0 +1,85 @@
+-- Worked values of plans that read two files, of the toy kind `counts`.
+use Rattle.std.specs.Prelude.{◌≡◌, ◌≢◌, ◌+◌, ℕ, List, [], ◌++◌, Option, Some, codes}
+use Rattle.std.specs.FinMap.{empty, insert}
+use Rattle.outside_io.specs.Files.{Files}
+use Rattle.call_plans.specs.declared.status.Status.{Status}
+use Rattle.call_plans.specs.declared.status.Status.TheVariants.{Done, Unknown, ReadFault, ProgramRefused}
+use Rattle.call_plans.specs.Calls.{Seen}
+use Rattle.call_plans.specs.OnFiles.{read_fault_text}
+use Rattle.call_plans.specs.Plans.{Plan, Answers, Reads, End, Case, OnPlan}
+use Rattle.call_plans.specs.Meanings.{Wrote, WroteRefusal, MayMiss}
+use Rattle.call_plans.specs.Endings.{EndsOn}
+use Rattle.call_plans.specs.Worked.{counts, with_bytes, with_another, wrote}
+
+-- `Done` with the text `same` where the files `f` and `g` stand for the same number, and `Unknown` with the text
+-- `other` where they stand for different ones
+abbrev pub pair : Plan
+pair = Reads counts (codes "f") (λ m. Reads counts (codes "g")
+    (λ n. Answers (Case Done (m ≡ n) (λ text. (m ≡ n) × (text ≡ codes "same"))
+    (Case Unknown (m ≢ n) (λ text. (m ≢ n) × (text ≡ codes "other")) End))))
+
+-- the contents with these bytes in the files `f` and `g`
+abbrev pub with_both : List ℕ → List ℕ → Files
+with_both f g = insert (insert empty (codes "g") g) (codes "f") f
+
+-- a shelf without faults that discloses these contents; so many files were fetched from it before and after, and of the
+-- last one so many bytes were read
+abbrev pub shelf_after : Files → ℕ → ℕ → Seen
+shelf_after files fetches taken = record {
+  held = Some files;
+  faults_before = 2;
+  faults_after = 2;
+  fetches_after = Some (3 + fetches);
+  taken = taken;
+}
+
+-- the plan answers so on a shelf with these contents, from which so many files were fetched
+abbrev pub Said : Files → ℕ → ℕ → Status → List ℕ → Type 0
+Said files fetches taken status text = OnPlan (shelf_after files fetches taken) (Some 3) pair status text
+
+-- where the first file is lacking or refused, the second one isn't fetched, and nothing is said of it; behind a first
+-- one that stands for a number the second one is fetched, once, and is lacking, too long, bad, or compared
+pub record PairsAreWorkedOut : Type 0 where
+  pub first_lacking : Said with_another 1 0 ReadFault read_fault_text
+  pub first_bad : Said (with_both (codes "m") (codes "n")) 1 1 ProgramRefused (codes "bad")
+  pub first_bad_second_lacking : Said (with_bytes (codes "m")) 1 1 ProgramRefused (codes "bad")
+  pub second_lacking : Said (with_bytes (codes "no")) 2 0 ReadFault read_fault_text
+  pub second_long : Said (with_both (codes "no") (codes "nnnn")) 2 0 ProgramRefused (codes "long")
+  pub second_bad : Said (with_both (codes "no") (codes "m")) 2 1 ProgramRefused (codes "bad")
+  pub same : Said (with_both (codes "no") (codes "nn")) 2 2 Done (codes "same")
+  pub other : Said (with_both (codes "no") (codes "n")) 2 1 Unknown (codes "other")
+  pub only_bad : (fetches taken : ℕ) (status : Status) (text : List ℕ)
+      → Said (with_bytes (codes "m")) fetches taken status text
+      → (fetches ≡ 1) × ((status ≡ ProgramRefused) × (text ≡ codes "bad"))
+  pub only_second : (fetches taken : ℕ) (status : Status) (text : List ℕ)
+      → Said (with_bytes (codes "no")) fetches taken status text → (fetches ≡ 2) × (status ≡ ReadFault)
+  pub only_same : (fetches taken : ℕ) (status : Status) (text : List ℕ)
+      → Said (with_both (codes "no") (codes "nn")) fetches taken status text
+      → (fetches ≡ 2) × ((taken ≡ 2) × ((status ≡ Done) × (text ≡ codes "same")))
+  pub only_other : (fetches taken : ℕ) (status : Status) (text : List ℕ)
+      → Said (with_both (codes "no") (codes "n")) fetches taken status text
+      → (fetches ≡ 2) × ((taken ≡ 1) × ((status ≡ Unknown) × (text ≡ codes "other")))
+
+-- the status of a row means that both files gave numbers; a refusal, that one was refused behind files that gave some;
+-- and a fault of reading is one of a file that was reached
+pub record PairStatusesHaveMeanings : Type 0 where
+  pub done : Wrote (shelf_after (with_both (codes "no") (codes "nn")) 2 2) (wrote (codes "same")) pair Done
+  pub other_file : ¬ (Wrote (shelf_after (with_both (codes "no") (codes "n")) 2 1) (wrote (codes "same")) pair Done)
+  pub refused : WroteRefusal (shelf_after (with_both (codes "no") (codes "m")) 2 1) (wrote (codes "bad")) pair ProgramRefused
+  pub refused_first : WroteRefusal (shelf_after (with_both (codes "m") (codes "n")) 1 1) (wrote (codes "bad")) pair
+      ProgramRefused
+  pub refused_good : ¬ (WroteRefusal (shelf_after (with_both (codes "no") (codes "n")) 2 1) (wrote (codes "bad")) pair
+      ProgramRefused)
+  pub missed : MayMiss (shelf_after (with_bytes (codes "no")) 2 0) pair
+  pub not_reached : ¬ (MayMiss (shelf_after (with_bytes (codes "m")) 1 1) pair)
+
+-- the contents of the shelf determine the status: a first file that is bad hides that the second one is lacking
+pub record PairsEnd : Type 0 where
+  pub hidden : EndsOn (with_bytes (codes "m")) pair ProgramRefused
+  pub lacking : EndsOn (with_bytes (codes "no")) pair ReadFault
+  pub bad : EndsOn (with_both (codes "no") (codes "m")) pair ProgramRefused
+  pub same : EndsOn (with_both (codes "no") (codes "nn")) pair Done
+  pub other : EndsOn (with_both (codes "no") (codes "n")) pair Unknown
+  pub only_hidden : ¬ (EndsOn (with_bytes (codes "m")) pair ReadFault)
+  pub only_same : ¬ (EndsOn (with_both (codes "no") (codes "nn")) pair Unknown)
+  pub only_other : ¬ (EndsOn (with_both (codes "no") (codes "n")) pair Done)

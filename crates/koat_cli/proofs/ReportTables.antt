@@ -1,0 +1,46 @@
+-- Tables by whether a report lacks a bound.
+use Rattle.std.proofs.Common.{◌≡◌, Bool, true, false, if◌then◌else◌, ℕ, List, inl, inr, refl, subst}
+use Rattle.std.proofs.lemmas.Bool.{both_ways}
+use Rattle.outcome.specs.Reports.{Report, is_bounded}
+use Rattle.call_plans.specs.declared.status.Status.{Status}
+use Rattle.call_plans.specs.declared.status.Status.TheVariants.{Done, Unknown}
+use Rattle.call_plans.specs.Plans.{End, Case, Tells, Comes}
+use Rattle.call_plans.specs.Lawful.{AreRows}
+use Rattle.koat_cli.specs.Found.{status_of, OfReport, by_report}
+
+-- a text of a report with the report's status is told by the table
+pub report_told : (Found : Report → Type 0) (Text : Report → List ℕ → Type 0) (r : Report) (s : Status) (x : List ℕ)
+    → s ≡ status_of r → Text r x → Tells (by_report Found Text) s x
+report_told Found Text r s x ends h = go (is_bounded r) refl ends
+  where
+    go : (v : Bool) → is_bounded r ≡ v → s ≡ (if v then Done else Unknown) → Tells (by_report Found Text) s x
+    go true e is = inl (is, record { report = r; holds = h; bounded = e })
+    go false e is = inr (inl (is, record { report = r; holds = h; bounded = e }))
+
+-- where one report is found at most, it comes with its texts, and it has one text at most, the rows of the table are
+-- rows
+module _ (Found : Report → Type 0) (Text : Report → List ℕ → Type 0)
+    (one : (r q : Report) → Found r → Found q → r ≡ q) (comes : (r : Report) (x : List ℕ) → Text r x → Found r)
+    (one_text : (r : Report) (x y : List ℕ) → Text r x → Text r y → x ≡ y) where
+  bounded_alone : (s : Status) → OfReport Found true
+      → ¬ (Comes (Case Unknown (OfReport Found false) (λ text. OfReport (λ r. Text r text) false) End) s)
+  bounded_alone s a (inl h) =
+      let b = h.1 in
+      both_ways (is_bounded b.report) b.bounded
+      (subst (λ (r : Report). is_bounded r ≡ true) (one a.report b.report a.holds b.holds) a.bounded)
+  bounded_alone s a (inr never) = never
+
+  texts_one : (all : Bool) (x y : List ℕ) → OfReport (λ r. Text r x) all → OfReport (λ r. Text r y) all → x ≡ y
+  texts_one all x y a b =
+      one_text b.report x y
+      (subst (λ (r : Report). Text r x) (one a.report b.report (comes a.report x a.holds) (comes b.report y b.holds)) a.holds)
+      b.holds
+
+  text_comes : (all : Bool) (x : List ℕ) → OfReport (λ r. Text r x) all → OfReport Found all
+  text_comes all x a = record { report = a.report; holds = comes a.report x a.holds; bounded = a.bounded }
+
+  pub report_rows : AreRows (by_report Found Text)
+  report_rows = (
+    record { one = texts_one true; comes = text_comes true; alone = bounded_alone },
+    (record { one = texts_one false; comes = text_comes false; alone = λ s h never. never }, tt),
+  )

@@ -1,0 +1,52 @@
+//! Reads the text of a lasso's file for a program.
+
+ghost use Rattle.std.specs.Prelude.{⊤};
+ghost use Rattle.its_model.specs.Views.{program_of};
+ghost use Rattle.lasso_check.specs.Lassos as plain;
+ghost use Rattle.lasso_check.specs.Views.{lasso_of};
+ghost use Rattle.koat_cli.specs.LassoTexts.{lassos};
+
+use crate::run_refusal::run_refusal;
+use call_plans::{Read, Reader, Status};
+use its_model::Program;
+use lasso_check::{Lasso, read_lasso};
+use model::Memory;
+use std::alloc::Global;
+
+/// The reader of lassos of a program, each of at most 67,108,864 bytes.
+#[derive(Drop)]
+pub(crate) struct Lassos<'a> {
+    /// The program.
+    pub(crate) program: &'a Program,
+}
+
+impl<'a> Reader for Lassos<'a> {
+    type Thing = Lasso;
+
+    ghost Plain = { plain.Lasso };
+
+    ghost kind = { λ reader. lassos (program_of reader.program.now) };
+
+    ghost plain = { lasso_of };
+
+    ghost ready = { λ _. ⊤ };
+
+    fn limit(&self) -> u64 {
+        67_108_864
+    }
+
+    fn refused(&self) -> Status {
+        Status::RunRefused
+    }
+
+    fn too_long(&self) -> &'static [u8] {
+        b"run refused: too long\n"
+    }
+
+    fn read(&self, alloc: Global, bytes: &[u8]) -> Result<Read<Lasso>, Memory> {
+        match read_lasso(alloc, self.program, bytes) {
+            Ok(lasso) => Ok(Read::Thing(lasso)),
+            Err(error) => Ok(Read::Refusal(run_refusal(alloc, &error)?)),
+        }
+    }
+}

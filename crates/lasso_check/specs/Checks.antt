@@ -1,0 +1,54 @@
+-- What is found of a lasso: that its turn leads back, which step is bad, or at which place it stays open.
+use Rattle.std.specs.Prelude.{◌≡◌, ◌+◌, ◌≤◌, ℕ, zero, suc, Bool, nat_lt, List, length, take, pos, slice_index_or}
+use Rattle.std.specs.List.{filter}
+use Rattle.its_model.specs.model.Programs.{Program}
+use Rattle.its_model.specs.model.Runs.{Config, Step, count}
+use Rattle.its_model.specs.model.Spending.{spent_all}
+use Rattle.run_replay.specs.Replays.{RunsInRange, BadStep, IsFirstBadStep, rule_numbers}
+use Rattle.lasso_check.specs.Lassos.{Lasso, stem_back, turn_back, both_back}
+
+-- the stem is a run in range, and so are both parts, and these lead to the same configuration; the turn has a step
+pub record GoesRoundInRange (p : Program) (l : Lasso) : Type 0 where
+  pub at : Config
+  pub stem : RunsInRange p l.start (stem_back l) at
+  pub whole : RunsInRange p l.start (both_back l) at
+  pub nonempty : 1 ≤ length l.turn
+
+-- the first place at which configurations differ: 0 where their symbols do; else the symbols are the same, and so are
+-- the values before this place, from 1
+abbrev pub IsFirstDifference : Config → Config → ℕ → Type 0
+IsFirstDifference b c zero = ¬ (b.at ≡ c.at)
+IsFirstDifference b c (suc i) = (b.at ≡ c.at) × (take i b.values ≡ take i c.values)
+    × (¬ (slice_index_or b.values i (pos 0) ≡ slice_index_or c.values i (pos 0)))
+
+-- the stem is a run in range, and so are both parts, and this is the first place at which the configurations differ
+-- to which they lead
+pub record IsOpenAt (p : Program) (l : Lasso) (place : ℕ) : Type 0 where
+  pub before : Config
+  pub behind : Config
+  pub stem : RunsInRange p l.start (stem_back l) before
+  pub whole : RunsInRange p l.start (both_back l) behind
+  pub first : IsFirstDifference before behind place
+
+-- what the steps of the turn cost together
+abbrev pub CostsTurn : Program → Lasso → ℕ → Type 0
+CostsTurn p l n = spent_all p l.start (both_back l) ≡ n + spent_all p l.start (stem_back l)
+
+-- whether a rule occurs among steps
+abbrev pub is_used_in : List Step → ℕ → Bool
+is_used_in steps t = nat_lt 0 (count t steps)
+
+-- the rules of the turn by their numbers, in ascending order
+abbrev pub rules_of_turn : Program → Lasso → List ℕ
+rules_of_turn p l = filter (is_used_in (turn_back l)) (rule_numbers p)
+
+-- what is told of a turn that leads back: its rules, and what it costs
+pub record Turn : Type 0 where
+  pub rules : List ℕ
+  pub cost : ℕ
+
+-- what is found of a lasso: a turn that leads back, the first bad step, or the first place at which it stays open
+pub data Verdict : Type 0 where
+  Round : Turn → Verdict
+  Bad : BadStep → Verdict
+  OpenAt : ℕ → Verdict

@@ -1,0 +1,15 @@
+//! Answers each line of the standard input by one line: what is found of the lasso in it. A line without a `;`, as a
+//! remark that begins with `#`, is written as it is.
+#![tactic(auto)]
+
+mod turns;
+
+use std::io;
+
+fn main(rt: HostRuntime) -> io::Result<()> {
+    for line in rt.lines(rt.alloc()) {
+        let text = turns::found(rt.alloc(), line?.as_str())?;
+        println!(rt; "{text}")?;
+    }
+    Ok(())
+}

@@ -1,0 +1,83 @@
+//! Lassos: a line is rules, and behind a `;` a lasso file in which `|` stands for a line feed.
+
+use itoa::Buffer;
+use its_reader::read;
+use lasso_check::{LassoError, LassoTextError, Turn, check_lasso, read_lasso};
+use model::Memory;
+use std::alloc::{AllocError, Global};
+
+/// What is found of the lasso of a program with these rules, which starts at `l0`: the rules of its turn and what the turn
+/// costs; or its first bad step, or the place at which it stays open. Where the program's text is refused there is no
+/// program, and where the lasso's is, the refusal.
+pub(crate) fn found(alloc: Global, line: &str) -> Result<String, Memory> {
+    match line.split_once(';') {
+        Some((rules, lasso)) => {
+            let program = program_text(alloc, rules)?;
+            answer(alloc, &program, &lasso_text(alloc, lasso)?)
+        }
+        None => String::from_str(alloc, line),
+    }
+}
+
+// The text of a program with these rules.
+fn program_text(alloc: Global, rules: &str) -> Result<Vec<u8>, Memory> {
+    let mut text = Vec::from_slice(alloc, b"(STARTTERM (FUNCTIONSYMBOLS l0))(RULES ")?;
+    text.extend_from_slice(rules.as_bytes())?;
+    text.extend_from_slice(b")")?;
+    Ok(text)
+}
+
+// The text with a line feed in place of each `|`.
+fn lasso_text(alloc: Global, text: &str) -> Result<Vec<u8>, Memory> {
+    let mut bytes = Vec::new(alloc);
+    for byte in text.as_bytes() {
+        bytes.push(if *byte == b'|' { b'\n' } else { *byte })?;
+    }
+    Ok(bytes)
+}
+
+fn answer(alloc: Global, program: &[u8], lasso: &[u8]) -> Result<String, Memory> {
+    match read(alloc, program) {
+        Ok(program) => match read_lasso(alloc, &program, lasso) {
+            Ok(file) => told(alloc, &check_lasso(alloc, &program, &file)),
+            Err(error) => refused(alloc, &error),
+        },
+        Err(_) => String::from_str(alloc, "no program"),
+    }
+}
+
+fn refused(alloc: Global, error: &LassoTextError) -> Result<String, Memory> {
+    match error {
+        LassoTextError::Syntax { at } => format!(in alloc; "Syntax at {at}"),
+        LassoTextError::NumberTooLarge { at } => format!(in alloc; "NumberTooLarge at {at}"),
+        LassoTextError::BadReference { at } => format!(in alloc; "BadReference at {at}"),
+        LassoTextError::ArityDiffers { at } => format!(in alloc; "ArityDiffers at {at}"),
+        LassoTextError::Limit { at } => format!(in alloc; "Limit at {at}"),
+        LassoTextError::Memory => Err(AllocError),
+    }
+}
+
+fn told(alloc: Global, checked: &Result<Turn, LassoError>) -> Result<String, Memory> {
+    match checked {
+        Ok(turn) => turn_told(alloc, turn),
+        Err(LassoError::WrongRule { step }) => format!(in alloc; "WrongRule at {step}"),
+        Err(LassoError::GuardFails { step, atom }) => {
+            format!(in alloc; "GuardFails at {step}, atom {atom}")
+        }
+        Err(LassoError::PassedRange { step }) => format!(in alloc; "PassedRange at {step}"),
+        Err(LassoError::Open { place }) => format!(in alloc; "Open at {place}"),
+        Err(LassoError::Memory) => Err(AllocError),
+    }
+}
+
+// The rules of a turn, and behind a `:` what it costs.
+fn turn_told(alloc: Global, turn: &Turn) -> Result<String, Memory> {
+    let mut out = Vec::from_slice(alloc, b"rules")?;
+    for rule in &turn.rules {
+        out.push(b' ')?;
+        out.extend_from_slice(Buffer::new().format(*rule).as_bytes())?;
+    }
+    out.extend_from_slice(b" : ")?;
+    out.extend_from_slice(Buffer::new().format(turn.cost).as_bytes())?;
+    String::from_str(alloc, str::from_utf8(&out).unwrap_or("no text"))
+}

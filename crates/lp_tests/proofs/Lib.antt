@@ -1,0 +1,1 @@
+-- That what was read can be solved.

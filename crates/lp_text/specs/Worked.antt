@@ -1,0 +1,161 @@
+-- What small texts of linear programs come to, worked out by hand on both sides.
+use Rattle.std.specs.Prelude.{◌≡◌, ◌≢◌, ◌≤◌, ◌-◌, ◌^◌, ℕ, pos, negsuc, Some, None, List, [], ◌∷◌, ◌++◌, codes, length, map}
+use Rattle.text_grammar.specs.text_core.Reading.{Answer, Stands, Refused, answer}
+use Rattle.text_grammar.specs.Texts.{reader}
+use Rattle.text_grammar.specs.ByteTexts.{tokens}
+use Rattle.lp_builder.specs.simplex_core.Problem.{entry_value}
+use Rattle.lp_builder.specs.Entries.{entries_of}
+use Rattle.lp_text.specs.declared.kind.LpKind.{LpKind}
+use Rattle.lp_text.specs.declared.kind.LpKind.TheVariants.{Syntax, NumberTooLarge, Limit}
+use Rattle.lp_text.specs.declared.section.Section.TheVariants.{Rows}
+use Rattle.lp_text.specs.Lps.{Row, Lp}
+use Rattle.lp_text.specs.Texts.{State, number_of, lp_bytes, lps, against_columns, against_row}
+use Rattle.lp_text.specs.Spelled.{text_of, AreCosts, AreNumbers, IsRowOf, IsWithin}
+use Rattle.lp_text.specs.Problems.{lines_of, program_in}
+
+-- what a text is answered with
+abbrev pub answer_to : List ℕ → Answer Lp LpKind
+answer_to bytes = answer (reader lps) (length bytes) (tokens bytes)
+
+-- the refusal of a kind at a position
+abbrev pub refused : LpKind → ℕ → Answer Lp LpKind
+refused kind at = Refused (record { kind = kind; at = at })
+
+-- a text, and what it is answered with
+pub record LpCase : Type 0 where
+  pub text : List ℕ
+  pub comes : Answer Lp LpKind
+
+abbrev pub lp_case : List ℕ → Answer Lp LpKind → LpCase
+lp_case text comes = record { text = text; comes = comes }
+
+-- texts behind `koat-lp 1` and `cols ` (15 bytes)
+abbrev pub columns_cases : List LpCase
+columns_cases =
+    -- no columns, fewer and too many; beyond 2^31-1 the number is too large, and it isn't the number of columns that is
+    lp_case (codes "0\n") (refused Limit 15)
+    ∷ lp_case (codes "-1\n") (refused Limit 15)
+    ∷ lp_case (codes "65\n") (refused Limit 15)
+    ∷ lp_case (codes "2147483647\n") (refused Limit 15)
+    ∷ lp_case (codes "2147483648\n") (refused NumberTooLarge 15)
+    ∷ lp_case (codes "-2147483648\n") (refused NumberTooLarge 15)
+    -- no number, none with a zero before it, and no `-` before 0; what is refused at a `0` is refused before what is
+    -- behind it
+    ∷ lp_case (codes "x\n") (refused Syntax 15)
+    ∷ lp_case (codes "01\n") (refused Limit 15)
+    ∷ lp_case (codes "-0\n") (refused Syntax 16)
+    ∷ lp_case (codes "1 \n") (refused Syntax 16)
+    ∷ []
+
+-- texts behind `koat-lp 1`, `cols 1` and `first` (22 bytes)
+abbrev pub costs_cases : List LpCase
+costs_cases =
+    -- no cost and one too many: the line feed and the blank can't follow
+    lp_case (codes "\n") (refused Syntax 22)
+    ∷ lp_case (codes " 1 2\n") (refused Syntax 24)
+    -- a cost that is too large; one with a sign, none, and one with a zero before it
+    ∷ lp_case (codes " 2147483648\n") (refused NumberTooLarge 23)
+    ∷ lp_case (codes " -1\n") (refused Syntax 23)
+    ∷ lp_case (codes " \n") (refused Syntax 23)
+    ∷ lp_case (codes " 01\n") (refused Syntax 24)
+    -- the second costs are read likewise (31 bytes lie before them)
+    ∷ lp_case (codes " 1\nsecond\n") (refused Syntax 31)
+    ∷ lp_case (codes " 1\nsecond 1 2\n") (refused Syntax 33)
+    ∷ lp_case (codes " 1\nsecond 2147483648\n") (refused NumberTooLarge 32)
+    ∷ []
+
+-- a linear program with one column, whose costs are 2 and 3, and with these rows
+abbrev pub with_rows : List Row → Answer Lp LpKind
+with_rows rows = Stands (record { columns = pos 1; first = 2 ∷ []; second = 3 ∷ []; rows = rows })
+
+-- texts behind `koat-lp 1`, `cols 1`, `first 2` and `second 3` (34 bytes)
+abbrev pub rows_cases : List LpCase
+rows_cases =
+    -- no row, and two; numbers of either sign, and the greatest and the least
+    lp_case (codes "end\n") (with_rows [])
+    ∷ lp_case (codes "row 0 = 7\nrow -5 = -6\nend\n")
+    (with_rows (record { numbers = pos 0 ∷ []; right = pos 7 } ∷ record { numbers = negsuc 4 ∷ []; right = negsuc 5 } ∷ []))
+    ∷ lp_case (codes "row -2147483647 = 2147483647\nend\n")
+    (with_rows (record { numbers = negsuc 2147483646 ∷ []; right = pos 2147483647 } ∷ []))
+    -- too few numbers are refused at the `=`, and one too many at its first byte, whatever is behind its `-`
+    ∷ lp_case (codes "row = 7\nend\n") (refused Syntax 38)
+    ∷ lp_case (codes "row 1 2 = 7\nend\n") (refused Syntax 40)
+    ∷ lp_case (codes "row 1 -x") (refused Syntax 40)
+    ∷ lp_case (codes "row 1 9999999999 = 7\n") (refused Syntax 40)
+    -- numbers that are too large
+    ∷ lp_case (codes "row 2147483648 = 7\n") (refused NumberTooLarge 38)
+    ∷ lp_case (codes "row -2147483648 = 7\n") (refused NumberTooLarge 38)
+    ∷ lp_case (codes "row 1 = 2147483648\n") (refused NumberTooLarge 42)
+    ∷ lp_case (codes "row 1 = -2147483648\n") (refused NumberTooLarge 42)
+    -- blanks that lack, that are too many, and at the end of a line; no right side, and two
+    ∷ lp_case (codes "row1 = 7\n") (refused Syntax 37)
+    ∷ lp_case (codes "row  1 = 7\n") (refused Syntax 38)
+    ∷ lp_case (codes "row 1= 7\n") (refused Syntax 39)
+    ∷ lp_case (codes "row 1 =7\n") (refused Syntax 41)
+    ∷ lp_case (codes "row 1 = 7 \n") (refused Syntax 43)
+    ∷ lp_case (codes "row 1 = \n") (refused Syntax 42)
+    ∷ lp_case (codes "row 1 = 7 8\n") (refused Syntax 43)
+    ∷ lp_case (codes "row 1\n") (refused Syntax 39)
+    -- a zero before a number, and a `-` before 0
+    ∷ lp_case (codes "row 01 = 7\n") (refused Syntax 39)
+    ∷ lp_case (codes "row -0 = 7\n") (refused Syntax 39)
+    -- a text that ends too early, a line feed with another byte before it, and one line too many
+    ∷ lp_case (codes "end") (refused Syntax 37)
+    ∷ lp_case (codes "end\r\n") (refused Syntax 37)
+    ∷ lp_case (codes "end\n\n") (refused Syntax 38)
+    ∷ []
+
+-- what texts behind a beginning are answered with, and what they should be
+abbrev pub AreAnswered : List ℕ → List LpCase → Type 0
+AreAnswered beginning cases = map (λ c. answer_to (beginning ++ c.text)) cases ≡ map (λ c. c.comes) cases
+
+-- a linear program with two columns and two rows
+abbrev pub small : Lp
+small = record {
+  columns = pos 2;
+  first = 1 ∷ 2 ∷ [];
+  second = 0 ∷ 3 ∷ [];
+  rows = record { numbers = pos 0 ∷ negsuc 4 ∷ []; right = negsuc 2 } ∷ record { numbers = pos 7 ∷ pos 1 ∷ []; right = pos 6 }
+      ∷ [];
+}
+
+-- small texts are answered with what stands there, and a linear program has the text, the entries and the meaning that
+-- stand there
+pub record TextsAreWorkedOut : Type 0 where
+  pub columns : AreAnswered (codes "koat-lp 1\ncols ") columns_cases
+  pub costs : AreAnswered (codes "koat-lp 1\ncols 1\nfirst") costs_cases
+  pub rows : AreAnswered (codes "koat-lp 1\ncols 1\nfirst 2\nsecond 3\n") rows_cases
+  -- nothing at all ends too early at 0, and another format begins otherwise
+  pub empty : answer_to [] ≡ refused Syntax 0
+  pub other : answer_to (codes "koat-run 1\n") ≡ refused Syntax 5
+  pub read : answer_to (text_of small) ≡ Stands small
+  pub text : text_of small ≡ codes "koat-lp 1\ncols 2\nfirst 1 2\nsecond 0 3\nrow 0 -5 = -3\nrow 7 1 = 6\nend\n"
+  -- kinds are numbered in this order
+  pub kinds : map number_of (Syntax ∷ NumberTooLarge ∷ Limit ∷ []) ≡ 1 ∷ 2 ∷ 3 ∷ []
+  -- 1 and 64 columns may be, and neither 0 nor 65
+  pub least : against_columns (pos 1) ≡ None
+  pub greatest : against_columns (pos 64) ≡ None
+  pub none : against_columns (pos 0) ≡ Some Limit
+  pub past : against_columns (pos 65) ≡ Some Limit
+  -- behind 64 rows no line may begin with `r`, and behind 63 one may
+  pub full : (columns count : ℕ) → against_row columns 64 count 114 ≡ Some Limit
+  pub room : (columns count : ℕ) → against_row columns 63 count 114 ≡ None
+  -- no number over 2^31-1 is within the limits
+  pub cost : AreCosts ((2 ^ 31 - 1) ∷ [])
+  pub large_cost : ¬ AreCosts (0 ∷ (2 ^ 31) ∷ [])
+  pub number : AreNumbers (negsuc (2 ^ 31 - 2) ∷ [])
+  pub large_number : ¬ AreNumbers (pos 0 ∷ negsuc (2 ^ 31 - 1) ∷ [])
+  pub large_right : ¬ IsRowOf 0 (record { numbers = []; right = pos (2 ^ 31) })
+  -- `small` is within them, and isn't with another number of columns, nor without columns
+  pub within : IsWithin small
+  pub wider : ¬ IsWithin (record small { columns = pos 3 })
+  pub empty_within : ¬ IsWithin (record { columns = pos 0; first = []; second = []; rows = [] })
+  -- the entries that aren't 0, row by row, each with its row, its column and its number
+  pub entries : entries_of 0 (lines_of small) ≡ record { row = 0; col = 1; value = negsuc 4 }
+      ∷ record { row = 1; col = 0; value = pos 7 } ∷ record { row = 1; col = 1; value = pos 1 } ∷ []
+  -- what the linear program has
+  pub entry : (program_in small).entry 0 1 ≡ negsuc 4
+  pub other_entry : (program_in small).entry 1 0 ≡ pos 7
+  pub right : (program_in small).right 0 ≡ negsuc 2
+  pub first : (program_in small).first 1 ≡ pos 2
+  pub second : (program_in small).second 1 ≡ pos 3
