@@ -22,9 +22,9 @@ printf %s "${{text%.}}" | exec {STAND_IN} "$1"
 
 
 def block(language):
-    """The code that the document shows in a language, with a limit of 2 seconds."""
+    """The code that the document shows in a language, with a limit of 6 seconds."""
     with open(os.path.join(examples.TOP, "docs", "front-ends.md"), encoding="utf-8") as file:
-        return re.search(rf"```{language}\n(.*?)```", file.read(), re.S).group(1).replace("60", "2")
+        return re.search(rf"```{language}\n(.*?)```", file.read(), re.S).group(1).replace("60", "6")
 
 
 class FrontEnds(unittest.TestCase):
