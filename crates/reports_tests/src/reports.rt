@@ -1,10 +1,10 @@
 //! Reports of outcomes that were made by hand.
 
-use bound_expr::{Bound, Memory};
+use bound_expr::Memory;
 use cert_types::{Gap, LimitCause, LimitHit, Question, ResultVariable};
 use farkas_cert::Scaled;
 use its_model::{Program, Symbol};
-use outcome::{CostEntry, Outcome, SizeEntry, Stored, TimeEntry, UnboundedSide};
+use outcome::{CostEntry, Outcome, SizeEntry, TimeEntry, UnboundedSide};
 use report_text::print;
 use std::alloc::Global;
 use std::test::Fail;
@@ -122,13 +122,8 @@ why size 2.2: untimed 3\nwhy size 3.1: large 5000 nodes\n";
     Ok(())
 }
 
-// A bound with a lemma that states it.
-fn stored(bound: Bound) -> Stored {
-    Stored { bound, lemma: 1 }
-}
-
 #[test]
-fn costs_are_printed(rt: HostRuntime) -> Result<(), Fail> {
+fn missing_costs_are_printed(rt: HostRuntime) -> Result<(), Fail> {
     let alloc = rt.alloc();
     let unbounded = UnboundedSide {
         up: true,
@@ -141,13 +136,13 @@ fn costs_are_printed(rt: HostRuntime) -> Result<(), Fail> {
     );
     let outcome = Outcome {
         times: vec![in alloc;
-            TimeEntry::Known(stored(Bound::Const(1))),
-            TimeEntry::Known(stored(Bound::Var(0))),
             TimeEntry::Large { nodes: 4_097 },
+            TimeEntry::Large { nodes: 4_098 },
+            TimeEntry::Large { nodes: 4_099 },
         ]?,
         sizes: Vec::new(alloc),
         costs: vec![in alloc;
-            Some(CostEntry::Known(stored(Bound::Var(0)))),
+            None,
             None,
             Some(CostEntry::UnboundedSide(unbounded)),
             Some(CostEntry::OutOfLimits(limit)),
@@ -161,8 +156,9 @@ fn costs_are_printed(rt: HostRuntime) -> Result<(), Fail> {
     };
     let text = print(alloc, &named(alloc)?, &outcome)?;
     let wanted: &[u8] =
-        b"unknown\ntime 1: 1\ntime 2: A\ntime 3: unknown\ncost 1: A\ncost 3: unknown\n\
-cost 4: unknown\ncost 5: unknown\ncost 6: unknown\ncost 7: unknown\ntotal: unknown\nwhy time 3: large 4097 nodes\n\
+        b"unknown\ntime 1: unknown\ntime 2: unknown\ntime 3: unknown\ncost 3: unknown\n\
+cost 4: unknown\ncost 5: unknown\ncost 6: unknown\ncost 7: unknown\ntotal: unknown\n\
+why time 1: large 4097 nodes\nwhy time 2: large 4098 nodes\nwhy time 3: large 4099 nodes\n\
 why cost 3: loose up\n  ray: (0, 1)\n  kept: (1, 1) / 1\nwhy cost 4: cost 4 budget after 10 pivots\n\
 why cost 5: missing 2.1\nwhy cost 6: untimed 3\nwhy cost 7: large 5000 nodes\n";
     assert_eq!(rt; text.as_slice(), wanted);
