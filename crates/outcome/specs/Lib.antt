@@ -2,6 +2,7 @@
 pub mod Reports
 pub mod Holding
 pub mod WorkedReports
+pub mod WorkedCosts
 -- an outcome as a report, and which outcomes can be printed
 pub mod Views
 pub mod Printing
