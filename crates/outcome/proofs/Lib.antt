@@ -1,2 +1,3 @@
--- worked values of reports
+-- worked values of reports without and with costs
 pub mod WorkedReports
+pub mod WorkedCosts

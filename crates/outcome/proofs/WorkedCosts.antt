@@ -35,7 +35,7 @@ reports_fit = record {
   paid = record { times = refl; costs = refl; total = (λ e. refl, λ e. refl); sizes = refl };
   paid_once = record { times = refl; costs = refl; total = (λ e. refl, λ e. refl); sizes = refl };
   untimed = record { times = refl; costs = refl; total = (λ e. refl, λ e. refl); sizes = refl };
-  uncosted = record { times = refl; costs = refl; total = (λ e. (let no = e in cc), λ e. (let no = e in cc)); sizes = refl };
+  uncosted = record { times = refl; costs = refl; total = (λ e. absurd (let no = e in cc), λ e. absurd (let no = e in cc)); sizes = refl };
   cost_left_out = λ h. (let no = h.costs in cc);
   costs_left_out = λ h. (let no = h.costs in cc);
   cost_added = λ h. (let no = h.costs in cc);
