@@ -11,7 +11,7 @@ use Rattle.outcome.specs.Reports.{Timed, Size, Sized, NoSize, SizeUntimed, RuleC
 use Rattle.outcome.specs.Holding.{numbered_entry, place_entry}
 use Rattle.outcome.specs.WorkedReports.{right_times, right_sizes}
 use Rattle.outcome.specs.WorkedCosts.{SpendingsAreWorkedOut, two_costs, both_inputs, costs_missing}
-use Rattle.outcome.specs.WorkedCosts.{ReportsFit, CostReportsHold}
+use Rattle.outcome.specs.WorkedCosts.{ReportsAreBounded, ReportsFit, CostReportsHold}
 use Rattle.outcome.proofs.WorkedReports.{times_of_two, right_sizes_hold, no_entry_cost, no_total, same_total}
 
 -- what rules spend
@@ -27,6 +27,10 @@ spendings_worked_out = record {
   costed = refl;
   uncosted = refl;
 }
+
+-- which reports are bounded
+pub reports_bounded : ReportsAreBounded
+reports_bounded = record { plain = refl; paid = refl; no_rule = refl; untimed = refl; second_untimed = refl; uncosted = refl }
 
 -- which reports are reports on their programs
 pub reports_fit : ReportsFit

@@ -1,5 +1,6 @@
 -- The report of an analysis as plain data: a bound for each rule, each cost and each place, or a reason.
-use Rattle.std.specs.Prelude.{ℕ, Bool, true, false, List, [], ◌∷◌, ℤ, Option, Some, None}
+use Rattle.std.specs.Prelude.{ℕ, Bool, true, false, ◌&&◌, List, [], ◌∷◌, ℤ, Option, Some, None}
+use Rattle.std.specs.List.{list_all}
 use Rattle.farkas_cert.specs.model.Bounds.{Bound}
 use Rattle.cert_types.specs.cert_rules.Nodes.{ResultVariable}
 use Rattle.cert_types.specs.cert_rules.AcceptsSizes.{Side}
@@ -57,6 +58,10 @@ abbrev pub is_costed : Option RuleCost → Bool
 is_costed None = true
 is_costed (Some (Costed b)) = true
 is_costed (Some (Uncosted w)) = false
+
+-- whether every rule has a time, and every rule with a cost a bound on it
+abbrev pub is_bounded : Report → Bool
+is_bounded r = list_all is_timed r.times && list_all is_costed r.costs
 
 -- the bound of a time, where there is one
 abbrev pub bound_in : Time → Option Bound

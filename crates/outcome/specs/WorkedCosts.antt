@@ -8,7 +8,8 @@ use Rattle.farkas_cert.specs.model.Worked.{two_parts}
 use Rattle.farkas_cert.specs.model.WorkedRuns.{entering, looping, over_two_places, countdown}
 use Rattle.farkas_cert.specs.model.WorkedCosts.{with_cost, paying}
 use Rattle.outcome.specs.Reports.{Time, Timed, Untimed, TimeLarge, NoSize, SizeUntimed, SizeLarge, Size}
-use Rattle.outcome.specs.Reports.{RuleCost, Costed, Uncosted, Report, is_costed, spent_in, spendings}
+use Rattle.outcome.specs.Reports.{RuleCost, Costed, Uncosted, Report, is_costed, is_bounded}
+use Rattle.outcome.specs.Reports.{spent_in, spendings}
 use Rattle.outcome.specs.Holding.{IsReportOn, ReportHolds}
 use Rattle.outcome.specs.WorkedReports.{two_times, right_times, no_times, right_sizes, no_costs, report_with}
 
@@ -48,6 +49,15 @@ costs_missing = Some (Uncosted (SizeUntimed 1)) ∷ Some (Uncosted (SizeUntimed 
 
 abbrev pub second_cost_missing : List (Option RuleCost)
 second_cost_missing = Some (Costed (Input 0)) ∷ Some (Uncosted (SizeLarge 5000)) ∷ []
+
+-- a report is bounded where no time and no bound on a cost is missing, whether there is a total or not
+pub record ReportsAreBounded : Type 0 where
+  pub plain : is_bounded (report_with right_times None right_sizes) ≡ true
+  pub paid : is_bounded (report_on_costs right_times (two_costs (Input 0) (Input 1)) None) ≡ true
+  pub no_rule : is_bounded (record { times = []; costs = []; total = None; sizes = [] }) ≡ true
+  pub untimed : is_bounded (report_on_costs no_times (two_costs (Input 0) (Input 1)) (Some both_inputs)) ≡ false
+  pub second_untimed : is_bounded (report_with (Timed (Constant 1) ∷ Untimed (TimeLarge 5000) ∷ []) None right_sizes) ≡ false
+  pub uncosted : is_bounded (report_on_costs right_times second_cost_missing (Some (Constant 10))) ≡ false
 
 -- a report on a program has a cost for exactly the rules that have one, and a total exactly where each rule with a cost
 -- has a bound on it and each other rule has a time: also where the time of a rule with a cost is missing

@@ -10,7 +10,7 @@ mod outcome_of;
 mod unbounded_side;
 
 ghost use Rattle.outcome.specs.WorkedReports.{EntriesAreFound, ReportsHold, ReasonsHold};
-ghost use Rattle.outcome.specs.WorkedCosts.{SpendingsAreWorkedOut, ReportsFit, CostReportsHold};
+ghost use Rattle.outcome.specs.WorkedCosts.{SpendingsAreWorkedOut, ReportsAreBounded, ReportsFit, CostReportsHold};
 
 pub use entry::{CostEntry, SizeEntry, Stored, TimeEntry};
 pub use outcome_of::Outcome;
@@ -23,6 +23,7 @@ pub fn reports_are_as_worked_out()
     ensures reports { ReportsHold }
     ensures reasons { ReasonsHold }
     ensures spendings { SpendingsAreWorkedOut }
+    ensures bounded { ReportsAreBounded }
     ensures fitting { ReportsFit }
     ensures costs { CostReportsHold }
 {}
