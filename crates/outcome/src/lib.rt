@@ -5,6 +5,7 @@
 //! which the contracts above speak of.
 #![tactic(auto)]
 
+mod bounded;
 mod entry;
 mod outcome_of;
 mod unbounded_side;

@@ -1,25 +1,21 @@
 -- The lines of an outcome's entries are those of its report.
 use Rattle.cert_types.specs.cert_rules.Gaps.{Gap as PlainGap}
-use Rattle.std.proofs.Common.{◌≡◌, ℕ, zero, suc, ◌≤◌, ◌-◌, get_or, arith, ◌&&◌, cond, List, [], ◌∷◌, ◌++◌, length, map}
-use Rattle.std.proofs.Common.{Bool, Option, Some, None, codes, refl, sym, ◌∙◌, ap, subst, append_assoc}
+use Rattle.std.proofs.Common.{◌≡◌, ℕ, zero, suc, ◌≤◌, ◌-◌, get_or, arith, List, [], ◌∷◌, ◌++◌, length, map}
+use Rattle.std.proofs.Common.{Option, codes, refl, sym, ◌∙◌, ap, subst, append_assoc}
 use Rattle.std.specs.Prelude.{decimal}
-use Rattle.std.specs.List.{list_all}
 use Rattle.model.specs.Programs.{Name, Symbol}
 use Rattle.cert_types.specs.declared.gap.Gap.{Gap}
 use Rattle.outcome.specs.declared.entry.TimeEntry.{TimeEntry}
 use Rattle.outcome.specs.declared.entry.TimeEntry.TheVariants as times
 use Rattle.outcome.specs.declared.entry.CostEntry.{CostEntry}
-use Rattle.outcome.specs.declared.entry.CostEntry.TheVariants as costs
 use Rattle.outcome.specs.declared.entry.SizeEntry.{SizeEntry}
-use Rattle.outcome.specs.declared.outcome_of.Outcome.{Outcome}
 use Rattle.cert_types.specs.AnswerViews.{gap_of}
-use Rattle.outcome.specs.Views.{time_of, size_of, numbered_gap, report_of}
+use Rattle.outcome.specs.Views.{time_of, size_of, numbered_gap}
 use Rattle.report_text.specs.Pieces.{numbered_lines}
-use Rattle.outcome.specs.Reports.{is_timed, is_costed, is_bounded}
-use Rattle.report_text.specs.Reports.{headline, time_line, cost_line, size_line, size_lines}
+use Rattle.report_text.specs.Reports.{time_line, cost_line, size_line, size_lines}
 use Rattle.report_text.specs.Reports.{why_time, why_cost, why_size, why_sizes}
 use Rattle.outcome.specs.Printing.{HasItsGap}
-use Rattle.report_text.specs.Conditions.{rule_cost_of, is_known, is_known_cost, entry_line}
+use Rattle.report_text.specs.Conditions.{rule_cost_of, entry_line}
 use Rattle.report_text.specs.Reasons.{gap_text}
 use Rattle.report_text.proofs.Lists.{numbered_same}
 
@@ -29,41 +25,6 @@ line_of names gaps n (times.Known s) = refl
 line_of names gaps n (times.Gap g) = refl
 line_of names gaps n (times.OutOfLimits t) = refl
 line_of names gaps n (times.Large nodes) = refl
-
--- an entry is known exactly where its time is one
-pub known_is_timed : (gaps : List Gap) (e : TimeEntry) → is_known e ≡ is_timed (time_of gaps e)
-known_is_timed gaps (times.Known s) = refl
-known_is_timed gaps (times.Gap g) = refl
-known_is_timed gaps (times.OutOfLimits t) = refl
-known_is_timed gaps (times.Large nodes) = refl
-
--- so all entries are known exactly where all times are
-pub all_known : (gaps : List Gap) (es : List TimeEntry) → list_all is_known es ≡ list_all is_timed (map (time_of gaps) es)
-all_known gaps [] = refl
-all_known gaps (e ∷ es) = cc (known_is_timed gaps e, all_known gaps es)
-
--- an entry lacks no bound on a cost exactly where the rule's cost lacks none
-known_is_costed : (e : Option CostEntry) → is_known_cost e ≡ is_costed (rule_cost_of e)
-known_is_costed None = refl
-known_is_costed (Some (costs.Known s)) = refl
-known_is_costed (Some (costs.UnboundedSide l)) = refl
-known_is_costed (Some (costs.OutOfLimits t)) = refl
-known_is_costed (Some (costs.Missing s)) = refl
-known_is_costed (Some (costs.Untimed t)) = refl
-known_is_costed (Some (costs.Large nodes)) = refl
-
--- so no entry lacks one exactly where no rule's cost does
-pub all_costs_known : (es : List (Option CostEntry)) → list_all is_known_cost es ≡ list_all is_costed (map rule_cost_of es)
-all_costs_known [] = refl
-all_costs_known (e ∷ es) = cc (known_is_costed e, all_costs_known es)
-
--- the headline of a report is decided by the entries of times and of costs
-pub headline_by : (o : Outcome) → headline (report_of o)
-    ≡ cond (list_all is_known o.times.items && list_all is_known_cost o.costs.items) (codes "bounded\n") (codes "unknown\n")
-headline_by o =
-    let same : (list_all is_known o.times.items && list_all is_known_cost o.costs.items) ≡ is_bounded (report_of o) =
-    λ i. all_known o.gaps.items o.times.items i && all_costs_known o.costs.items i in
-    sym (ap (λ (b : Bool). cond b (codes "bounded\n") (codes "unknown\n")) same)
 
 -- and the lines of all rules
 pub times_same : (names : List Name) (gaps : List Gap) (es : List TimeEntry)

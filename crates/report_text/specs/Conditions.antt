@@ -1,5 +1,5 @@
 -- Preconditions of the report's functions: entries of the code, and their lines.
-use Rattle.std.specs.Prelude.{ℕ, Bool, true, false, List, ◌++◌, Option, Some, None, codes, decimal}
+use Rattle.std.specs.Prelude.{ℕ, List, ◌++◌, Option, codes, decimal}
 use Rattle.std.specs.Option.{option_map}
 use Rattle.model.specs.Programs.{Name}
 use Rattle.model.specs.Bounds.{Bound}
@@ -8,7 +8,6 @@ use Rattle.bound_expr.specs.declared.bound.Bound as code
 use Rattle.outcome.specs.declared.entry.TimeEntry.{TimeEntry}
 use Rattle.outcome.specs.declared.entry.TimeEntry.TheVariants as times
 use Rattle.outcome.specs.declared.entry.CostEntry.{CostEntry}
-use Rattle.outcome.specs.declared.entry.CostEntry.TheVariants as costs
 use Rattle.outcome.specs.Reports.{RuleCost}
 use Rattle.outcome.specs.Views.{cost_of}
 use Rattle.report_text.specs.Reports.{bound_end, none_end}
@@ -30,20 +29,3 @@ total_of o = option_map bound_of o
 -- the cost of a rule as plain data, where it has one
 abbrev pub rule_cost_of : Option CostEntry → Option RuleCost
 rule_cost_of o = option_map cost_of o
-
--- whether an entry is a time
-abbrev pub is_known : TimeEntry → Bool
-is_known (times.Known s) = true
-is_known (times.Gap g) = false
-is_known (times.OutOfLimits t) = false
-is_known (times.Large nodes) = false
-
--- whether an entry lacks no bound on a cost
-abbrev pub is_known_cost : Option CostEntry → Bool
-is_known_cost None = true
-is_known_cost (Some (costs.Known s)) = true
-is_known_cost (Some (costs.UnboundedSide l)) = false
-is_known_cost (Some (costs.OutOfLimits t)) = false
-is_known_cost (Some (costs.Missing s)) = false
-is_known_cost (Some (costs.Untimed t)) = false
-is_known_cost (Some (costs.Large nodes)) = false

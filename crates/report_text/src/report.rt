@@ -1,14 +1,14 @@
 //! The whole report.
 
 ghost use Rattle.std.specs.Prelude.{◌≡◌, ◌++◌, length, map, IfOk, OnOk};
-ghost use Rattle.std.specs.List.{list_all, All};
+ghost use Rattle.std.specs.List.{All};
 ghost use Rattle.its_model.specs.Views.{name_of, symbol_of, program_of};
 ghost use Rattle.outcome.specs.Views.{time_of, size_of, report_of};
 ghost use Rattle.report_text.specs.Pieces.{numbered_lines};
 ghost use Rattle.report_text.specs.Reports.{headline, cost_line, size_line, why_time, why_cost, why_size};
 ghost use Rattle.report_text.specs.Reports.{bounds_text, reasons_text, text_of_report};
 ghost use Rattle.outcome.specs.Printing.{IsPrintableTime, IsPrintableCost, IsPrintableSize, IsPrintableOutcome, HasItsGap};
-ghost use Rattle.report_text.specs.Conditions.{entry_line, rule_cost_of, is_known, is_known_cost};
+ghost use Rattle.report_text.specs.Conditions.{entry_line, rule_cost_of};
 
 use crate::bounds::{push_cost, push_size, push_time, push_total};
 use crate::reasons::{push_why_cost, push_why_size, push_why_time};
@@ -60,29 +60,11 @@ fn push_reasons(text: &mut Vec<u8>, symbols: &[Symbol], o: &Outcome) -> Result<(
 fn push_headline(text: &mut Vec<u8>, o: &Outcome) -> Result<(), Memory>
     ensures { OnOk result (text.new.items ≡ text.old.items ++ headline (report_of o.now)) }
 {
-    let timed = all_timed(&o.times);
-    let costed = all_costed(&o.costs);
-    if timed && costed {
+    if o.is_bounded() {
         text.extend_from_slice(b"bounded\n")
     } else {
         text.extend_from_slice(b"unknown\n")
     }
-}
-
-fn all_timed(times: &[TimeEntry]) -> bool
-    ensures { result ≡ list_all is_known times.now }
-{
-    times
-        .iter()
-        .all(|entry| matches!(entry, TimeEntry::Known(_)))
-}
-
-fn all_costed(costs: &[Option<CostEntry>]) -> bool
-    ensures { result ≡ list_all is_known_cost costs.now }
-{
-    costs
-        .iter()
-        .all(|entry| matches!(entry, None | Some(CostEntry::Known(_))))
 }
 
 // The lines of the rules.
