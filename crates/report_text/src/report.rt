@@ -80,11 +80,7 @@ fn push_times(text: &mut Vec<u8>, names: &[Name], times: &[TimeEntry]) -> Result
 }
 
 // The lines of what the rules cost.
-fn push_costs(
-    text: &mut Vec<u8>,
-    names: &[Name],
-    costs: &[Option<CostEntry>],
-) -> Result<(), Memory>
+fn push_costs(text: &mut Vec<u8>, names: &[Name], costs: &[Option<CostEntry>]) -> Result<(), Memory>
     requires { All (IsPrintableCost (length names.now)) costs.now }
     ensures { OnOk result (text.new.items ≡ text.old.items
         ++ numbered_lines (λ rule c. cost_line (map name_of names.now) rule (rule_cost_of c)) 1 costs.now) }

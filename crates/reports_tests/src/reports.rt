@@ -160,7 +160,8 @@ fn costs_are_printed(rt: HostRuntime) -> Result<(), Fail> {
         gaps: Vec::new(alloc),
     };
     let text = print(alloc, &named(alloc)?, &outcome)?;
-    let wanted: &[u8] = b"unknown\ntime 1: 1\ntime 2: A\ntime 3: unknown\ncost 1: A\ncost 3: unknown\n\
+    let wanted: &[u8] =
+        b"unknown\ntime 1: 1\ntime 2: A\ntime 3: unknown\ncost 1: A\ncost 3: unknown\n\
 cost 4: unknown\ncost 5: unknown\ncost 6: unknown\ncost 7: unknown\ntotal: unknown\nwhy time 3: large 4097 nodes\n\
 why cost 3: loose up\n  ray: (0, 1)\n  kept: (1, 1) / 1\nwhy cost 4: cost 4 budget after 10 pivots\n\
 why cost 5: missing 2.1\nwhy cost 6: untimed 3\nwhy cost 7: large 5000 nodes\n";
