@@ -3,9 +3,10 @@ use Rattle.std.proofs.Common.{◌≡◌, ℕ, suc, ◌+◌, ◌^◌, ◌<◌, �
 use Rattle.std.proofs.Common.{◌≢◌, Option, Some, None, refl, sym, ◌∙◌, ap, append_assoc, append-nil, arith}
 use Rattle.std.specs.List.{AllByRecursion}
 use Rattle.model.specs.Programs.{Program}
+use Rattle.model.specs.Bounds.{Bound}
 use Rattle.its_model.specs.text_core.Names.{AreNames}
 use Rattle.its_model.proofs.text_core.PrefixLaws.{Stops}
-use Rattle.outcome.specs.Reports.{Time, Timed, Untimed, RuleCost, Costed, Uncosted, Size, Sized, Unsized}
+use Rattle.outcome.specs.Reports.{Time, Timed, Untimed, NoSize, RuleCost, Costed, Uncosted, Size, Sized, Unsized}
 use Rattle.report_text.specs.Pieces.{place_text, numbered_lines}
 use Rattle.report_text.specs.Reasons.{no_time_text, no_size_text}
 use Rattle.report_text.specs.Reports.{why_time, why_cost, why_size, why_sizes}
@@ -91,12 +92,12 @@ module _ (p : Program) (are : AreNames p.start_names) (named : AreNames (names_o
   cost_step n None None u v short f g like k l e = (refl, e)
   cost_step n None (Some d) u v short f g like k l e = absurd like
   cost_step n (Some c) None u v short f g like k l e = absurd like
-  cost_step n (Some (Costed a)) (Some (Costed b)) u v short f g like k l e = (ap (λ b. Some (Costed b)) (bound_same p.start_names are a b f g like), e)
+  cost_step n (Some (Costed a)) (Some (Costed b)) u v short f g like k l e = (ap (λ (b : Bound). Some (Costed b)) (bound_same p.start_names are a b f g like), e)
   cost_step n (Some (Costed a)) (Some (Uncosted w)) u v short f g like k l e = absurd (k.no _ (e ∙ begins (codes "why cost ") (decimal n) (codes ": ") (no_size_text w) v))
   cost_step n (Some (Uncosted w)) (Some (Costed b)) u v short f g like k l e = absurd (l.no _ (sym e ∙ begins (codes "why cost ") (decimal n) (codes ": ") (no_size_text w) u))
   cost_step n (Some (Uncosted w)) (Some (Uncosted z)) u v short f g like k l e =
       let r = no_size_determined.each w z u v f g tt tt (inside_three (codes "why cost ") (decimal n) (codes ": ") (no_size_text w) (no_size_text z) u v e) in
-      (ap (λ w. Some (Uncosted w)) r.0, r.1)
+      (ap (λ (w : NoSize). Some (Uncosted w)) r.0, r.1)
 
   -- the reason of a later rule's cost is later
   cost_later : (n m : ℕ) (c : Option RuleCost) (u : List ℕ) → n < m → m < 2 ^ 64 → IsLater (cost_lead n) u → IsLater (cost_lead n) (why_cost m c ++ u)
