@@ -30,7 +30,14 @@ spendings_worked_out = record {
 
 -- which reports are bounded
 pub reports_bounded : ReportsAreBounded
-reports_bounded = record { plain = refl; paid = refl; no_rule = refl; untimed = refl; second_untimed = refl; uncosted = refl }
+reports_bounded = record {
+  plain = refl;
+  paid = refl;
+  no_rule = refl;
+  untimed = refl;
+  second_untimed = refl;
+  uncosted = refl;
+}
 
 -- which reports are reports on their programs
 pub reports_fit : ReportsFit
@@ -39,7 +46,12 @@ reports_fit = record {
   paid = record { times = refl; costs = refl; total = (λ e. refl, λ e. refl); sizes = refl };
   paid_once = record { times = refl; costs = refl; total = (λ e. refl, λ e. refl); sizes = refl };
   untimed = record { times = refl; costs = refl; total = (λ e. refl, λ e. refl); sizes = refl };
-  uncosted = record { times = refl; costs = refl; total = (λ e. absurd (let no = e in cc), λ e. absurd (let no = e in cc)); sizes = refl };
+  uncosted = record {
+    times = refl;
+    costs = refl;
+    total = (λ e. absurd (let no = e in cc), λ e. absurd (let no = e in cc));
+    sizes = refl;
+  };
   cost_left_out = λ h. (let no = h.costs in cc);
   costs_left_out = λ h. (let no = h.costs in cc);
   cost_added = λ h. (let no = h.costs in cc);
@@ -74,7 +86,8 @@ costs_paying : (t : ℕ) (b : Bound) → numbered_entry (two_costs (Input 0) (In
     → HoldsCost paying t b
 costs_paying zero b e = absurd (no_entry_cost b e)
 costs_paying (suc zero) b e = subst (λ (d : Bound). HoldsCost paying 1 d) (same_cost (Input 0) b e) costs_hold.entering
-costs_paying (suc (suc zero)) b e = subst (λ (d : Bound). HoldsCost paying 2 d) (same_cost (Input 1) b e) costs_hold.rounds
+costs_paying (suc (suc zero)) b e =
+    subst (λ (d : Bound). HoldsCost paying 2 d) (same_cost (Input 1) b e) costs_hold.rounds
 costs_paying (suc (suc (suc t))) b e = absurd (no_entry_cost b e)
 
 -- reasons give no bound

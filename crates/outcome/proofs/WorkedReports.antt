@@ -1,12 +1,12 @@
 -- Which worked reports hold: by the facts of the program that counts down.
-use Rattle.std.proofs.Common.{◌≡◌, ℕ, zero, suc, [], ◌∷◌, Option, Some, None, refl, subst, arith}
+use Rattle.std.proofs.Common.{◌≡◌, ℕ, zero, suc, [], ◌∷◌, Some, None, refl, subst, arith}
 use Rattle.farkas_cert.specs.model.Bounds.{Bound, Constant, Input}
 use Rattle.farkas_cert.specs.model.Facts.{HoldsTime, HoldsSize, HoldsCost, HoldsTotal}
 use Rattle.farkas_cert.specs.model.WorkedRuns.{countdown}
 use Rattle.farkas_cert.proofs.model.WorkedFacts.{times_hold, sizes_hold}
 use Rattle.farkas_cert.proofs.model.WorkedTotals.{totals_hold}
 use Rattle.outcome.specs.Reports.{NoTime, TimeLarge, Timed, Untimed}
-use Rattle.outcome.specs.Reports.{NoSize, SizeUntimed, SizeLarge, Sized, Unsized, RuleCost, Costed}
+use Rattle.outcome.specs.Reports.{NoSize, SizeUntimed, SizeLarge, Sized, Unsized, Costed}
 use Rattle.outcome.specs.Holding.{numbered_entry, place_entry}
 use Rattle.outcome.specs.WorkedReports.{EntriesAreFound, two_sizes, two_times}
 use Rattle.outcome.specs.WorkedReports.{right_sizes, no_sizes, no_costs, ReportsHold, ReasonsHold}
@@ -83,7 +83,7 @@ right_sizes_hold (suc (suc (suc t))) i b e = absurd (no_size b e)
 no_cost : (b : Bound) → Some None ≡ Some (Some (Costed b)) → ⊥
 no_cost b e = cc
 
-pub no_entry_cost : (b : Bound) → None {A = Option RuleCost} ≡ Some (Some (Costed b)) → ⊥
+pub no_entry_cost : (b : Bound) → None ≡ Some (Some (Costed b)) → ⊥
 no_entry_cost b e = cc
 
 none_costed : (t : ℕ) (b : Bound) → numbered_entry no_costs t ≡ Some (Some (Costed b)) → HoldsCost countdown t b

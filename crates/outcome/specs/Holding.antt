@@ -26,8 +26,8 @@ place_entry None i = None
 place_entry (Some sizes) i = numbered_entry sizes i
 
 -- every bound that the report gives holds on all runs of the program: each rule occurs at most as often as its time
--- says, its steps cost at most what its cost says, all steps cost at most what the total says, and the absolute value at
--- a place after a rule is at most its size
+-- says, its steps cost at most what its cost says, all steps cost at most what the total says, and the absolute value
+-- at a place after a rule is at most its size
 pub record ReportHolds (p : Program) (r : Report) : Type 0 where
   pub times : (t : ℕ) (b : Bound) → numbered_entry r.times t ≡ Some (Timed b) → HoldsTime p t b
   pub costs : (t : ℕ) (b : Bound) → numbered_entry r.costs t ≡ Some (Some (Costed b)) → HoldsCost p t b

@@ -17,8 +17,8 @@ use Rattle.outcome.specs.WorkedReports.{two_times, right_times, no_times, right_
 abbrev pub two_costs : Bound → Bound → List (Option RuleCost)
 two_costs a b = Some (Costed a) ∷ Some (Costed b) ∷ []
 
--- a rule spends what its cost says, whatever its time; without a cost it spends its time; and it has no bound where what
--- counts of the two is missing. A rule without a cost lacks no bound on a cost
+-- a rule spends what its cost says, whatever its time; without a cost it spends its time; and where the one of the two
+-- that counts is missing there is no bound. A rule without a cost lacks no bound on a cost
 pub record SpendingsAreWorkedOut : Type 0 where
   pub by_cost : spent_in (Timed (Constant 9)) (Some (Costed (Input 0))) ≡ Some (Input 0)
   pub by_cost_alone : spent_in (Untimed (TimeLarge 5000)) (Some (Costed (Input 0))) ≡ Some (Input 0)
@@ -56,7 +56,8 @@ pub record ReportsAreBounded : Type 0 where
   pub paid : is_bounded (report_on_costs right_times (two_costs (Input 0) (Input 1)) None) ≡ true
   pub no_rule : is_bounded (record { times = []; costs = []; total = None; sizes = [] }) ≡ true
   pub untimed : is_bounded (report_on_costs no_times (two_costs (Input 0) (Input 1)) (Some both_inputs)) ≡ false
-  pub second_untimed : is_bounded (report_with (Timed (Constant 1) ∷ Untimed (TimeLarge 5000) ∷ []) None right_sizes) ≡ false
+  pub second_untimed :
+      is_bounded (report_with (Timed (Constant 1) ∷ Untimed (TimeLarge 5000) ∷ []) None right_sizes) ≡ false
   pub uncosted : is_bounded (report_on_costs right_times second_cost_missing (Some (Constant 10))) ≡ false
 
 -- a report on a program has a cost for exactly the rules that have one, and a total exactly where each rule with a cost
@@ -70,7 +71,8 @@ pub record ReportsFit : Type 0 where
   pub uncosted : IsReportOn paying (report_on_costs right_times second_cost_missing None)
   pub cost_left_out : ¬ (IsReportOn paying (report_on_costs right_times no_costs (Some (Constant 10))))
   pub costs_left_out : ¬ (IsReportOn countdown (report_on_costs right_times [] (Some (Constant 10))))
-  pub cost_added : ¬ (IsReportOn countdown (report_on_costs right_times (two_costs (Input 0) (Input 1)) (Some both_inputs)))
+  pub cost_added : ¬ (IsReportOn countdown
+      (report_on_costs right_times (two_costs (Input 0) (Input 1)) (Some both_inputs)))
   pub cost_of_other : ¬ (IsReportOn paying_once
       (report_on_costs right_times (None ∷ Some (Costed (Input 0)) ∷ []) (Some (Input 0))))
   pub total_left_out : ¬ (IsReportOn paying (report_on_costs right_times (two_costs (Input 0) (Input 1)) None))
