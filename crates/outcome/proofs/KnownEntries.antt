@@ -1,5 +1,5 @@
 -- Entries lack a bound exactly where the report does.
-use Rattle.std.proofs.Common.{◌≡◌, ◌&&◌, Bool, List, [], ◌∷◌, map, Option, Some, None, refl}
+use Rattle.std.proofs.Common.{◌≡◌, ◌&&◌, Bool, true, false, List, [], ◌∷◌, map, Option, Some, None, refl, sym, ◌∙◌, ap}
 use Rattle.std.specs.List.{list_all}
 use Rattle.std.specs.Option.{option_map}
 use Rattle.cert_types.specs.declared.gap.Gap.{Gap}
@@ -44,3 +44,15 @@ all_costs_known (e ∷ es) = cc (known_is_costed e, all_costs_known es)
 pub bounded_by_entries : (o : Outcome)
     → (list_all is_known o.times.items && list_all is_known_cost o.costs.items) ≡ is_bounded (report_of o)
 bounded_by_entries o = λ i. all_known o.gaps.items o.times.items i && all_costs_known o.costs.items i
+
+-- so, where all entries of times are known, those of costs decide, and where one isn't, the outcome isn't bounded
+pub bounded_where_timed : (o : Outcome) (timed costed : Bool) → timed ≡ list_all is_known o.times.items
+    → costed ≡ list_all is_known_cost o.costs.items → timed ≡ true → costed ≡ is_bounded (report_of o)
+bounded_where_timed o timed costed et ec all =
+    ec
+    ∙ (ap (λ (b : Bool). b && list_all is_known_cost o.costs.items) (sym (sym et ∙ all)) ∙ bounded_by_entries o)
+
+pub bounded_where_untimed : (o : Outcome) (timed : Bool) → timed ≡ list_all is_known o.times.items → timed ≡ false
+    → false ≡ is_bounded (report_of o)
+bounded_where_untimed o timed et some =
+    ap (λ (b : Bool). b && list_all is_known_cost o.costs.items) (sym (sym et ∙ some)) ∙ bounded_by_entries o
