@@ -53,6 +53,7 @@ bounded_where_timed o timed costed et ec all =
     ∙ (ap (λ (b : Bool). b && list_all is_known_cost o.costs.items) (sym (sym et ∙ all)) ∙ bounded_by_entries o)
 
 pub bounded_where_untimed : (o : Outcome) (timed : Bool) → timed ≡ list_all is_known o.times.items → timed ≡ false
-    → false ≡ is_bounded (report_of o)
+    → timed ≡ is_bounded (report_of o)
 bounded_where_untimed o timed et some =
-    ap (λ (b : Bool). b && list_all is_known_cost o.costs.items) (sym (sym et ∙ some)) ∙ bounded_by_entries o
+    some
+    ∙ (ap (λ (b : Bool). b && list_all is_known_cost o.costs.items) (sym (sym et ∙ some)) ∙ bounded_by_entries o)
