@@ -5,7 +5,7 @@ use Rattle.cert_types.specs.Sizes.{joined}
 use Rattle.cert_types.specs.Views.{side_bound_of}
 use Rattle.cert_types.specs.cert_rules.Composed.{parts_for, sizes_after}
 use Rattle.cert_types.specs.cert_rules.ComposedSizes.{composed_side_bound}
-use Rattle.check_sizes.proofs.side_bound_costs.step_bound.Given as goal
+use Rattle.cost_nodes.proofs.composing.step_bound.Given as goal
 
 -- what is done and what is left is all
 abbrev pub invariant-loop-rule : goal.invariant-loop-rule

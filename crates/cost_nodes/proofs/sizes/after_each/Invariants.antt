@@ -1,7 +1,7 @@
 use Rattle.std.proofs.Common.{◌≡◌, ◌++◌, map, drop}
 use Rattle.cert_types.specs.Views.{result_variable_of}
-use Rattle.check_sizes.specs.Costs.{result_variables_after_each}
-use Rattle.check_sizes.proofs.side_bound_costs.result_variables_each.Given as goal
+use Rattle.cost_nodes.specs.ComposedCosts.{result_variables_after_each}
+use Rattle.cost_nodes.proofs.sizes.after_each.Given as goal
 
 -- what is done and what is left is all
 abbrev pub invariant-loop-rule : goal.invariant-loop-rule

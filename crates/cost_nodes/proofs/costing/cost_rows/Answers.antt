@@ -1,10 +1,10 @@
 use Rattle.std.proofs.Common.{◌∙◌, ap, arith}
 use Rattle.std.proofs.lemmas.Result.{IfOk-weaker}
 use Rattle.guard_prep.specs.Prepared.{prepared}
-use Rattle.cert_context.proofs.Rows.{rule-preparable}
-use Rattle.cert_context.proofs.WrittenCosts.{first-rule, one-rule}
+use Rattle.cost_nodes.proofs.WrittenCosts.{rule-preparable}
+use Rattle.cost_nodes.proofs.WrittenCosts.{first-rule, one-rule}
 use Rattle.model.specs.Programs as plain
-use Rattle.cert_context.proofs.costs.cost_rows.Goals as goal
+use Rattle.cost_nodes.proofs.costing.cost_rows.Goals as goal
 
 pub rows-requires : goal.rows-requires
 rows-requires c =

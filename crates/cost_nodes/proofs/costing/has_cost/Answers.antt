@@ -1,6 +1,6 @@
 use Rattle.its_model.specs.Views.{program_of}
-use Rattle.cert_context.proofs.WrittenCosts.{cost-there, cost-written, rule-at}
-use Rattle.cert_context.proofs.costs.has_cost.Goals as goal
+use Rattle.cost_nodes.proofs.WrittenCosts.{cost-there, cost-written, rule-at}
+use Rattle.cost_nodes.proofs.costing.has_cost.Goals as goal
 
 pub returns-then-not-is_rule : goal.returns-then-not-is_rule
 returns-then-not-is_rule c = (

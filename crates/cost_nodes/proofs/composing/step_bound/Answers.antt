@@ -5,8 +5,8 @@ use Rattle.cert_types.proofs.Parts.{part_pushed, parts_whole}
 use Rattle.cert_types.specs.Composing.{optional_poly}
 use Rattle.cert_types.specs.Views.{side_bound_of}
 use Rattle.cert_types.specs.cert_rules.Composed.{sizes_after}
-use Rattle.check_sizes.proofs.CostRows.{no-members}
-use Rattle.check_sizes.proofs.side_bound_costs.step_bound.Goals as goal
+use Rattle.cost_nodes.proofs.ComposedCosts.{no-members}
+use Rattle.cost_nodes.proofs.composing.step_bound.Goals as goal
 
 pub loop-rule-preserved : goal.loop-rule-preserved
 loop-rule-preserved g c =

@@ -1,7 +1,7 @@
 use Rattle.std.proofs.Common.{◌≡◌, ◌++◌, map, drop}
 use Rattle.cert_types.specs.Views.{result_variable_of}
 use Rattle.cert_types.specs.cert_rules.Checks.{result_variables_after}
-use Rattle.check_sizes.proofs.side_bound_costs.push_result_variables.Given as goal
+use Rattle.cost_nodes.proofs.sizes.push_after.Given as goal
 
 -- what is done and what is left is all
 abbrev pub invariant-loop-place : goal.invariant-loop-place
