@@ -1,7 +1,6 @@
 //! Bounds the cost of a rule by the bound on the cost of one step.
 
-ghost use Rattle.std.specs.Prelude.{◌≡◌, ◌∷◌, map, IfOk, None, Some};
-ghost use Rattle.model.specs.Bounds.{Bound};
+ghost use Rattle.std.specs.Prelude.{◌≡◌, ◌∷◌, map, IfOk};
 ghost use Rattle.model.specs.Programs.{Program};
 ghost use Rattle.cert_types.specs.Composing.{IsReadable};
 ghost use Rattle.cert_types.specs.Views.{result_variable_of, side_bound_of};

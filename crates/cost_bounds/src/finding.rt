@@ -5,7 +5,7 @@ ghost use Rattle.its_graph.specs.Graphs.{IsGraphOf};
 ghost use Rattle.its_model.specs.Valid.{IsValid};
 ghost use Rattle.its_model.specs.Views.{program_of};
 ghost use Rattle.model.specs.Costs.{HasCost};
-ghost use Rattle.model.specs.Programs.{Program};
+ghost use Rattle.model.specs.Programs as plain;
 ghost use Rattle.cert_types.specs.Lookups.{optional_bound};
 ghost use Rattle.cost_nodes.specs.CostRules.{IsPreparedCost};
 ghost use Rattle.size_bounds.specs.Tables.{table_of, number_at};
@@ -69,8 +69,8 @@ fn cost_by_rows(
     t: &Table,
     pivots: u32,
 ) -> Result<CostAnswer, Memory>
-    requires { (p : Program) × IsPreparedCost p cost.now }
-    ensures { IfOk result (λ a. (p : Program) → IsPreparedCost p cost.now
+    requires { (p : plain.Program) × IsPreparedCost p cost.now }
+    ensures { IfOk result (λ a. (p : plain.Program) → IsPreparedCost p cost.now
         → IsCostAnswer p pivots (table_of t.now) (number_at t.now) cost.now.rule a) }
 {
     let feasibility = guard_feasibility(alloc, cost.rows, cost.rule, pivots)?;

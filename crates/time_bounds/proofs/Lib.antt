@@ -72,6 +72,7 @@ pub mod TimeNumbers
 pub mod SizeNumbers
 -- the entries of costs, and the numbers of their lemmas
 pub mod CostEntries
+pub mod CostingAnswers
 pub mod CostNumbers
 -- what is found of a program is its analysis
 pub mod ReportEntries

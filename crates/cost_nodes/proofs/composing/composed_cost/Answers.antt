@@ -1,4 +1,4 @@
-use Rattle.std.proofs.Common.{◌∙◌, ap, List, ℕ}
+use Rattle.std.proofs.Common.{◌∙◌, ap}
 use Rattle.std.proofs.lemmas.Result.{IfOk-weaker}
 use Rattle.bound_table.specs.RewriteResult.{rewritten_within}
 use Rattle.model.specs.Bounds.{ProductOf}

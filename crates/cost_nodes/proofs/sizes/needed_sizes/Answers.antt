@@ -4,7 +4,6 @@ use Rattle.cert_types.specs.Composing.{optional_poly}
 use Rattle.cert_types.specs.Reading.{places_read}
 use Rattle.cert_types.specs.Views.{side_bound_of}
 use Rattle.cert_types.specs.cert_program.Setting.{setting_of}
-use Rattle.cert_types.specs.cert_rules.Checks.{needed_at_cost}
 use Rattle.size_nodes.proofs.NeededResultVariables.{few_read}
 use Rattle.cost_nodes.specs.ComposedCosts.{result_variables_after_each}
 use Rattle.cost_nodes.proofs.ComposedCosts.{needed-each}
