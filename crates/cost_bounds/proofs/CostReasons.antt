@@ -16,7 +16,7 @@ use Rattle.its_model.specs.linear_forms.Causes.{cause_of}
 use Rattle.cert_types.specs.cert_program.Setting.{setting_of}
 use Rattle.cert_types.specs.cert_rules.AcceptsCosts.{cost_result_variable}
 use Rattle.cert_types.specs.cert_rules.AcceptsSizes.{Side, Up, Low, left_of}
-use Rattle.cert_types.specs.cert_rules.Checks.{needed_at_cost, result_variables_after}
+use Rattle.cert_types.specs.cert_rules.Checks.{large_nodes, needed_at_cost, result_variables_after}
 use Rattle.cert_types.specs.cert_rules.ComposedSizes.{reads}
 use Rattle.cert_types.specs.cert_rules.Gaps.{ScaledPoint}
 use Rattle.cert_types.specs.cert_rules.Known.{Table}
@@ -34,7 +34,7 @@ use Rattle.local_size.specs.Sides.{LimitPassed}
 use Rattle.local_size.proofs.UnboundedAnswers.{kept-point, none-affine, ray-limits, ray-of_side}
 use Rattle.size_nodes.specs.Needs.{first_missing, this_or}
 use Rattle.cost_bounds.specs.CostOutcomes.{BoundedBy, NotBounded, IsCostOf, FeasibleTo, RunsTo, SizedTo, StepTo, TimedTo}
-use Rattle.cost_bounds.specs.CostOutcomes.{is_zero_time, question, sizes_read}
+use Rattle.cost_bounds.specs.CostOutcomes.{composed_bound, is_zero_time, question, sizes_read}
 use Rattle.cost_bounds.specs.CostReasons.{prepared_cost, ExceedsFirst, HasNoCostBound, IsStepBound, StepExceeds, StepIsUnbounded}
 use Rattle.cost_bounds.specs.Laws.{CostReasonsAreTrue}
 use Rattle.cost_bounds.proofs.CostPrograms.{alone, alone-valid, alone-place, only_place_of}
@@ -117,13 +117,14 @@ module _ (p : Program) (pivots : ℕ) (tab : Table) (t : ℕ) (why : NoSize) (v 
     missing = eq;
   })
   timed e l is sized (Some b) eq (inl (small, k)) = absurd (bounded (SideBoundCost l.up) k)
-  timed e l is sized (Some b) eq (inr (large, k)) = because _ k (record {
-    side_bound = l.up;
-    bound = step-bound e l is;
-    sized = sized;
-    large = large;
-    nodes = refl;
-  })
+  timed e l is sized (Some b) eq (inr (large, k)) =
+      because (SizeLarge (large_nodes (setting_of p).rewrite (composed_bound (question p tab t) l.up))) k (record {
+        side_bound = l.up;
+        bound = step-bound e l is;
+        sized = sized;
+        large = large;
+        nodes = refl;
+      })
 
   sized : (e : GuardFeasibility) (l : LocalBound) → IsStep e (HasBound l) → (o : Option ResultVariable)
       → first_missing tab (sizes_read (question p tab t) l.up) ≡ o

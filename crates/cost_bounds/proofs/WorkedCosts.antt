@@ -1,5 +1,8 @@
 -- What was worked out of costs by hand.
 use Rattle.std.proofs.Common.{◌≡◌, inl, ℕ, false, List, [], ◌∷◌, refl, sym, ◌∙◌, ap, subst}
+use Rattle.bound_table.specs.Below.{below}
+use Rattle.bound_table.specs.InForce.{rewritten}
+use Rattle.bound_table.specs.Rewriting.{simplified, passes_until_same, at_node, parts_passed}
 use Rattle.model.specs.Bounds.{Input}
 use Rattle.model.specs.Facts.{Cost}
 use Rattle.model.specs.WorkedCosts.{paying}
@@ -60,6 +63,7 @@ reasons = record {
     second e = cc
 
 bounds : BoundsAreWorkedOut
+unfolding rewritten simplified passes_until_same at_node parts_passed below
 bounds = record {
   entering = inl (record { before = refl; after = refl }, refl);
   entering_costs = refl;
