@@ -1,5 +1,5 @@
 -- What was worked out of costs by hand.
-use Rattle.std.proofs.Common.{◌≡◌, inl, ℕ, false, List, [], ◌∷◌, refl, sym, ◌∙◌, ap, subst}
+use Rattle.std.proofs.Common.{◌≡◌, inl, ℕ, false, List, [], ◌∷◌, refl, sym, ◌∙◌, ap, subst, arith}
 use Rattle.bound_table.specs.Below.{below}
 use Rattle.bound_table.specs.InForce.{rewritten}
 use Rattle.bound_table.specs.Rewriting.{simplified, passes_until_same, at_node, parts_passed}
@@ -7,7 +7,7 @@ use Rattle.model.specs.Bounds.{Input}
 use Rattle.model.specs.Facts.{Cost}
 use Rattle.model.specs.WorkedCosts.{paying}
 use Rattle.cert_types.specs.cert_program.Setting.{setting_of}
-use Rattle.cert_types.specs.cert_rules.Nodes.{SideBoundCost, NeverCost, Start, Cite, NoProof, AndProof, Charge}
+use Rattle.cert_types.specs.cert_rules.Nodes.{ResultVariable, SideBoundCost, NeverCost, Start, Cite, NoProof, AndProof, Charge}
 use Rattle.cert_types.specs.declared.answer.LimitHit.{LimitHit}
 use Rattle.cert_types.specs.declared.answer.Question.TheVariants as questions
 use Rattle.local_size.specs.LocalAnswers.{Local, HasTripped}
@@ -59,8 +59,13 @@ reasons = record {
     untimed : NotBounded (SizeUntimed 2) ≡ NotBounded (SizeMissing (key 1 2)) → ⊥
     untimed e = cc
 
+    inner : {x y : ResultVariable} → NotBounded (SizeMissing x) ≡ NotBounded (SizeMissing y) → x ≡ y
+    inner e = cc
+
     second : NotBounded (SizeMissing (key 2 2)) ≡ NotBounded (SizeMissing (key 1 2)) → ⊥
-    second e = cc
+    second e =
+        let same : 2 ≡ 1 = ap (λ (k : ResultVariable). k.rule) (inner e) in
+        absurd (omega (arith, same))
 
 bounds : BoundsAreWorkedOut
 unfolding rewritten simplified passes_until_same at_node parts_passed below
