@@ -32,6 +32,7 @@ use Rattle.cert_types.proofs.cert_rules.FirstReasons.{HasSize}
 use Rattle.cert_types.proofs.cert_rules.SizeReasons.{reads-left}
 use Rattle.rank_search.specs.rule_questions.EmptyAnswers.{IsEmptyAnswer, IsEmptyNode}
 use Rattle.local_size.specs.LocalAnswers.{Local, HasBound, IsUnboundedOn, HasTripped, IsLocal}
+use Rattle.outcome.specs.Reports.{NoSize}
 use Rattle.size_nodes.specs.Needs.{first_missing}
 use Rattle.size_nodes.proofs.FirstMissing.{all-known}
 use Rattle.bound_fixpoint.specs.Keys.{has_key, time_key}
@@ -105,16 +106,16 @@ module _ (p : Program) (pivots : ℕ) (tab : Table) (t : ℕ) where
       costs : HasCost p t
       costs = h.costs
 
+      apart : {why : NoSize} → BoundedBy by ≡ NotBounded why → ⊥
+      apart f = cc
+
       IsStep : GuardFeasibility → Local → Type 0
       IsStep e = IsLocal (prepared_cost costs) (cost_result_variable t) pivots e
 
       timed : (e : GuardFeasibility) (l : LocalBound) → IsStep e (HasBound l)
           → first_missing tab (sizes_read (question p tab t) l.up) ≡ None → (o : Option Bound) → tab.time t ≡ o
           → TimedTo (question p tab t) l.up o (BoundedBy by) → Certifies costs by
-      timed e l found sized None eq k = absurd (no k)
-        where
-          no : BoundedBy by ≡ NotBounded _ → ⊥
-          no f = cc
+      timed e l found sized None eq k = absurd (apart k)
       timed e l found sized (Some b) eq (inl (small, k)) =
           same-by costs by (SideBoundCost l.up) k (record {
             feasibility = e;
@@ -125,31 +126,19 @@ module _ (p : Program) (pivots : ℕ) (tab : Table) (t : ℕ) where
             timed = (b, eq);
             small = small;
           })
-      timed e l found sized (Some b) eq (inr (large, k)) = absurd (no k)
-        where
-          no : BoundedBy by ≡ NotBounded _ → ⊥
-          no f = cc
+      timed e l found sized (Some b) eq (inr (large, k)) = absurd (apart k)
 
       sized : (e : GuardFeasibility) (l : LocalBound) → IsStep e (HasBound l) → (o : Option ResultVariable)
           → first_missing tab (sizes_read (question p tab t) l.up) ≡ o
           → SizedTo (question p tab t) l.up o (BoundedBy by) → Certifies costs by
-      sized e l found (Some m) eq k = absurd (no k)
-        where
-          no : BoundedBy by ≡ NotBounded _ → ⊥
-          no f = cc
+      sized e l found (Some m) eq k = absurd (apart k)
       sized e l found None eq k = timed e l found eq (tab.time t) refl k
 
       stepped : (e : GuardFeasibility) (step : Local) → IsStep e step → StepTo (question p tab t) step (BoundedBy by)
           → Certifies costs by
       stepped e (HasBound l) found k = sized e l found (first_missing tab (sizes_read (question p tab t) l.up)) refl k
-      stepped e (IsUnboundedOn side ray kept) found k = absurd (no k)
-        where
-          no : BoundedBy by ≡ NotBounded _ → ⊥
-          no f = cc
-      stepped e (HasTripped x) found k = absurd (no k)
-        where
-          no : BoundedBy by ≡ NotBounded _ → ⊥
-          no f = cc
+      stepped e (IsUnboundedOn side ray kept) found k = absurd (apart k)
+      stepped e (HasTripped x) found k = absurd (apart k)
 
       runs : (e : GuardFeasibility) (v : Bool) → is_zero_time (tab.time t) ≡ v
           → RunsTo (question p tab t) (IsStep e) v (BoundedBy by) → Certifies costs by

@@ -41,7 +41,7 @@ only_place_of = record { rule = 1; place = 1 }
 
 module _ (p : Program) (t : ℕ) (h : HasCost p t) (v : IsValid p) where
   -- the symbol that the rule leaves
-  source : (s : Symbol) × (slice_get p.symbols h.rule.source ≡ Some s)
+  pub source : (s : Symbol) × (slice_get p.symbols h.rule.source ≡ Some s)
   source = element p.symbols h.rule.source (rule-valid p t h.rule v h.numbered).source
 
   -- the program of its cost
