@@ -139,22 +139,36 @@ def after(rule, symbol, now, free):
     for number, atom in enumerate(rule.atoms, 1):
         if not holds(atom, values):
             raise BadStep(f"atom {number}")
-    return [value_of(tree, values) for tree in rule.updates]
+    behind = [value_of(tree, values) for tree in rule.updates]
+    spent(rule, now, free)
+    return behind
+
+
+def spent(rule, now, free):
+    """What a step by a rule costs, from these values."""
+    if rule.cost is None:
+        return 1
+    return max(0, value_of(rule.cost, dict(zip(rule.variables, now + free))))
 
 
 def tally(program, start, steps):
-    """How many steps there are, how often each rule occurs, and the greatest absolute values behind each."""
-    counted = {"steps": len(steps), "total": len(steps)}
+    """How many steps there are, how often each rule occurs, what the steps of each rule with a cost and what all steps
+    cost, each up to 2^127, and the greatest absolute values behind each rule."""
+    counted = {"steps": len(steps), "total": 0}
     for number, rule in enumerate(program.rules, 1):
         counted[f"time {number}"] = 0
+        counted.update({} if rule.cost is None else {f"cost {number}": 0})
         counted.update({f"size {number}.{place}": 0 for place in range(1, len(rule.updates) + 1)})
     symbol, now = program.starts[0].text, start
     for step, (number, free) in enumerate(steps, 1):
         rule = program.rules[number - 1]
         try:
-            now = after(rule, symbol, now, free)
+            behind = after(rule, symbol, now, free)
         except BadStep as error:
             raise BadStep(f"not a run at step {step}: {error}") from None
+        for label in {"total", f"cost {number}"} & set(counted):
+            counted[label] = min(PAST, counted[label] + spent(rule, now, free))
+        now = behind
         symbol = rule.target
         counted[f"time {number}"] += 1
         for place, value in enumerate(now, 1):

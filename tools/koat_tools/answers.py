@@ -9,7 +9,8 @@ NO_BOUND = "MAYBE"
 
 
 def competition(answer):
-    """The answer as the termination competition has it: an upper bound of all steps, or none."""
+    """The answer as the termination competition has it: an upper bound on what all steps cost, or none. A step costs 1
+    where its rule has no cost."""
     total = answer.report.total if answer.report else None
     return NO_BOUND if total is None else growth.competition(growth.growth(total))
 

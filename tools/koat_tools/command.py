@@ -17,8 +17,8 @@ HELP = """Shows what koat says of a program in other forms. It runs koat and cha
 stands beside it (hints, O-classes, values, pictures) is worked out here and isn't proved.
 
   explain FILE        a refusal with line, column and a hint; else each missing bound with its reason in plain words
-  lint FILE           likely slips that koat takes silently: names, dead ends, rules that never occur, large constants,
-                      costs
+  lint FILE           likely slips that koat takes silently: names, dead ends, rules that never occur, costs that are
+                      never over 0, large constants
   json FILE           the whole answer as JSON, also a refusal, as docs/report.schema.json describes it; with --run RUN
                       the counts of that run too, and with --proof PROOF what the checker says of that proof
   class FILE          a first line as the termination competition has it, and the O-class of each bound

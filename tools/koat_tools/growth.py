@@ -1,7 +1,8 @@
 """The O-class of a bound, where all inputs are at most n.
 
 A class is the pair of a height and a degree: height 0 is O(n^degree), height 1 is 2^O(n^degree), height 2 is
-2^2^O(n^degree). Classes compare as pairs. It is derived from koat's bound, and isn't part of what is proved.
+2^2^O(n^degree). Classes compare as pairs. It is derived from koat's bound, and isn't part of what is proved. The class
+of the total is that of what all steps cost together; without costs in the program, of their number.
 """
 
 from . import bounds
@@ -34,7 +35,8 @@ def text(pair):
 
 
 def competition(pair):
-    """The line of the termination competition for a class of all steps; `MAYBE` where it is a tower of powers."""
+    """The line of the termination competition for the class of what all steps cost; `MAYBE` where it is a tower of
+    powers."""
     height, degree = pair
     if height > 1:
         return "MAYBE"

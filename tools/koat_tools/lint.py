@@ -1,5 +1,5 @@
-"""What koat takes without a word and is often a slip: names, dead ends, rules that never occur, large constants; and
-what is good to know, as costs."""
+"""What koat takes without a word and is often a slip: names, dead ends, rules that never occur, costs that are never
+over 0, large constants; and what is good to know."""
 
 from collections import namedtuple
 
@@ -15,7 +15,7 @@ Finding = namedtuple("Finding", "at is_slip text")
 def findings(program, report):
     found = _variables(program) + _symbols(program) + _times(program, report)
     found += _constants(program, report)
-    found += _costs(program) + _ignored(program)
+    found += _costs(program, report) + _ignored(program)
     return sorted(found, key=lambda it: (it.at, it.text))
 
 
@@ -97,9 +97,15 @@ def _times(program, report):
     return found
 
 
-def _costs(program):
-    return [Finding(rule.at, False, f"rule {rule.number} costs `{rule.cost}`: koat counts steps, and doesn't look at "
-                    "costs yet") for rule in program.rules if rule.cost is not None]
+def _costs(program, report):
+    """Costs of rules that may occur which are never over 0, though they aren't written as 0."""
+    times, found = {it.rule: it.text for it in report.times}, []
+    for entry in report.costs:
+        rule = program.rule(entry.rule)
+        if entry.text == "0" and times[entry.rule] != "0" and rule.cost.strip() != "0":
+            found.append(Finding(rule.at, True, f"rule {entry.rule} costs `{rule.cost.strip()}`, which is never over 0: "
+                                 "its steps cost nothing"))
+    return found
 
 
 def _constants(program, report):

@@ -94,7 +94,8 @@ function showStep(count) {
     row.querySelector(".uses").textContent = found.get(at + 1) ?? 0;
     row.classList.toggle("now", at + 1 === rule);
   });
-  document.querySelector("#step-total .uses").textContent = count;
+  const spent = run.costs ? run.costs.slice(0, count).reduce((sum, cost) => sum + BigInt(cost), 0n) : BigInt(count);
+  document.querySelector("#step-total .uses").textContent = written(spent);
   for (const one of document.querySelectorAll(".picture .now")) one.classList.remove("now");
   if (rule !== null) document.getElementById(`edge-${rule}`)?.classList.add("now");
   for (const node of document.querySelectorAll(".picture .node")) {

@@ -37,7 +37,7 @@ def page(answer, beside=None):
         "title": html.escape(os.path.basename(answer.name)), "verdict": report.verdict,
         "style": _file("page.css"), "script": _file("page.js"), "said": _said(report), "about": _about(answer.data),
         "total": _table(replay, "all steps together",
-                        [_bound_row(replay, "all rules", "total", report.total_text, report.total)]),
+                        [_bound_row(replay, _all(report), "total", report.total_text, report.total)]),
         "inputs": _inputs(program, run.start), "counted": _counted(replay), "picture": _picture(beside.drawn),
         "rules": "\n".join(_rule(rule, answer, beside) for rule in program.rules), "facts": _facts(program, report),
         "missing": _missing(report, program), "report": html.escape(report.text), "run": _run(program, report, run),
@@ -54,9 +54,19 @@ def _file(name):
 def _said(report):
     if report.verdict == "bounded":
         return "Every rule has a bound: every run ends."
-    missing = sum(it.text is None for it in report.times)
-    has = "has" if missing == 1 else "have"
-    return f"{missing} of {len(report.times)} rules {has} no bound. Of what is missing nothing is claimed."
+    told = [_lacking(report.times, "rule")] if any(it.text is None for it in report.times) else []
+    told += [_lacking(report.costs, "cost")] if any(it.text is None for it in report.costs) else []
+    return " ".join(told) + " Of what is missing nothing is claimed."
+
+
+def _lacking(entries, word):
+    missing = sum(it.text is None for it in entries)
+    return f"{missing} of {_count(len(entries), word)} {'has' if missing == 1 else 'have'} no bound."
+
+
+def _all(report):
+    """What the total is of: where no rule has a cost, each step costs 1."""
+    return "what all rules cost" if report.costs else "all rules"
 
 
 def comments(data):
@@ -99,8 +109,9 @@ def _counted(replay):
     """What the numbers of a run are."""
     if replay is None:
         return ""
-    return ('<p class="help">"in the run": of the run that was replayed, how often the rule occurs, how many steps '
-            "there are, and the greatest absolute value of the argument after the rule.</p>")
+    return ('<p class="help">"in the run": of the run that was replayed, how often the rule occurs, what its steps cost, '
+            "what all steps cost (1 each, where the program has no costs), and the greatest absolute value of the argument "
+            "after the rule.</p>")
 
 
 def _picture(drawn):
@@ -132,7 +143,7 @@ def _table(replay, caption, rows):
 
 def _bound_row(replay, label, key, text, bound, why=None):
     """A row of a bound; `label` is HTML."""
-    told = "" if replay is None else f'<td class="counted" data-head="in the run">{replay.beside[key][0]:,}</td>'
+    told = "" if replay is None else f'<td class="counted" data-head="in the run">{_number(replay.beside[key][0])}</td>'
     if bound is None:
         known = f'<a href="#{why}">unknown</a>' if why else "unknown"
         return (f'<tr class="unknown" data-label="{key}"><th scope="row">{label}</th>'
@@ -144,8 +155,12 @@ def _bound_row(replay, label, key, text, bound, why=None):
             f'<td class="growth" data-head="class">{growth.text(growth.growth(bound))}</td>{told}</tr>')
 
 
+def _number(counted):
+    return counted if isinstance(counted, str) else f"{counted:,}"
+
+
 def _rule(rule, answer, beside):
-    """A rule with its bounds: its time, its sizes, which may be folded, and what shows them."""
+    """A rule with its bounds: its time, its cost, its sizes, which may be folded, and what shows them."""
     report, replay = answer.report, beside.replay
     time = report.times[rule.number - 1]
     kind = "missing" if time.text is None else "never" if time.text == "0" else "known"
@@ -158,13 +173,14 @@ def _rule(rule, answer, beside):
     is_open = "" if len(report.sizes) > MANY_SIZES else " open"
     folded = (f"<details{is_open}><summary>{_count(len(rows), 'value')} after it</summary>"
               + _table(replay, f"values after rule {rule.number}", rows) + "</details>")
-    labels = [("how often", time.label)]
+    own = [("how often", time)] + [("what its steps cost", it) for it in report.costs if it.rule == rule.number]
+    labels = [(what, it.label) for what, it in own]
     labels += [(f"{name} after rule {rule.number}", it.label) for name, it in zip(names, sizes)]
     shown = "".join(_why_known(what, beside.whys.get(label)) for what, label in labels)
     return (f'<article class="rule {kind}" id="rule-{rule.number}" tabindex="-1"><h3>Rule {rule.number}</h3>'
             f"<pre>{html.escape(text)}</pre>"
             + _table(replay, f"how often rule {rule.number} is used",
-                     [_bound_row(replay, "how often", time.label, time.text, time.bound, _anchor(time))])
+                     [_bound_row(replay, what, it.label, it.text, it.bound, _anchor(it)) for what, it in own])
             + (folded if rows else "")
             + (f'<details class="whys"><summary>why</summary>{shown}</details>' if shown else "")
             + "</article>")
@@ -192,8 +208,8 @@ def _missing(report, program):
 
 def _why(entry, report, program):
     told = reasons.words(report, entry, program)
-    of_time, of_size = f"time of rule {entry.rule}", f"size of argument {entry.place} after rule {entry.rule}"
-    what = of_time if entry.place is None else of_size
+    what = f"size of argument {entry.place} after rule {entry.rule}" if entry.kind == "size" else \
+        f"{entry.kind} of rule {entry.rule}"
     rest = "".join(f"<li>{html.escape(it)}</li>" for it in told[1:])
     return (f'<article class="why" id="{_anchor(entry)}"><h3>The {what}</h3>'
             f"<p>{html.escape(told[0])}</p>" + (f"<ul>{rest}</ul>" if rest else "") + "</article>")
@@ -215,8 +231,9 @@ def _run(program, report, run):
         "steps": [[rule, symbol, [str(it) for it in values]] for rule, symbol, values in steps],
         "trees": [None if it.bound is None else bounds.as_json(it.bound) for it in report.times],
         "total": None if report.total is None else bounds.as_json(report.total),
+        **({"costs": [str(it) for it in runs.costs(program, run, MOST_STEPS)]} if report.costs else {}),
     }
     rows = "".join(f'<tr id="step-rule-{it.rule}"><th scope="row"><a href="#rule-{it.rule}">rule {it.rule}</a></th>'
                    '<td class="uses" data-head="so far">0</td><td class="most" data-head="at most"></td></tr>'
                    for it in report.times)
-    return _file("run.html").replace("{{rows}}", rows).replace("{{data}}", json.dumps(told).replace("<", "\\u003c"))
+    return _file("run.html").replace("{{rows}}", rows).replace("{{all}}", _all(report)).replace("{{data}}", json.dumps(told).replace("<", "\\u003c"))

@@ -282,7 +282,10 @@ def symbol_arities(program):
     return found
 
 
-def unknowns(rule, count):
-    """Names for the numbers of a point: left arguments, free variables, then new values of degree 2 or more."""
+def unknowns(rule, count, is_of_cost=False):
+    """Names for the numbers of a point: left arguments, free variables, then new values of degree 2 or more. A point that
+    is about a rule's cost has the cost in place of new values."""
     names = rule.left_names + [it.text for it in rule.free]
+    if is_of_cost:
+        return (names + ["the cost"])[:count]
     return names + [f"new value {number}" for number in range(1, count - len(names) + 1)]

@@ -6,6 +6,7 @@ QUESTIONS = {
     "rank": "the search for a ranking function of rule {rule}",
     "empty": "the test whether rule {rule} can be used at all",
     "local": "the search for how large argument {place} can become by rule {rule}",
+    "cost": "the search for how much a step by rule {rule} can cost",
 }
 
 LIMITS = {
@@ -36,9 +37,9 @@ def _argument(rule, place):
     return f"argument {place} after rule {rule}"
 
 
-def point(one, rule):
+def point(one, rule, is_of_cost=False):
     """A point as values of the rule's variables, or as the way that they go where it is a direction."""
-    names = programs.unknowns(rule, len(one.parts))
+    names = programs.unknowns(rule, len(one.parts), is_of_cost)
     if one.denominator == 0:
         told = [f"{name} {part:+d}" for name, part in zip(names, one.parts) if part]
         return ", ".join(told) if told else "nothing changes"
@@ -130,9 +131,11 @@ def _loose(report, entry, program):
     rule, facts = program.rule(entry.rule), entry.why.facts
     side = "upwards" if facts["side"] == "up" else "downwards"
     free = [it.text for it in rule.free]
-    told = [f"No affine function of the arguments of rule {entry.rule} limits the new value of "
-            f"{_argument(entry.rule, entry.place)} {side}, where one of degree 2 or more is taken as any number."]
-    told.append(f"From {point(facts['kept'], rule)} it goes without end along {point(facts['ray'], rule)}.")
+    what = "the cost of a step" if entry.kind == "cost" else f"the new value of {_argument(entry.rule, entry.place)}"
+    told = [f"No affine function of the arguments of rule {entry.rule} limits {what} {side}, where one of degree 2 or more "
+            "is taken as any number."]
+    kept, ray = (point(facts[it], rule, entry.kind == "cost") for it in ("kept", "ray"))
+    told.append(f"From {kept} it goes without end along {ray}.")
     if free:
         told.append(f"Free here, so any integer: {', '.join(free)}. Limit it in the guard by arguments of the left.")
     return told
@@ -150,8 +153,8 @@ def _bent(report, entry, program):
 
 
 def _untimed(report, entry, program):
-    return [f"Its bound is computed from how often rule {entry.why.facts['rule']} is used, and that rule has no time "
-            "bound. The value itself need not grow."]
+    told = f"Its bound is computed from how often rule {entry.why.facts['rule']} is used, and that rule has no time bound."
+    return [told + ("" if entry.kind == "cost" else " The value itself need not grow.")]
 
 
 WORDS = {"no ranking function": _gap, "limit": _limit, "large": _large, "loose": _loose, "missing": _missing,

@@ -1,14 +1,15 @@
 """The report of `koat analyse` or `koat facts`, read from its text. This is the one place where its grammar stands.
 
-    report = fact* verdict time+ total size* why*
+    report = fact* verdict time+ cost* total size* why*
     fact    = "fact " NAME ": " ("x" I | "-x" I | "x" I " - x" I) " >= " ("-1" | "0" | "1") LF
     verdict = "bounded" LF | "unknown" LF
     time    = "time " R ": " (bound | "unknown") LF
+    cost    = "cost " R ": " (bound | "unknown") LF
     total   = "total: " (bound | "unknown") LF
     size    = "size " R "." I ": " (bound | "unknown") LF
-    why     = "why time " R ": " reason | "why size " R "." I ": " reason
+    why     = ("why time " R | "why cost " R | "why size " R "." I) ": " reason
     reason  = "no affine ranking function over rules " R (", " R)* LF gap
-            | ("rank " R | "empty " R | "local " R "." I) " " limit LF
+            | ("rank " R | "empty " R | "local " R "." I | "cost " R) " " limit LF
             | "large " N " nodes" LF
             | ("loose up" | "loose low") LF "  ray: " point LF "  kept: " point " / " D LF
             | ("missing " | "bent ") R "." I LF
@@ -18,7 +19,9 @@
               ("  kept " R ": " point " / " D LF)+
     point   = "(" [ Z (", " Z)* ] ")"
 
-The reasons are those of the bounds that are missing, in order; an `unknown` without a reason is an input of that name.
+A rule with a cost has a line `cost`, and no other has one. The reasons are those of the bounds that are missing, in
+order; an `unknown` without a reason is an input of that name. The verdict is `unknown` where a time or a cost is missing;
+the total is missing exactly where the time of a rule without a cost is, or some cost.
 R is the number of a rule, from 1; I of a place of the rule's target, from 1; Z a whole number; D a denominator, which
 is 0 for a direction. `bounds` has the grammar of a bound.
 """
@@ -61,8 +64,10 @@ class Reason:
 
 @dataclass
 class Entry:
-    """The bound of a rule, or of a place after a rule; or why there is none."""
+    """The bound on how often a rule occurs, on what its steps cost together, or on the value at a place after it; or why
+    there is none."""
 
+    kind: str
     rule: int
     place: Optional[int]
     text: Optional[str]
@@ -71,13 +76,14 @@ class Entry:
 
     @property
     def label(self):
-        return f"time {self.rule}" if self.place is None else f"size {self.rule}.{self.place}"
+        return f"{self.kind} {self.rule}" + ("" if self.place is None else f".{self.place}")
 
 
 @dataclass
 class Report:
     verdict: str
     times: List[Entry]
+    costs: List[Entry]
     total_text: Optional[str]
     total: object
     sizes: List[Entry]
@@ -85,11 +91,11 @@ class Report:
     facts: List[str] = field(default_factory=list)
 
     def entries(self):
-        return self.times + self.sizes
+        return self.times + self.costs + self.sizes
 
     def labelled(self):
         """Each bound with its label, in the report's order; a bound that is missing is None."""
-        told = [(it.label, it.text, it.bound) for it in self.times]
+        told = [(it.label, it.text, it.bound) for it in self.times + self.costs]
         return told + [("total", self.total_text, self.total)] + [(it.label, it.text, it.bound) for it in self.sizes]
 
 
@@ -140,18 +146,21 @@ def read(text):
     lines = _Lines(text)
     facts = [it.group(1) for it in lines.all(FACT)]
     verdict = lines.needed("(bounded|unknown)").group(1)
-    times = [_entry(it.group(1), None, it.group(2)) for it in lines.all(f"time {NUMBER}: (.*)")]
+    times = [_entry("time", *it.groups()) for it in lines.all(f"time {NUMBER}(): (.*)")]
+    costs = [_entry("cost", *it.groups()) for it in lines.all(f"cost {NUMBER}(): (.*)")]
     total = lines.needed("total: (.*)").group(1)
-    sizes = [_entry(it.group(1), it.group(2), it.group(3)) for it in lines.all(rf"size {NUMBER}\.{NUMBER}: (.*)")]
-    for entry in times + sizes:
+    sizes = [_entry("size", *it.groups()) for it in lines.all(rf"size {NUMBER}\.{NUMBER}: (.*)")]
+    for entry in times + costs + sizes:
         if entry.text == UNKNOWN:
             _with_reason(entry, lines)
     if lines.at < len(lines.lines):
         raise ReportError(f"line {lines.at + 1} of the report isn't one that is known")
-    missing = any(it.why for it in times)
-    if missing != (verdict == "unknown") or missing and total != UNKNOWN:
-        raise ReportError("the verdict, the times and the total don't fit")
-    return Report(verdict, times, None if missing else total, None if missing else _bound(total), sizes, text, facts)
+    costed = {it.rule for it in costs}
+    missing = any(it.why for it in costs) or any(it.why and it.rule not in costed for it in times)
+    if any(it.why for it in times + costs) != (verdict == "unknown") or missing and total != UNKNOWN:
+        raise ReportError("the verdict, the times, the costs and the total don't fit")
+    total, bound = (None, None) if missing else (total, _bound(total))
+    return Report(verdict, times, costs, total, bound, sizes, text, facts)
 
 
 # An input may have this name too, and be a bound: a bound is missing only where its reason follows.
@@ -172,8 +181,8 @@ def _bound(text):
         raise ReportError(str(fault)) from fault
 
 
-def _entry(rule, place, text):
-    return Entry(int(rule), None if place is None else int(place), text, _bound(text))
+def _entry(kind, rule, place, text):
+    return Entry(kind, int(rule), int(place) if place else None, text, _bound(text))
 
 
 def _point(parts, denominator, rule=None):
@@ -230,7 +239,7 @@ def _place(match, _):
 LIMIT = f"(range at pivot [0-9]+|budget after [0-9]+ pivots|wide [0-9]+ entries|scale)"
 REASONS = [
     (r"no affine ranking function over rules ([0-9]+(?:, [0-9]+)*)", _gap),
-    (rf"(rank|empty|local) {NUMBER}(?:\.{NUMBER})? {LIMIT}", _limit),
+    (rf"(rank|empty|local|cost) {NUMBER}(?:\.{NUMBER})? {LIMIT}", _limit),
     (f"large {NUMBER} nodes", lambda match, _: ("large", {"nodes": int(match.group(1))})),
     ("loose (up|low)", _loose),
     (rf"(missing|bent) {NUMBER}\.{NUMBER}", _place),
@@ -245,6 +254,7 @@ def as_json(report):
         **told,
         "verdict": report.verdict,
         "times": [_entry_json(it) for it in report.times],
+        "costs": [_entry_json(it) for it in report.costs],
         "total": _bound_json(report.total_text, report.total),
         "sizes": [_entry_json(it) for it in report.sizes],
     }

@@ -7,7 +7,7 @@ took: at each one a rule that leaves the symbol and whose guard holds, with free
 import random
 import re
 from dataclasses import dataclass, field
-from typing import Dict, List, Tuple
+from typing import Dict, List, Tuple, Union
 
 from . import programs
 
@@ -62,6 +62,15 @@ def states(program, run, most):
     return found
 
 
+def costs(program, run, most):
+    """What each step of a run costs, all steps being possible: 1 where no cost is written, and 0 where it is negative."""
+    rules, values, found = {it.number: it for it in map(_Rule, program.rules)}, list(run.start), []
+    for number, free in run.steps[:most]:
+        found.append(rules[number].spent(values, free))
+        values = rules[number].after(values, free)
+    return found
+
+
 def run_of(data):
     """The run of a run file that koat took."""
     lines = [it.split() for it in data.decode("latin-1").splitlines()]
@@ -91,21 +100,30 @@ def _drawn(draws, values):
 
 
 class _Rule:
-    """A rule of which guard and updates can be computed."""
+    """A rule of which guard, updates and cost can be computed."""
 
     def __init__(self, rule):
         self.number, self.source, self.target = rule.number, rule.source.text, rule.target.text
         self.names, self.free = rule.left_names, [it.text for it in rule.free]
         self.guard = _computed(rule.guard or "TRUE")
         self.updates = [_computed(it) for it in rule.updates]
+        self.cost = None if rule.cost is None else _computed(rule.cost)
+
+    def spent(self, values, free):
+        """What a use of the rule costs."""
+        if self.cost is None:
+            return 1
+        return max(0, int(_value(self.cost, dict(zip(self.names + self.free, values + free)))))
 
     def after(self, values, free):
-        """The values behind the rule, or none where its guard doesn't hold or a value would become too large."""
+        """The values behind the rule, or none where its guard doesn't hold, or a value or the cost would become too
+        large."""
         given = dict(zip(self.names + self.free, values + free))
         try:
             if not _value(self.guard, given):
                 return None
             after = [int(_value(update, given)) for update in self.updates]
+            self.spent(values, free)
         except OverflowError:
             return None
         return after if all(abs(it) <= WIDEST for it in after) else None
@@ -171,13 +189,15 @@ class ReplayError(ValueError):
 
 @dataclass
 class Replay:
-    """What `koat replay` writes: of each label of a bound the number of the run, and the bound's value beside it."""
+    """What `koat replay` writes: of each label of a bound the number of the run, or the words of one that is too large to
+    be told, and the bound's value beside it."""
 
     steps: int
-    beside: Dict[str, Tuple[int, str]]
+    beside: Dict[str, Tuple[Union[int, str], str]]
 
 
-LINE = re.compile(r"(time [0-9]+|total|size [0-9]+\.[0-9]+): ([0-9]+) of ([0-9]+|unknown|2\^127 or more)")
+LINE = re.compile(r"(time [0-9]+|cost [0-9]+|total|size [0-9]+\.[0-9]+): ([0-9]+|2\^127 or more) of "
+                  r"([0-9]+|unknown|2\^127 or more)")
 
 
 def read(said, labels):
@@ -189,4 +209,8 @@ def read(said, labels):
         raise ReplayError("no lines of a replay")
     if [it.group(1) for it in found] != labels:
         raise ReplayError("no line for each bound, in order")
-    return Replay(int(first.group(1)), {it.group(1): (int(it.group(2)), it.group(3)) for it in found})
+    return Replay(int(first.group(1)), {it.group(1): (_counted(it.group(2)), it.group(3)) for it in found})
+
+
+def _counted(written):
+    return int(written) if written.isdigit() else written

@@ -20,8 +20,8 @@ def outcome(told):
 
 
 def reason(told):
-    """Why the first rule without a time has none."""
-    why = next(it["why"] for it in told["times"] if "why" in it)
+    """Why the first rule without a time has none, or the first cost without a bound."""
+    why = next(it["why"] for it in told["times"] + told.get("costs", []) if "why" in it)
     if why["kind"] == "limit":
         return f"limit: {why['limit']}"
     return REASONS.get(why["kind"], why["kind"])
@@ -74,7 +74,7 @@ def page(all_told, with_pages=()):
 <table>
 <caption>Each file</caption>
 <thead><tr><th scope="col">File</th><th scope="col">Answer</th><th scope="col">Class or reason</th>
-<th scope="col">Bound of all steps</th><th scope="col">Seconds</th></tr></thead>
+<th scope="col">Total</th><th scope="col">Seconds</th></tr></thead>
 <tbody>
 {rows}
 </tbody>

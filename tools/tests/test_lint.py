@@ -36,13 +36,6 @@ class Lint(unittest.TestCase):
         self.assertEqual(texts("(VAR Count count)" + HEAD + "start(Count) -> start(count))"), [
             (True, "rule 1: `count` isn't on the left, so it is any integer; is `Count` meant?")])
 
-    def test_costs_are_not_looked_at(self):
-        self.assertEqual(texts(HEAD + "start(A) -{ A^2 }> Com_1(stop(A)) :|: A > 0)"), [
-            (False, "rule 1 costs `A^2`: koat counts steps, and doesn't look at costs yet"),
-            (False, "no rule leaves `stop`: runs end there")])
-        self.assertEqual(texts("(VAR C)" + HEAD + "start(A) -{C}> start(A))"), [
-            (False, "rule 1 costs `C`: koat counts steps, and doesn't look at costs yet")])
-
     def test_dead_ends(self):
         text = HEAD + "start(A) -> loop(A) loop(A) -> lop(A) loop(A) -> stop(A))"
         self.assertEqual(texts(text), [(True, "no rule leaves `lop`: runs end there; is `loop` meant?"),

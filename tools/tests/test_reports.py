@@ -103,7 +103,9 @@ class Programs(unittest.TestCase):
                 program = programs.read(file.read())
             report = reports.read(examples.text(name))
             places = [(rule.number, place + 1) for rule in program.rules for place in range(len(rule.updates))]
-            if len(program.rules) != len(report.times) or places != [(it.rule, it.place) for it in report.sizes]:
+            costed = [rule.number for rule in program.rules if rule.cost is not None]
+            if len(program.rules) != len(report.times) or places != [(it.rule, it.place) for it in report.sizes] or (
+                    costed != [it.rule for it in report.costs]):
                 differ.append(name)
         self.assertEqual(differ, [])
 

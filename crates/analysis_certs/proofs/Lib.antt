@@ -4,8 +4,6 @@ mod RulePlaces
 mod NodesWithin
 mod LemmasWithin
 mod GapsWithin
--- rounds find few bounds
-mod FewDerivations
 -- shut places of gaps
 mod ShutPlaces
 -- the law

@@ -52,7 +52,7 @@ forms-all p (f ∷ fs) h k =
 
 module _ (s : Setting) where
   -- an arm
-  side_bound-within : (t left : ℕ) (a : SideBound) → HasSideBoundShape s t left a → IsSideBoundWithin a
+  pub side_bound-within : (t left : ℕ) (a : SideBound) → HasSideBoundShape s t left a → IsSideBoundWithin a
   side_bound-within t left (Linear den form multipliers) h = (h.den_limit, h.limit, h.one_each.limit)
   side_bound-within t left Poly h = tt
 

@@ -1,10 +1,10 @@
 -- The proof file of what an analysis of a valid program found is accepted, and within the limits.
-use Rattle.std.proofs.Common.{◌≡◌, ℕ, ◌≤◌, List, [], ◌∷◌, length, map, sym, ap, subst, arith, All}
-use Rattle.std.proofs.lemmas.List.{length-map}
+use Rattle.std.proofs.Common.{◌≡◌, ℕ, ◌≤◌, List, [], ◌∷◌, length, map, sym, ap, ◌∙◌, subst, arith, All}
+use Rattle.std.proofs.lemmas.List.{length-append, length-map}
 use Rattle.std.proofs.lemmas.List.Elements.{All-nil, All-cons, All-head, All-tail, All-map}
 use Rattle.its_model.specs.Valid.{IsValid}
 use Rattle.model.specs.Programs.{Program}
-use Rattle.outcome.specs.Views.{time_of}
+use Rattle.outcome.specs.Views.{report_of, time_of}
 use Rattle.outcome.specs.declared.outcome_of.Outcome.{Outcome}
 use Rattle.cert_types.specs.AnswerViews.{gap_of}
 use Rattle.cert_types.specs.Views.{proof_of}
@@ -15,15 +15,17 @@ use Rattle.cert_types.specs.cert_rules.GapChecks.{GapHolds}
 use Rattle.cert_types.specs.cert_rules.Nodes.{Proof}
 use Rattle.cert_types.specs.cert_program.RankedSets.{forms_at}
 use Rattle.cert_types.specs.cert_program.Setting.{setting_of}
-use Rattle.bound_fixpoint.specs.Derivations.{Derivation, number_in}
+use Rattle.bound_fixpoint.specs.Derivations.{bounds_of, number_in}
 use Rattle.bound_fixpoint.specs.Needs.{lemma_by, lemmas_of}
 use Rattle.cert_text.specs.OverFirst.{IsOverFirst}
 use Rattle.cert_text.specs.Spelled.{AreLemmasWithin, IsGapWithin, IsFileWithin}
 use Rattle.time_bounds.specs.ProgramSearches.{searches_of_program}
+use Rattle.cost_bounds.specs.CostLemmas.{cost_lemma, cost_lemmas}
+use Rattle.time_bounds.proofs.CostNumbers.{certified_few}
 use Rattle.time_bounds.proofs.OneProgram.{program_searches_one}
 use Rattle.time_bounds.proofs.RightSizings.{program_searches_right}
 use Rattle.analysis_certs.specs.ProvedFiles.{IsOutcomeOf, file_of_outcome, ProvedFilesAreAccepted}
-use Rattle.analysis_certs.proofs.FewDerivations.{made-few}
+use Rattle.bound_derivations.proofs.FewDerivations.{made-few}
 use Rattle.analysis_certs.proofs.GapsWithin.{gap-within}
 use Rattle.analysis_certs.proofs.LemmasWithin.{lemmas-within, lemmas-over_first}
 use Rattle.analysis_certs.proofs.ShutPlaces.{HasItsPlaces, named-places, all-numbered, gaps-few}
@@ -51,7 +53,7 @@ module _ (p : Program) (pivots : ℕ) (o : Outcome) (valid : IsValid p) (h : IsO
   lemmas : AreLemmasWithin p 0 (map proof_of o.lemmas.items)
   lemmas =
       subst (AreLemmasWithin p 0) (sym h.lemmas.lemmas)
-      (lemmas-within (setting_of p) valid h.lemmas.derivations
+      (lemmas-within (setting_of p) valid h.lemmas.derivations h.lemmas.certified
       (subst (AcceptsLemmas (setting_of p)) h.lemmas.lemmas h.lemmas.accepted))
 
   -- there are few
@@ -59,10 +61,13 @@ module _ (p : Program) (pivots : ℕ) (o : Outcome) (valid : IsValid p) (h : IsO
   few =
       let derivations = made-few (searches_of_program p pivots) (setting_of p) valid (program_searches_right.each p pivots valid)
       (program_searches_one.each p pivots) h.lemmas.derivations h.lemmas.last.made in
-      let same : length (map proof_of o.lemmas.items) ≡ length (lemmas_of h.lemmas.derivations) =
-      ap (λ (xs : List Proof). length xs) h.lemmas.lemmas in
+      let same = ap (λ (xs : List Proof). length xs) h.lemmas.lemmas
+      ∙ length-append (lemmas_of h.lemmas.derivations) (cost_lemmas (setting_of p) (number_in h.lemmas.derivations) h.lemmas.certified) in
       let long = length-map h.lemmas.derivations (λ f. lemma_by (number_in h.lemmas.derivations) f.node f.premises) in
-      omega (arith, derivations, same, long)
+      let costs = length-map h.lemmas.certified (cost_lemma (setting_of p) (number_in h.lemmas.derivations)) in
+      let certified = certified_few p pivots (bounds_of p h.lemmas.derivations) 1 (report_of o).costs h.lemmas.certified
+      h.lemmas.are_certified in
+      omega (arith, derivations, same, long, costs, certified, h.found.cost_each, valid.few_rules)
 
   -- the gaps
   gaps : All (IsGapWithin p) (map gap_of o.gaps.items)
@@ -95,5 +100,5 @@ proved-accepted = record {
   within = λ p pivots o valid h. whole p pivots o valid h;
   over_first = λ p pivots o valid h.
       each-proof (IsOverFirst (length p.start_names)) o.lemmas.items
-      (subst (All (IsOverFirst (length p.start_names))) (sym h.lemmas.lemmas) (lemmas-over_first (length p.start_names) h.lemmas.derivations));
+      (subst (All (IsOverFirst (length p.start_names))) (sym h.lemmas.lemmas) (lemmas-over_first (length p.start_names) (setting_of p) h.lemmas.derivations h.lemmas.certified));
 }

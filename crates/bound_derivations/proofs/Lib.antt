@@ -14,3 +14,5 @@ pub mod StartIndex
 pub mod TablesByKey
 -- worked values
 pub mod WorkedValues
+-- rounds find few bounds
+pub mod FewDerivations

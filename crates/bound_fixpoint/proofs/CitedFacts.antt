@@ -25,7 +25,7 @@ is_other n h = go (eqb_tells n 0)
     go (inr (t, e)) = ap not t
 
 -- and a number that passes it isn't 0
-other_is : (n : ℕ) → not (n == 0) ≡ true → n ≢ 0
+pub other_is : (n : ℕ) → not (n == 0) ≡ true → n ≢ 0
 other_is n h e = no_is_not_yes (not (n == 0)) (ap not (subst (λ (m : ℕ). (m == 0) ≡ true) (sym e) refl)) h
 
 -- an element is in a list of which each number is taken once

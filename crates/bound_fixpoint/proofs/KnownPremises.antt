@@ -100,7 +100,7 @@ module _ (b : Bounds) where
         first = or_left (e == e) (is_in e es) (same_number e)
 
   -- these places have sizes
-  sizes_known : (keys : List ResultVariable) → AllByRecursion (HasSize (over b)) keys → All IsKnownAt keys
+  pub sizes_known : (keys : List ResultVariable) → AllByRecursion (HasSize (over b)) keys → All IsKnownAt keys
   sizes_known [] h = All-nil IsKnownAt
   sizes_known (k ∷ keys) h = All-cons IsKnownAt k keys (size_known b k.rule k.place h.0) (sizes_known keys h.1)
 

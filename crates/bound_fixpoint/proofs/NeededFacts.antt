@@ -27,21 +27,22 @@ module _ (s : Setting) (past : List (List Fact)) (number : ℕ → ℕ → ℕ) 
   abbrev number_of : ResultVariable → ℕ
   number_of k = number k.rule k.place
 
-  -- all that is cited is accepted
-  pub premises_accepted : AllAccepted s past (uses_for number premises)
-  premises_accepted = uses-accepted s past (map number_of premises) numbered
+  -- the number of each needed bound is that of an earlier lemma, unless it is one of the virtual entry
+  pub premises_numbered : (n : ℕ) → is_in n (map number_of premises) ≡ true → n ≢ 0 → IsNumbered past n
+  premises_numbered n m other =
+      let k = map-contains number_of n premises (contains-is_in (map number_of premises) n m) in
+      let here = contained-all (λ x. IsKnown (at_key b x)) premises k.0 known k.1 in
+      subst (λ (x : ℕ). IsNumbered past x) k.2
+      (at k.0 here.0 (λ z. other (sym k.2 ∙ z)) (say.stated k.0.rule k.0.place here.0 here.1))
     where
       at : (k : ResultVariable) (c : Bound) → number_of k ≢ 0 → IsStatedBy s past number k.rule k.place c
           → IsNumbered past (number_of k)
       at k c other (inl first) = absurd (other first.0)
       at k c other (inr there) = stating_numbered past (number_of k) (place_fact k.rule k.place c) there
 
-      numbered : (n : ℕ) → is_in n (map number_of premises) ≡ true → n ≢ 0 → IsNumbered past n
-      numbered n m other =
-          let k = map-contains number_of n premises (contains-is_in (map number_of premises) n m) in
-          let here = contained-all (λ x. IsKnown (at_key b x)) premises k.0 known k.1 in
-          subst (λ (x : ℕ). IsNumbered past x) k.2
-          (at k.0 here.0 (λ z. other (sym k.2 ∙ z)) (say.stated k.0.rule k.0.place here.0 here.1))
+  -- all that is cited is accepted
+  pub premises_accepted : AllAccepted s past (uses_for number premises)
+  premises_accepted = uses-accepted s past (map number_of premises) premises_numbered
 
   -- all that is cited states bounds that are known
   joined_of : AreFactsOf all (joined_facts s past (uses_for number premises))

@@ -63,7 +63,7 @@ rest-same form den left_out f g h =
     (place_parts-same form.coefs den left_out f g h)
 
 -- an arm with the same bounds where it reads
-side_bound-same : (o : Option Polynomial) (side_bound : SideBound) (f g : ℕ → Bound) → ((j : ℕ) → reads o side_bound j ≡ true → f j ≡ g j)
+pub side_bound-same : (o : Option Polynomial) (side_bound : SideBound) (f g : ℕ → Bound) → ((j : ℕ) → reads o side_bound j ≡ true → f j ≡ g j)
     → composed_side_bound o side_bound f ≡ composed_side_bound o side_bound g
 side_bound-same o (Linear den form ms) f g h =
     rest-same form den no_place f g (λ j n out. h j (not_zero_told (at form.coefs j) n))
@@ -94,7 +94,7 @@ each_listed all (x ∷ xs) h = (
 )
 
 -- sizes that are known are so in a table with the same ones
-still_known : (a b : Table) (xs : List ResultVariable) → AllByRecursion (HasSize a) xs
+pub still_known : (a b : Table) (xs : List ResultVariable) → AllByRecursion (HasSize a) xs
     → ((t i : ℕ) → has_key xs t i ≡ true → b.size t i ≡ a.size t i) → AllByRecursion (HasSize b) xs
 still_known a b [] h k = tt
 still_known a b (x ∷ xs) h k = (

@@ -54,14 +54,6 @@ pub all-numbers : (n : ℕ) (rows : List Form) → AllByRecursion (IsSmallForm n
 all-numbers n [] h = All-nil HasRowNumbers
 all-numbers n (f ∷ rows) h = All-cons HasRowNumbers f rows (small-numbers n f h.0) (all-numbers n rows h.1)
 
--- a rule that is read of a valid program is preparable
-pub rule-preparable : (p : code.Program) (i : ℕ) (r : code_rule.Rule) → IsValid (program_of p)
-    → i < length p.rules.items → r ≡ get_or p.rules.items i r → IsPreparable (rule_of r)
-rule-preparable p i r v l e =
-    preparable (program_of p) (suc i) (rule_of r) v
-    (rule_here p (suc i) r (omega arith) (omega (arith, l))
-    (e ∙ ap (λ (j : ℕ). get_or p.rules.items j r) (let k : i ≡ suc i - 1 = omega arith in k)))
-
 module _ (p : Program) (prepared_rules : List RuleRows) (rows : AreRowsOf prepared_rules p) where
   -- there are as many rows as rules
   same-length : length prepared_rules ≡ length p.rules

@@ -1,56 +1,10 @@
--- Costs that are written in rules, and the rule of a program that has one alone.
-use Rattle.std.proofs.Common.{◌≡◌, ℕ, zero, suc, ◌+◌, ◌-◌, ◌<◌, ◌≤◌, List, [], ◌∷◌, length, map, get_or}
-use Rattle.std.proofs.Common.{Option, Some, None, sym, ap, ◌∙◌, subst, arith}
-use Rattle.std.proofs.lemmas.List.{length-map, get_or_default}
+-- The prepared rows of the cost rules of a program's rules, by the rules' numbers.
+use Rattle.std.proofs.Common.{◌≡◌, ℕ, ◌+◌, ◌-◌, ◌<◌, ◌≤◌, List, length, get_or}
+use Rattle.std.proofs.Common.{Option, None, sym, ◌∙◌, subst, arith}
+use Rattle.std.proofs.lemmas.List.{get_or_default}
 use Rattle.guard_prep.specs.declared.rule_rows.RuleRows.{RuleRows}
-use Rattle.std.proofs.lemmas.Option.{slice_get_within}
-use Rattle.its_model.specs.Views.{program_of, rule_of}
-use Rattle.its_model.specs.declared.program.Program as code
-use Rattle.its_model.specs.declared.program.Rule as code_rule
-use Rattle.model.specs.Costs.{HasCost}
-use Rattle.model.specs.Programs.{Program, Rule, rule_at}
-use Rattle.model.proofs.Cases.{some_same as some-same}
-use Rattle.cert_types.proofs.Rules.{rule_here}
-use Rattle.cert_types.specs.cert_rules.AcceptsPlain.{IsRule}
-use Rattle.cert_context.specs.CostRows.{ArePreparedCostRules, IsWritten, TellsCost}
-
--- the rule at the position before a number is the rule with that number
-pub rule-at : (p : code.Program) (t : ℕ) (r : code_rule.Rule) → IsRule (program_of p) t → r ≡ get_or p.rules.items (t - 1) r
-    → rule_at (program_of p) t ≡ Some (rule_of r)
-rule-at p t r is e = let l = within t is.numbered in rule_here p t r l.0 l.1 e
-  where
-    within : (u : ℕ) → rule_at (program_of p) u ≡ Some is.rule → (0 < u) × (u ≤ length p.rules.items)
-    within zero k = absurd (none k)
-      where
-        none : None ≡ Some is.rule → ⊥
-        none d = cc
-    within (suc u) k =
-        let l = slice_get_within (program_of p).rules u is.rule k in
-        (omega arith, omega (arith, l, length-map p.rules.items rule_of))
-
-module _ (p : Program) (t : ℕ) (r : code_rule.Rule) (e : rule_at p t ≡ Some (rule_of r)) where
-  -- a rule whose cost is written has one
-  pub cost-there : IsWritten (rule_of r).cost → HasCost p t
-  cost-there w = record { rule = rule_of r; numbered = e; cost = w.0; written = w.1 }
-
-  -- and no other
-  pub cost-written : HasCost p t → IsWritten (rule_of r).cost
-  cost-written h = (
-    h.cost,
-    ap (λ (x : Rule). x.cost) (some-same (rule_of r) h.rule (sym e ∙ h.numbered)) ∙ h.written,
-  )
-
--- where there is one rule alone, it is the first
-pub one-rule : (rs : List code_rule.Rule) (x : Rule) → map rule_of rs ≡ x ∷ [] → length rs ≡ 1
-one-rule rs x e = sym (length-map rs rule_of) ∙ ap length e
-
-pub first-rule : (rs : List code_rule.Rule) (r : code_rule.Rule) (x : Rule) → map rule_of rs ≡ x ∷ [] → r ≡ get_or rs 0 r
-    → rule_of r ≡ x
-first-rule [] r x e f = absurd (let no : ⊥ = cc in no)
-first-rule (y ∷ rs) r x e f = ap rule_of f ∙ head (rule_of y) x (map rule_of rs) e
-  where
-    head : (a b : Rule) (rest : List Rule) → a ∷ rest ≡ b ∷ [] → a ≡ b
-    head a b rest k = cc
+use Rattle.model.specs.Programs.{Program}
+use Rattle.cert_context.specs.CostRows.{ArePreparedCostRules, TellsCost}
 
 -- the prepared rows of the cost rules of the rules before a position
 pub record AreCostsSoFar (p : Program) (i : ℕ) (prepared_rules : List (Option RuleRows)) : Type 0 where

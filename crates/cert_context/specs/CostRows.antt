@@ -1,20 +1,9 @@
--- The costs of rules, and the prepared rows of their cost rules.
-use Rattle.std.specs.Prelude.{◌≡◌, ℕ, ◌+◌, ◌<◌, List, length, Option, Some, None, MatchOption, slice_index_or}
-use Rattle.guard_prep.specs.Prepared.{prepared}
-use Rattle.guard_prep.specs.Views.{prepared_of}
+-- The prepared rows of the cost rules of a program's rules.
+use Rattle.std.specs.Prelude.{◌≡◌, ℕ, ◌+◌, ◌<◌, List, length, Option, None, MatchOption, slice_index_or}
 use Rattle.guard_prep.specs.declared.rule_rows.RuleRows.{RuleRows}
-use Rattle.model.specs.Costs.{HasCost, cost_rule}
+use Rattle.model.specs.Costs.{HasCost}
 use Rattle.model.specs.Programs.{Program}
-use Rattle.model.specs.Terms.{Term}
-
--- a cost that may be there is
-abbrev pub IsWritten : Option Term → Type 0
-IsWritten o = (k : Term) × (o ≡ Some k)
-
--- the prepared rows of the cost rule of a rule with a cost
-pub record IsPreparedCostRule (p : Program) (t : ℕ) (m : RuleRows) : Type 0 where
-  pub costs : HasCost p t
-  pub same : prepared_of m ≡ prepared (cost_rule costs.rule costs.cost)
+use Rattle.cost_nodes.specs.CostRules.{IsPreparedCostRule}
 
 -- the prepared rows of the cost rule of a rule, where it has a cost
 abbrev pub TellsCost : Program → ℕ → Option RuleRows → Type 0

@@ -6,7 +6,7 @@ ghost use Rattle.its_model.specs.Valid.{IsValid};
 ghost use Rattle.its_model.specs.Views.{program_of};
 ghost use Rattle.model.specs.Costs.{HasCost};
 ghost use Rattle.poly_terms.specs.Views.{form_of};
-ghost use Rattle.cert_context.specs.CostRows.{IsPreparedCostRule};
+ghost use Rattle.cost_nodes.specs.CostRules.{IsPreparedCostRule};
 ghost use Rattle.cert_context.specs.CheckContexts.{IsCheckContext, program, setting};
 ghost use Rattle.cert_context.specs.SuitedRows.{HasPlaces, IsPreparedRuleOf, SuitsSideBounds, SuitsGoals};
 ghost use Rattle.cert_types.specs.Composing.{AreRowsOf};

@@ -1,46 +1,15 @@
 //! Prepares the cost rules of a program.
 
-ghost use Rattle.std.specs.Prelude.{◌↔◌, IfOk, IsTrue};
+ghost use Rattle.std.specs.Prelude.{IfOk};
 ghost use Rattle.its_model.specs.Valid.{IsValid};
-ghost use Rattle.its_model.specs.Views.{program_of, rule_of};
-ghost use Rattle.model.specs.Costs.{HasCost};
-ghost use Rattle.cert_context.specs.CostRows.{ArePreparedCostRules, IsPreparedCostRule, IsWritten, TellsCost};
+ghost use Rattle.its_model.specs.Views.{program_of};
+ghost use Rattle.cert_context.specs.CostRows.{ArePreparedCostRules, TellsCost};
 
-use gap_checks::is_rule;
-use guard_prep::{RuleRows, rows};
-use its_model::{Program, Rule, cost_program};
+use cost_nodes::{cost_rows, has_cost};
+use guard_prep::RuleRows;
+use its_model::Program;
 use model::Memory;
 use std::alloc::Global;
-
-// Whether the rule is one, and has a cost.
-fn has_cost(p: &Program, rule: u32) -> bool
-    ensures { IsTrue result ↔ HasCost (program_of p.now) rule }
-{
-    if !is_rule(p, rule) {
-        return false;
-    }
-    is_written(&p.rules[rule as usize - 1])
-}
-
-// Whether a rule has a cost.
-fn is_written(rule: &Rule) -> bool
-    ensures { IsTrue result ↔ IsWritten (rule_of rule.now).cost }
-{
-    match &rule.cost {
-        Some(_) => true,
-        None => false,
-    }
-}
-
-// The prepared rows of the cost rule of a rule with a cost.
-fn cost_rows(alloc: Global, p: &Program, rule: u32) -> Result<RuleRows, Memory>
-    requires valid { IsValid (program_of p.now) }
-    requires costs { HasCost (program_of p.now) rule }
-    ensures { IfOk result (λ prepared. IsPreparedCostRule (program_of p.now) rule prepared) }
-{
-    let q = cost_program(alloc, p, rule)?;
-    rows(alloc, &q.rules[0])
-}
 
 // The prepared rows of the cost rule of a rule, if it has a cost.
 fn prepared_cost(alloc: Global, p: &Program, rule: u32) -> Result<Option<RuleRows>, Memory>

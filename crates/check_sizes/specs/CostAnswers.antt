@@ -12,7 +12,7 @@ use Rattle.cert_types.specs.cert_rules.Setting.{Setting}
 use Rattle.cert_context.specs.CheckContexts.{IsCheckContext, program, setting}
 use Rattle.cert_context.specs.NodeAnswers.{Refuses}
 use Rattle.cert_context.specs.declared.refusal.NodeFault.{NodeFault}
-use Rattle.cert_context.specs.CostRows.{IsPreparedCostRule}
+use Rattle.cost_nodes.specs.CostRules.{IsPreparedCostRule}
 use Rattle.check_sizes.specs.declared.cost_rows.CostRule.{CostRule}
 
 -- the setting over which a cost is judged

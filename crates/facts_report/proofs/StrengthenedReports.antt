@@ -1,7 +1,7 @@
 -- What is found of a program that is strengthened by facts that hold is true of the program itself.
-use Rattle.std.proofs.Common.{◌≡◌, ℕ, List, [], ◌∷◌, length, map, refl, sym, ◌∙◌, ap, subst}
+use Rattle.std.proofs.Common.{◌≡◌, ℕ, Bool, List, [], ◌∷◌, length, map, is_some, refl, sym, ◌∙◌, ap, subst}
 use Rattle.std.proofs.lemmas.List.{length-map}
-use Rattle.model.specs.Facts.{Time, Size}
+use Rattle.model.specs.Facts.{Time, Size, Cost}
 use Rattle.model.specs.Programs.{Program, Rule, arity_of}
 use Rattle.its_model.specs.declared.program.Program as code
 use Rattle.its_model.specs.Valid.{IsValid}
@@ -33,10 +33,17 @@ targets_same : (p : Program) (kept : List LocFact) (rules : List Rule)
 targets_same p kept [] = refl
 targets_same p kept (r ∷ rules) = ap (λ (ns : List ℕ). arity_of p r.target ∷ ns) (targets_same p kept rules)
 
+-- and the same rules have a cost
+costs_kept : (kept : List LocFact) (rules : List Rule)
+    → map (λ rule. is_some rule.cost) (map (strengthened_rule kept) rules) ≡ map (λ rule. is_some rule.cost) rules
+costs_kept kept [] = refl
+costs_kept kept (r ∷ rules) = ap (λ (bs : List Bool). is_some r.cost ∷ bs) (costs_kept kept rules)
+
 -- a report on it is one on the program
 report_on : (p : Program) (kept : List LocFact) (r : Report) → IsReportOn (strengthened kept p) r → IsReportOn p r
 report_on p kept r h = record {
   times = h.times ∙ length-map p.rules (strengthened_rule kept);
+  costs = h.costs ∙ costs_kept kept p.rules;
   total = h.total;
   sizes = h.sizes ∙ targets_same p kept p.rules;
 }
@@ -46,6 +53,7 @@ report_holds : (p : Program) (kept : List LocFact) (r : Report) → IsValid p �
     → ReportHolds (strengthened kept p) r → ReportHolds p r
 report_holds p kept r valid held h = record {
   times = λ t b e. strengthening-changes-no-run.bounds p kept valid held (Time t b) (h.times t b e);
+  costs = λ t b e. strengthening-changes-no-run.bounds p kept valid held (Cost t b) (h.costs t b e);
   total = λ b e. strengthening-changes-no-run.totals p kept valid held b (h.total b e);
   sizes = λ t i b e. strengthening-changes-no-run.bounds p kept valid held (Size t i b) (h.sizes t i b e);
 }

@@ -24,6 +24,7 @@ lines = record {
   greatest_first = refl;
   ordered = refl;
   whole = refl;
+  with_cost = refl;
 }
 
 pub texts_worked : FactTextsAreWorkedOut

@@ -1,8 +1,8 @@
 -- Facts and their lines, worked out by hand.
-use Rattle.std.specs.Prelude.{◌≡◌, ℕ, [], ◌∷◌, ℤ, pos, negsuc, Some, codes}
+use Rattle.std.specs.Prelude.{◌≡◌, ℕ, [], ◌∷◌, ℤ, pos, negsuc, Some, None, codes}
 use Rattle.model.specs.Programs.{Program}
 use Rattle.model.specs.Bounds.{Constant}
-use Rattle.outcome.specs.Reports.{Timed}
+use Rattle.outcome.specs.Reports.{Timed, Costed}
 use Rattle.location_facts.specs.declared.fact.LocFact.{LocFact}
 use Rattle.facts_report.specs.FactTexts.{difference_text, location_line, location_lines, text_with_facts}
 
@@ -42,8 +42,11 @@ pub record FactLinesAreWorkedOut : Type 0 where
       (fact 2 1 0 (pos 0) ∷ fact 1 2 0 (pos 1) ∷ fact 1 0 2 (negsuc 0) ∷ fact 1 1 2 (pos 0) ∷ fact 1 1 0 (pos 1) ∷ [])
       ≡ codes "fact l1: -x2 >= -1\nfact l1: x1 >= 1\nfact l1: x1 - x2 >= 0\nfact l1: x2 >= 1\nfact l2: x1 >= 0\n"
   pub whole : text_with_facts three_symbols (fact 1 2 0 (pos 1) ∷ [])
-      (record { times = Timed (Constant 1) ∷ []; total = Some (Constant 1); sizes = [] ∷ [] })
+      (record { times = Timed (Constant 1) ∷ []; costs = None ∷ []; total = Some (Constant 1); sizes = [] ∷ [] })
       ≡ codes "fact l1: x2 >= 1\nbounded\ntime 1: 1\ntotal: 1\n"
+  pub with_cost : text_with_facts three_symbols (fact 1 2 0 (pos 1) ∷ [])
+      (record { times = Timed (Constant 1) ∷ []; costs = Some (Costed (Constant 5)) ∷ []; total = Some (Constant 5); sizes = [] ∷ [] })
+      ≡ codes "fact l1: x2 >= 1\nbounded\ntime 1: 1\ncost 1: 5\ntotal: 5\n"
 
 -- all of it
 pub record FactTextsAreWorkedOut : Type 0 where

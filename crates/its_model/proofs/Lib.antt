@@ -6,7 +6,7 @@ mod StepLaws
 mod CostFaults
 pub mod CostTerms
 pub mod CostSteps
-mod CostPrograms
+pub mod CostPrograms
 mod RuleLaws
 mod WorkedPrograms
 mod WorkedSteps

@@ -6,8 +6,8 @@ use Rattle.std.specs.List.{Contains}
 use Rattle.std.proofs.lemmas.List.Elements.{All-append, All-take, All-contains}
 use Rattle.std.proofs.lemmas.Option.{slice_get-map}
 use Rattle.poly_terms.specs.model.Bounds.{Bound, val}
-use Rattle.poly_terms.specs.model.Spending.{cost_by, updated, values_after, step_cost, spent}
-use Rattle.poly_terms.specs.model.Facts.{Fact, Time, Size, Cost, Holds, HoldsLength}
+use Rattle.poly_terms.specs.model.Spending.{cost_by, updated, values_after, step_cost, spent, spent_all}
+use Rattle.poly_terms.specs.model.Facts.{Fact, Time, Size, Cost, Holds, HoldsTotal, HoldsLength}
 use Rattle.poly_terms.specs.model.Programs.{Program, Rule, rule_at, arity_of, AtomHolds, GuardHolds}
 use Rattle.poly_terms.specs.model.Runs.{Config, Step, Leads, IsStep, IsRun, sizes_of_start}
 use Rattle.poly_terms.specs.model.RunLaws.{AritiesAgree}
@@ -153,6 +153,12 @@ module _ (p : Program) (agree : AritiesAgree p) (kept : List LocFact) (held : Ar
       (step_cost-same start s earlier)
       ∙ ap (λ (n : ℕ). (if s.rule == t then step_cost p start s earlier else 0) + n) (spent-same t start earlier)
 
+  spent_all-same : (start : List ℤ) (steps : List Step) → spent_all (strengthened kept p) start steps ≡ spent_all p start steps
+  spent_all-same start [] = refl
+  spent_all-same start (s ∷ earlier) =
+      ap (λ (n : ℕ). n + spent_all (strengthened kept p) start earlier) (step_cost-same start s earlier)
+      ∙ ap (λ (n : ℕ). step_cost p start s earlier + n) (spent_all-same start earlier)
+
   -- so a bound of the strengthened program is one of the program
   pub bound-carries : (fact : Fact) → Holds (strengthened kept p) fact → Holds p fact
   bound-carries (Time t b) h = record { each = λ start steps c run. h.each start steps c (run-on start steps c run) }
@@ -163,5 +169,12 @@ module _ (p : Program) (agree : AritiesAgree p) (kept : List LocFact) (held : Ar
         (h.each start steps c (run-on start steps c run));
   }
 
-  pub total-carries : (bound : Bound) → HoldsLength (strengthened kept p) bound → HoldsLength p bound
-  total-carries bound h = record { each = λ start steps c run. h.each start steps c (run-on start steps c run) }
+  pub total-carries : (bound : Bound) → HoldsTotal (strengthened kept p) bound → HoldsTotal p bound
+  total-carries bound h = record {
+    each = λ start steps c run.
+        subst (λ (n : ℕ). n ≤ val bound (sizes_of_start start)) (spent_all-same start steps)
+        (h.each start steps c (run-on start steps c run));
+  }
+
+  pub length-carries : (bound : Bound) → HoldsLength (strengthened kept p) bound → HoldsLength p bound
+  length-carries bound h = record { each = λ start steps c run. h.each start steps c (run-on start steps c run) }

@@ -3,7 +3,7 @@ use Rattle.std.proofs.Common.{Result, Ok, Err}
 use Rattle.std.specs.Prelude.{IfOk}
 use Rattle.cert_types.proofs.guard_prep.its_model.ValidLaws.{arities_agree}
 use Rattle.location_facts.specs.Laws.{StrengtheningChangesNoRun}
-use Rattle.location_facts.proofs.Strengthened.{run-on, run-back, bound-carries, total-carries}
+use Rattle.location_facts.proofs.Strengthened.{run-on, run-back, bound-carries, total-carries, length-carries}
 use Rattle.location_facts.proofs.StrongValid.{strong-valid}
 
 pub strengthening-changes-no-run : StrengtheningChangesNoRun
@@ -13,6 +13,7 @@ strengthening-changes-no-run = record {
       (run-on p (arities_agree p valid) kept held start steps c, run-back kept p start steps c);
   bounds = λ p kept valid held fact h. bound-carries p (arities_agree p valid) kept held fact h;
   totals = λ p kept valid held bound h. total-carries p (arities_agree p valid) kept held bound h;
+  lengths = λ p kept valid held bound h. length-carries p (arities_agree p valid) kept held bound h;
 }
 
 -- what follows of a value follows of a result that has it

@@ -8,7 +8,7 @@ use Rattle.lp_builder.specs.simplex_core.declared.answers.Answer.{Answer}
 use Rattle.lp_builder.specs.simplex_core.declared.answers.Answer.TheVariants.{Solution, Dual, OutOfLimits}
 use Rattle.lp_builder.specs.simplex_core.Trips.{IsWholeAnswer}
 use Rattle.poly_terms.specs.model.Bounds.{Bound}
-use Rattle.poly_terms.specs.model.Facts.{Fact, Holds, HoldsLength}
+use Rattle.poly_terms.specs.model.Facts.{Fact, Holds, HoldsTotal, HoldsLength}
 use Rattle.poly_terms.specs.model.Programs.{Program}
 use Rattle.poly_terms.specs.model.Runs.{Config, Step, IsRun}
 use Rattle.its_model.specs.Valid.{IsValid}
@@ -60,6 +60,8 @@ pub record StrengtheningChangesNoRun : Type 0 where
   pub bounds : (p : Program) (kept : List LocFact) → IsValid p → AreHeld p kept → (fact : Fact)
       → Holds (strengthened kept p) fact → Holds p fact
   pub totals : (p : Program) (kept : List LocFact) → IsValid p → AreHeld p kept → (bound : Bound)
+      → HoldsTotal (strengthened kept p) bound → HoldsTotal p bound
+  pub lengths : (p : Program) (kept : List LocFact) → IsValid p → AreHeld p kept → (bound : Bound)
       → HoldsLength (strengthened kept p) bound → HoldsLength p bound
 
 -- a list has one next list at most, and the sequence that goes on from a list one end; so at most one list of facts is

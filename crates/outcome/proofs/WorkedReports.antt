@@ -1,14 +1,15 @@
 -- Which worked reports hold: by the facts of the program that counts down.
 use Rattle.std.proofs.Common.{◌≡◌, ℕ, zero, suc, [], ◌∷◌, Some, None, refl, subst, arith}
 use Rattle.farkas_cert.specs.model.Bounds.{Bound, Constant, Input}
-use Rattle.farkas_cert.specs.model.Facts.{HoldsTime, HoldsSize, HoldsLength}
+use Rattle.farkas_cert.specs.model.Facts.{HoldsTime, HoldsSize, HoldsCost, HoldsTotal}
 use Rattle.farkas_cert.specs.model.WorkedRuns.{countdown}
-use Rattle.farkas_cert.proofs.model.WorkedFacts.{times_hold, lengths_hold, sizes_hold}
+use Rattle.farkas_cert.proofs.model.WorkedFacts.{times_hold, sizes_hold}
+use Rattle.farkas_cert.proofs.model.WorkedTotals.{totals_hold}
 use Rattle.outcome.specs.Reports.{NoTime, TimeLarge, Timed, Untimed}
-use Rattle.outcome.specs.Reports.{NoSize, SizeUntimed, SizeLarge, Sized, Unsized}
+use Rattle.outcome.specs.Reports.{NoSize, SizeUntimed, SizeLarge, Sized, Unsized, Costed}
 use Rattle.outcome.specs.Holding.{numbered_entry, place_entry}
 use Rattle.outcome.specs.WorkedReports.{EntriesAreFound, two_sizes, two_times}
-use Rattle.outcome.specs.WorkedReports.{right_sizes, no_sizes, ReportsHold, ReasonsHold}
+use Rattle.outcome.specs.WorkedReports.{right_sizes, no_sizes, no_costs, ReportsHold, ReasonsHold}
 
 -- entries are found as was worked out
 pub entries_found : EntriesAreFound
@@ -51,7 +52,7 @@ same_size : (a b : Bound) → Some (Sized a) ≡ Some (Sized b) → a ≡ b
 same_size a b e = cc
 
 -- the bound that times give holds, where both do
-times_of_two : (a c : Bound) → HoldsTime countdown 1 a → HoldsTime countdown 2 c
+pub times_of_two : (a c : Bound) → HoldsTime countdown 1 a → HoldsTime countdown 2 c
     → (t : ℕ) (b : Bound) → numbered_entry (two_times a c) t ≡ Some (Timed b) → HoldsTime countdown t b
 times_of_two a c one two zero b e = absurd (no_time b e)
 times_of_two a c one two (suc zero) b e = subst (λ (d : Bound). HoldsTime countdown 1 d) (same_time a b e) one
@@ -69,7 +70,7 @@ places_of_two rule a c one two (suc (suc zero)) b e =
 places_of_two rule a c one two (suc (suc (suc i))) b e = absurd (no_size b e)
 
 -- each of the right sizes holds
-right_sizes_hold : (t i : ℕ) (b : Bound) → place_entry (numbered_entry right_sizes t) i ≡ Some (Sized b)
+pub right_sizes_hold : (t i : ℕ) (b : Bound) → place_entry (numbered_entry right_sizes t) i ≡ Some (Sized b)
     → HoldsSize countdown t i b
 right_sizes_hold zero i b e = absurd (no_size b e)
 right_sizes_hold (suc zero) i b e =
@@ -78,12 +79,25 @@ right_sizes_hold (suc (suc zero)) i b e =
     places_of_two 2 (Constant 8) (Constant 9) sizes_hold.loop_first sizes_hold.loop_second i b e
 right_sizes_hold (suc (suc (suc t))) i b e = absurd (no_size b e)
 
+-- a rule without a cost has no bound on it, and so neither has either of two such rules
+no_cost : (b : Bound) → Some None ≡ Some (Some (Costed b)) → ⊥
+no_cost b e = cc
+
+pub no_entry_cost : (b : Bound) → None ≡ Some (Some (Costed b)) → ⊥
+no_entry_cost b e = cc
+
+none_costed : (t : ℕ) (b : Bound) → numbered_entry no_costs t ≡ Some (Some (Costed b)) → HoldsCost countdown t b
+none_costed zero b e = absurd (no_entry_cost b e)
+none_costed (suc zero) b e = absurd (no_cost b e)
+none_costed (suc (suc zero)) b e = absurd (no_cost b e)
+none_costed (suc (suc (suc t))) b e = absurd (no_entry_cost b e)
+
 -- nothing is a total that a report doesn't have
-no_total : (b : Bound) → None ≡ Some b → ⊥
+pub no_total : (b : Bound) → None ≡ Some b → ⊥
 no_total b e = cc
 
 -- one total is one bound
-same_total : (a b : Bound) → Some a ≡ Some b → a ≡ b
+pub same_total : (a b : Bound) → Some a ≡ Some b → a ≡ b
 same_total a b e = cc
 
 -- the right report holds, and with a wrong bound it doesn't
@@ -91,14 +105,15 @@ pub reports_hold : ReportsHold
 reports_hold = record {
   whole = record {
     times = times_of_two (Constant 1) (Constant 9) times_hold.first times_hold.loop;
-    total = λ b e. subst (λ (d : Bound). HoldsLength countdown d) (same_total (Constant 10) b e) lengths_hold.all;
+    costs = none_costed;
+    total = λ b e. subst (λ (d : Bound). HoldsTotal countdown d) (same_total (Constant 10) b e) totals_hold.plain;
     sizes = right_sizes_hold;
   };
   first_time_less = λ h. times_hold.first_never (h.times 1 (Constant 0) refl);
   second_time_less = λ h. times_hold.loop_less (h.times 2 (Constant 8) refl);
   time_of_other_rule = λ h. never_once (h.times 2 (Constant 1) refl);
   times_swapped = λ h. never_once (h.times 2 (Constant 1) refl);
-  total_less = λ h. lengths_hold.less (h.total (Constant 9) refl);
+  total_less = λ h. totals_hold.plain_less (h.total (Constant 9) refl);
   first_size_less = λ h. sizes_hold.loop_first_less (h.sizes 2 1 (Constant 7) refl);
   second_size_less = λ h. sizes_hold.loop_second_less (h.sizes 2 2 (Constant 8) refl);
   sizes_swapped = λ h. sizes_hold.first_by_other (h.sizes 1 1 (Input 1) refl);
@@ -142,21 +157,24 @@ pub reasons_hold : ReasonsHold
 reasons_hold = record {
   all_missing = record {
     times = λ t b e. absurd (untimed (TimeLarge 5000) (TimeLarge 5000) t b e);
+    costs = none_costed;
     total = λ b e. absurd (no_total b e);
     sizes = λ t i b e. absurd (none_sized t i b e);
   };
   no_entries = record {
     times = λ t b e. absurd (no_entry t b e);
+    costs = none_costed;
     total = λ b e. absurd (no_total b e);
     sizes = λ t i b e. absurd (no_places t i b e);
   };
   one_time = record {
     times = lone_time;
+    costs = none_costed;
     total = λ b e. absurd (no_total b e);
     sizes = λ t i b e. absurd (none_sized t i b e);
   };
   one_time_less = λ h. times_hold.loop_less (h.times 2 (Constant 8) refl);
-  one_total_less = λ h. lengths_hold.less (h.total (Constant 9) refl);
+  one_total_less = λ h. totals_hold.plain_less (h.total (Constant 9) refl);
   one_size_less = λ h. sizes_hold.loop_second_less (h.sizes 2 2 (Constant 8) refl);
 }
   where

@@ -2,8 +2,10 @@
 pub mod Reports
 pub mod Holding
 pub mod WorkedReports
--- an outcome as a report, and which outcomes can be printed
+pub mod WorkedCosts
+-- an outcome as a report, which entries lack no bound, and which outcomes can be printed
 pub mod Views
+pub mod Entries
 pub mod Printing
 -- the crates below, which callers name through this one
 pub use Rattle.cert_types.specs.cert_rules

@@ -7,6 +7,8 @@ use Rattle.bound_expr.specs.Tidy.{IsTidy}
 use Rattle.bound_expr.specs.declared.bound.Bound as code
 use Rattle.outcome.specs.declared.entry.TimeEntry.{TimeEntry}
 use Rattle.outcome.specs.declared.entry.TimeEntry.TheVariants as times
+use Rattle.outcome.specs.declared.entry.CostEntry.{CostEntry}
+use Rattle.outcome.specs.declared.entry.CostEntry.TheVariants as costs
 use Rattle.outcome.specs.declared.entry.SizeEntry.{SizeEntry}
 use Rattle.outcome.specs.declared.entry.SizeEntry.TheVariants as sizes
 use Rattle.outcome.specs.declared.outcome_of.Outcome.{Outcome}
@@ -29,6 +31,16 @@ HasItsGap n (times.Gap g) = (1 ≤ g) × (g ≤ n)
 HasItsGap n (times.OutOfLimits t) = ⊤
 HasItsGap n (times.Large nodes) = ⊤
 
+-- the bound of a cost, where there is one, is printable
+abbrev pub IsPrintableCost : ℕ → Option CostEntry → Type 0
+IsPrintableCost n None = ⊤
+IsPrintableCost n (Some (costs.Known s)) = IsPrintable n s.bound
+IsPrintableCost n (Some (costs.UnboundedSide l)) = ⊤
+IsPrintableCost n (Some (costs.OutOfLimits t)) = ⊤
+IsPrintableCost n (Some (costs.Missing s)) = ⊤
+IsPrintableCost n (Some (costs.Untimed t)) = ⊤
+IsPrintableCost n (Some (costs.Large nodes)) = ⊤
+
 -- the bound of a size, where there is one, is printable
 abbrev pub IsPrintableSize : ℕ → SizeEntry → Type 0
 IsPrintableSize n (sizes.Known s) = IsPrintable n s.bound
@@ -47,5 +59,6 @@ IsPrintableTotal n (Some b) = IsPrintable n b
 pub record IsPrintableOutcome (n : ℕ) (o : Outcome) : Type 0 where
   pub times : All (IsPrintableTime n) o.times.items
   pub gaps : All (HasItsGap (length o.gaps.items)) o.times.items
+  pub costs : All (IsPrintableCost n) o.costs.items
   pub total : IsPrintableTotal n o.total
   pub sizes : All (λ places. All (IsPrintableSize n) places.items) o.sizes.items

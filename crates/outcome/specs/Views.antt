@@ -9,6 +9,8 @@ use Rattle.cert_types.specs.declared.gap.Gap as code
 use Rattle.outcome.specs.declared.unbounded_side.UnboundedSide.{UnboundedSide}
 use Rattle.outcome.specs.declared.entry.TimeEntry.{TimeEntry}
 use Rattle.outcome.specs.declared.entry.TimeEntry.TheVariants as times
+use Rattle.outcome.specs.declared.entry.CostEntry.{CostEntry}
+use Rattle.outcome.specs.declared.entry.CostEntry.TheVariants as costs
 use Rattle.outcome.specs.declared.entry.SizeEntry.{SizeEntry}
 use Rattle.outcome.specs.declared.entry.SizeEntry.TheVariants as sizes
 use Rattle.outcome.specs.declared.outcome_of.Outcome.{Outcome}
@@ -16,7 +18,7 @@ use Rattle.outcome.specs.Reports.{NoFunction, TimeTripped, TimeLarge}
 use Rattle.outcome.specs.Reports.{Time, Timed, Untimed}
 use Rattle.cert_types.specs.cert_rules.AcceptsSizes.{Side, Up, Low}
 use Rattle.outcome.specs.Reports.{NoSize, SizeUnbounded, SizeTripped, SizeMissing, SizeNonlinear, SizeUntimed, SizeLarge}
-use Rattle.outcome.specs.Reports.{Size, Sized, Unsized, Report}
+use Rattle.outcome.specs.Reports.{Size, Sized, Unsized, RuleCost, Costed, Uncosted, Report}
 
 -- the gap without points, over no rule
 abbrev pub no_gap : Gap
@@ -41,7 +43,7 @@ abbrev pub side_by : Bool → Side
 side_by true = Up
 side_by false = Low
 
--- why a loose place has no size
+-- why a loose place has no size, and a loose cost no bound
 abbrev pub unbounded_of : UnboundedSide → NoSize
 unbounded_of l = SizeUnbounded (side_by l.up) l.ray.items (scaled_of l.kept)
 
@@ -55,10 +57,20 @@ size_of (sizes.Nonlinear s) = Unsized (SizeNonlinear (result_variable_of s))
 size_of (sizes.Untimed t) = Unsized (SizeUntimed t)
 size_of (sizes.Large n) = Unsized (SizeLarge n)
 
+-- the bound of a cost, or why there is none, as plain data
+abbrev pub cost_of : CostEntry → RuleCost
+cost_of (costs.Known s) = Costed (bound_of s.bound)
+cost_of (costs.UnboundedSide l) = Uncosted (unbounded_of l)
+cost_of (costs.OutOfLimits t) = Uncosted (SizeTripped t)
+cost_of (costs.Missing s) = Uncosted (SizeMissing (result_variable_of s))
+cost_of (costs.Untimed t) = Uncosted (SizeUntimed t)
+cost_of (costs.Large n) = Uncosted (SizeLarge n)
+
 -- the report of an outcome
 abbrev pub report_of : Outcome → Report
 report_of o = record {
   times = map (time_of o.gaps.items) o.times.items;
+  costs = map (option_map cost_of) o.costs.items;
   total = option_map bound_of o.total;
   sizes = map (λ places. map size_of places.items) o.sizes.items;
 }

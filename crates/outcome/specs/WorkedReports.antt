@@ -2,7 +2,8 @@
 use Rattle.std.specs.Prelude.{◌≡◌, ℕ, List, [], ◌∷◌, Option, Some, None}
 use Rattle.farkas_cert.specs.model.Bounds.{Bound, Constant, Input}
 use Rattle.farkas_cert.specs.model.WorkedRuns.{countdown}
-use Rattle.outcome.specs.Reports.{TimeLarge, Time, Timed, Untimed, SizeUntimed, SizeLarge, Size, Sized, Unsized, Report}
+use Rattle.outcome.specs.Reports.{TimeLarge, Time, Timed, Untimed, SizeUntimed, SizeLarge, Size, Sized, Unsized}
+use Rattle.outcome.specs.Reports.{RuleCost, Report}
 use Rattle.outcome.specs.Holding.{numbered_entry, place_entry, ReportHolds}
 
 -- three entries
@@ -35,9 +36,13 @@ two_times a b = Timed a ∷ Timed b ∷ []
 abbrev pub four_sizes : Bound → Bound → Bound → Bound → List (List Size)
 four_sizes a b c d = two_sizes a b ∷ two_sizes c d ∷ []
 
--- the report with these times, this total and these sizes
+-- two rules without a cost
+abbrev pub no_costs : List (Option RuleCost)
+no_costs = None ∷ None ∷ []
+
+-- the report with these times, this total and these sizes, and no cost of either rule
 abbrev pub report_with : List Time → Option Bound → List (List Size) → Report
-report_with ts sum ss = record { times = ts; total = sum; sizes = ss }
+report_with ts sum ss = record { times = ts; costs = no_costs; total = sum; sizes = ss }
 
 -- the times 1 and 9, the sizes of A and B after rule 1, and 8 and 9 after rule 2
 abbrev pub right_times : List Time

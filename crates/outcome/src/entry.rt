@@ -1,4 +1,4 @@
-//! The entries of times and of sizes.
+//! The entries of times, of costs and of sizes.
 
 use crate::unbounded_side::UnboundedSide;
 use bound_expr::Bound;
@@ -19,6 +19,22 @@ pub enum TimeEntry {
     Gap { gap: u32 },
     /// A linear program exceeded a limit.
     OutOfLimits(LimitHit),
+    /// The bound has this many nodes.
+    Large { nodes: u64 },
+}
+
+/// The bound on what all steps by a rule cost together, or why none is known.
+#[derive(Debug, PartialEq, Eq, Drop)]
+pub enum CostEntry {
+    Known(Stored),
+    /// No affine function bounds the cost of one step on this side.
+    UnboundedSide(UnboundedSide),
+    /// A linear program exceeded a limit.
+    OutOfLimits(LimitHit),
+    /// This size, which the bound of one step reads, is missing.
+    Missing(ResultVariable),
+    /// The time of this rule, which is needed, is missing.
+    Untimed { rule: u32 },
     /// The bound has this many nodes.
     Large { nodes: u64 },
 }

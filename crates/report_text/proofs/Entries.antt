@@ -1,21 +1,21 @@
 -- The lines of an outcome's entries are those of its report.
 use Rattle.cert_types.specs.cert_rules.Gaps.{Gap as PlainGap}
-use Rattle.std.proofs.Common.{◌≡◌, ℕ, zero, suc, ◌≤◌, ◌-◌, get_or, arith, Bool, cond, List, [], ◌∷◌, ◌++◌, length, map}
-use Rattle.std.proofs.Common.{codes, refl, sym, ◌∙◌, ap, subst, append_assoc}
+use Rattle.std.proofs.Common.{◌≡◌, ℕ, zero, suc, ◌≤◌, ◌-◌, get_or, arith, List, [], ◌∷◌, ◌++◌, length, map}
+use Rattle.std.proofs.Common.{Option, codes, refl, sym, ◌∙◌, ap, subst, append_assoc}
 use Rattle.std.specs.Prelude.{decimal}
-use Rattle.std.specs.List.{list_all}
 use Rattle.model.specs.Programs.{Name, Symbol}
 use Rattle.cert_types.specs.declared.gap.Gap.{Gap}
 use Rattle.outcome.specs.declared.entry.TimeEntry.{TimeEntry}
 use Rattle.outcome.specs.declared.entry.TimeEntry.TheVariants as times
+use Rattle.outcome.specs.declared.entry.CostEntry.{CostEntry}
 use Rattle.outcome.specs.declared.entry.SizeEntry.{SizeEntry}
 use Rattle.cert_types.specs.AnswerViews.{gap_of}
 use Rattle.outcome.specs.Views.{time_of, size_of, numbered_gap}
 use Rattle.report_text.specs.Pieces.{numbered_lines}
-use Rattle.outcome.specs.Reports.{is_timed}
-use Rattle.report_text.specs.Reports.{headline, time_line, size_line, size_lines, why_time, why_size, why_sizes}
+use Rattle.report_text.specs.Reports.{time_line, cost_line, size_line, size_lines}
+use Rattle.report_text.specs.Reports.{why_time, why_cost, why_size, why_sizes}
 use Rattle.outcome.specs.Printing.{HasItsGap}
-use Rattle.report_text.specs.Conditions.{is_known, headline_of, entry_line}
+use Rattle.report_text.specs.Conditions.{rule_cost_of, entry_line}
 use Rattle.report_text.specs.Reasons.{gap_text}
 use Rattle.report_text.proofs.Lists.{numbered_same}
 
@@ -25,22 +25,6 @@ line_of names gaps n (times.Known s) = refl
 line_of names gaps n (times.Gap g) = refl
 line_of names gaps n (times.OutOfLimits t) = refl
 line_of names gaps n (times.Large nodes) = refl
-
--- an entry is known exactly where its time is one
-pub known_is_timed : (gaps : List Gap) (e : TimeEntry) → is_known e ≡ is_timed (time_of gaps e)
-known_is_timed gaps (times.Known s) = refl
-known_is_timed gaps (times.Gap g) = refl
-known_is_timed gaps (times.OutOfLimits t) = refl
-known_is_timed gaps (times.Large nodes) = refl
-
--- so all entries are known exactly where all times are
-pub all_known : (gaps : List Gap) (es : List TimeEntry) → list_all is_known es ≡ list_all is_timed (map (time_of gaps) es)
-all_known gaps [] = refl
-all_known gaps (e ∷ es) = cc (known_is_timed gaps e, all_known gaps es)
-
--- the same for the headline
-pub headline_same : (gaps : List Gap) (es : List TimeEntry) → headline_of es ≡ headline (map (time_of gaps) es)
-headline_same gaps es = ap (λ (b : Bool). cond b (codes "bounded\n") (codes "unknown\n")) (all_known gaps es)
 
 -- and the lines of all rules
 pub times_same : (names : List Name) (gaps : List Gap) (es : List TimeEntry)
@@ -52,6 +36,16 @@ pub why_times_same : (symbols : List Symbol) (gaps : List Gap) (es : List TimeEn
     → numbered_lines (λ rule t. why_time symbols rule (time_of gaps t)) 1 es ≡ numbered_lines (why_time symbols) 1 (map (time_of gaps) es)
 why_times_same symbols gaps es =
     numbered_same (λ rule t. why_time symbols rule (time_of gaps t)) (why_time symbols) (time_of gaps) (λ n e. refl) 1 es
+
+-- the lines of what rules cost are those of the report
+pub costs_same : (names : List Name) (es : List (Option CostEntry))
+    → numbered_lines (λ rule c. cost_line names rule (rule_cost_of c)) 1 es ≡ numbered_lines (cost_line names) 1 (map rule_cost_of es)
+costs_same names es = numbered_same (λ rule c. cost_line names rule (rule_cost_of c)) (cost_line names) rule_cost_of (λ n e. refl) 1 es
+
+-- and so are the lines that say why their bounds are missing
+pub why_costs_same : (es : List (Option CostEntry))
+    → numbered_lines (λ rule c. why_cost rule (rule_cost_of c)) 1 es ≡ numbered_lines why_cost 1 (map rule_cost_of es)
+why_costs_same es = numbered_same (λ rule c. why_cost rule (rule_cost_of c)) why_cost rule_cost_of (λ n e. refl) 1 es
 
 -- the lines of a rule's places, and of the places of all rules
 pub sizes_same : {R : Type 0} (items : R → List SizeEntry) (names : List Name) (rows : List R)

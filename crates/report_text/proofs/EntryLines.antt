@@ -1,15 +1,15 @@
--- The lines of times, sizes and the total determine the text behind the colon.
+-- The lines of times, costs, sizes and the total determine the text behind the colon.
 use Rattle.std.proofs.Common.{◌≡◌, ℕ, ◌+◌, ◌^◌, ◌≤◌, Bool, true, false, cond, List, [], ◌∷◌, ◌++◌, length, get_or}
-use Rattle.std.proofs.Common.{codes, decimal, refl, ap, Option, Some, None, IsSome, arith}
+use Rattle.std.proofs.Common.{codes, decimal, refl, ap, Option, Some, None, is_some, IsSome, arith}
 use Rattle.std.specs.Prelude.{⊤}
 use Rattle.std.specs.List.{AllByRecursion}
 use Rattle.model.specs.Programs.{Name, Program}
 use Rattle.model.specs.Bounds.{Bound}
 use Rattle.its_model.specs.text_core.Names.{AreNames}
-use Rattle.outcome.specs.Reports.{Time, Timed, Untimed, Size, Sized, Unsized}
+use Rattle.outcome.specs.Reports.{Time, Timed, Untimed, RuleCost, Costed, Uncosted, Size, Sized, Unsized}
 use Rattle.report_text.specs.Pieces.{place_text, numbered_lines}
-use Rattle.report_text.specs.Reports.{time_end, time_line, total_line, size_end, size_line, size_lines, bound_end}
-use Rattle.report_text.specs.Reports.{none_end}
+use Rattle.report_text.specs.Reports.{time_end, time_line, cost_end, cost_line, total_end, total_line}
+use Rattle.report_text.specs.Reports.{size_end, size_line, size_lines, bound_end, none_end}
 use Rattle.report_text.specs.Printable.{IsPrintableTotal}
 use Rattle.report_text.proofs.TellingTexts.{inside, inside_three, same_behind}
 use Rattle.report_text.proofs.BoundLines.{IsLine, lines_same, bound_line, bound_same, none_line}
@@ -26,6 +26,17 @@ headline_determined false false u v e = (refl, same_behind (codes "unknown\n") u
 abbrev pub SaySame : List Name → Time → Time → Type 0
 SaySame names t s = time_end names t ≡ time_end names s
 
+-- the lines of two costs say the same, or neither has a line
+abbrev pub CostsSaySame : List Name → Option RuleCost → Option RuleCost → Type 0
+CostsSaySame names None None = ⊤
+CostsSaySame names None (Some d) = ⊥
+CostsSaySame names (Some c) None = ⊥
+CostsSaySame names (Some c) (Some d) = cost_end names c ≡ cost_end names d
+
+-- two rules both have a cost, or neither has one
+abbrev pub BothCost : Option RuleCost → Option RuleCost → Type 0
+BothCost c d = is_some c ≡ is_some d
+
 -- the lines of two sizes say the same
 abbrev pub SizesSaySame : List Name → Size → Size → Type 0
 SizesSaySame names t s = size_end names t ≡ size_end names s
@@ -41,6 +52,16 @@ module _ (names : List Name) (are : AreNames names) where
   time_ends (Timed b) = bound_line names are b
   time_ends (Untimed w) = none_line
 
+  -- a cost ends its line
+  cost_ends : (c : RuleCost) → IsLine (cost_end names c)
+  cost_ends (Costed b) = bound_line names are b
+  cost_ends (Uncosted w) = none_line
+
+  -- the total ends its line
+  total_ends : (a : Option Bound) → IsLine (total_end names a)
+  total_ends (Some b) = bound_line names are b
+  total_ends None = none_line
+
   -- the same for a size
   size_ends : (s : Size) → IsLine (size_end names s)
   size_ends (Sized b) = bound_line names are b
@@ -54,6 +75,29 @@ module _ (names : List Name) (are : AreNames names) where
       (λ n t s w z short p q like k l d.
       lines_same (time_end names t) (time_end names s) (time_ends t) (time_ends s) w z (inside_three (codes "time ") (decimal n) (codes ": ") (time_end names t) (time_end names s) w z d))
       (λ n m t w over short h. tt) 1 ts ss u v few (omega (arith, few, same)) (all_fit ts) (all_fit ss) (pairs_any ts ss same) (λ m. tt) (λ m. tt) e
+
+  -- the line of a rule's cost, where both have one or neither has
+  cost_step : (n : ℕ) (c d : Option RuleCost) (u v : List ℕ) → BothCost c d → cost_line names n c ++ u ≡ cost_line names n d ++ v
+      → CostsSaySame names c d × (u ≡ v)
+  cost_step n None None u v both e = (tt, e)
+  cost_step n None (Some d) u v both e = absurd (let no = both in cc)
+  cost_step n (Some c) None u v both e = absurd (let no = both in cc)
+  cost_step n (Some c) (Some d) u v both e =
+      lines_same (cost_end names c) (cost_end names d) (cost_ends c) (cost_ends d) u v
+      (inside_three (codes "cost ") (decimal n) (codes ": ") (cost_end names c) (cost_end names d) u v e)
+
+  -- the lines of all costs
+  pub costs_say : (cs ds : List (Option RuleCost)) (u v : List ℕ) → Pairs BothCost cs ds → 1 + length cs ≤ 2 ^ 64 → 1 + length ds ≤ 2 ^ 64
+      → numbered_lines (cost_line names) 1 cs ++ u ≡ numbered_lines (cost_line names) 1 ds ++ v → Pairs (CostsSaySame names) cs ds × (u ≡ v)
+  costs_say cs ds u v both few less e =
+      numbered_determined (λ c. ⊤) BothCost (CostsSaySame names) (λ n w. ⊤) (cost_line names)
+      (λ n c d w z short p q like k l h. cost_step n c d w z like h)
+      (λ n m c w over short h. tt) 1 cs ds u v few less (all_fit cs) (all_fit ds) both (λ m. tt) (λ m. tt) e
+
+  -- the line of the total
+  pub total_says : (a b : Option Bound) (u v : List ℕ) → total_line names a ++ u ≡ total_line names b ++ v → (total_end names a ≡ total_end names b) × (u ≡ v)
+  total_says a b u v e =
+      lines_same (total_end names a) (total_end names b) (total_ends a) (total_ends b) u v (inside (codes "total: ") (total_end names a) (total_end names b) u v e)
 
   -- the lines of places
   pub places_say : (rule : ℕ) (ts ss : List Size) (u v : List ℕ) → length ts ≡ length ss → 1 + length ts ≤ 2 ^ 64 → size_lines names rule ts ++ u ≡ size_lines names rule ss ++ v
@@ -73,13 +117,10 @@ module _ (names : List Name) (are : AreNames names) where
       (λ n t s w z short p q like k l d. places_say n t s w z like p d)
       (λ n m t w over short h. tt) 1 ts ss u v few less small also same (λ m. tt) (λ m. tt) e
 
--- the line of the total, where both have one or none has
-pub total_determined : (p : Program) → AreNames p.start_names → (a b : Option Bound) (u v : List ℕ) → IsPrintableTotal p a → IsPrintableTotal p b → (IsSome a → IsSome b) → (IsSome b → IsSome a)
-    → total_line p.start_names a ++ u ≡ total_line p.start_names b ++ v → (a ≡ b) × (u ≡ v)
-total_determined p are (Some a) (Some b) u v h k s t e =
-    let r = lines_same (bound_end p.start_names a) (bound_end p.start_names b) (bound_line p.start_names are a) (bound_line p.start_names are b) u v
-    (inside (codes "total: ") (bound_end p.start_names a) (bound_end p.start_names b) u v e) in
-    (ap Some (bound_same p.start_names are a b h k r.0), r.1)
-total_determined p are (Some a) None u v h k s t e = absurd (let no = s refl in cc)
-total_determined p are None (Some b) u v h k s t e = absurd (let no = t refl in cc)
-total_determined p are None None u v h k s t e = (refl, (lines_same none_end none_end none_line none_line u v (inside (codes "total: ") none_end none_end u v e)).1)
+-- totals whose lines say the same are the same, where both are there or neither is
+pub total_determined : (p : Program) → AreNames p.start_names → (a b : Option Bound) → IsPrintableTotal p a → IsPrintableTotal p b → (IsSome a → IsSome b) → (IsSome b → IsSome a)
+    → total_end p.start_names a ≡ total_end p.start_names b → a ≡ b
+total_determined p are (Some a) (Some b) h k s t e = ap Some (bound_same p.start_names are a b h k e)
+total_determined p are (Some a) None h k s t e = absurd (let no = s refl in cc)
+total_determined p are None (Some b) h k s t e = absurd (let no = t refl in cc)
+total_determined p are None None h k s t e = refl

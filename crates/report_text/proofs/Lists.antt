@@ -79,18 +79,29 @@ rows_more {R} {X} rows items line i d row old new all lt inv e f g =
     numbered_more (λ n r. numbered_lines (line n) 1 (items r)) rows i d old new all lt inv
     (g ∙ ap (λ (xs : List X). old ++ numbered_lines (line (i + 1)) 1 xs) (e ∙ ap items f))
 
--- two pieces, and four, appended to a text
+-- two pieces, then three and five, appended to a text
 pub two_pushed : (old p q a b c d : List ℕ) → p ≡ old ++ a → a ≡ c → q ≡ p ++ b → b ≡ d → q ≡ old ++ (c ++ d)
 two_pushed old p q a b c d ep ea eq eb =
     let whole : q ≡ (old ++ c) ++ d = cc in
     whole ∙ append_assoc old c d
 
--- four appended pieces follow the text in order, each given by an equation
-pub four_pushed : (old p q r s a b c d e f g h : List ℕ) → p ≡ old ++ a → a ≡ e → q ≡ p ++ b → b ≡ f → r ≡ q ++ c → c ≡ g
-    → s ≡ r ++ d → d ≡ h → s ≡ old ++ (e ++ (f ++ (g ++ h)))
-four_pushed old p q r s a b c d e f g h ep ea eq eb er ec es ed =
-    let whole : s ≡ ((old ++ e) ++ f) ++ g ++ h = cc in
-    whole ∙ (append_assoc ((old ++ e) ++ f) g h ∙ (append_assoc (old ++ e) f (g ++ h) ∙ append_assoc old e (f ++ (g ++ h))))
+-- three appended pieces follow the text in order, each given by an equation
+pub three_pushed : (old p q r a b c d e f : List ℕ) → p ≡ old ++ a → a ≡ d → q ≡ p ++ b → b ≡ e → r ≡ q ++ c → c ≡ f
+    → r ≡ old ++ (d ++ (e ++ f))
+three_pushed old p q r a b c d e f ep ea eq eb er ec =
+    er
+    ∙ (ap (λ (t : List ℕ). t ++ c) (two_pushed old p q a b d e ep ea eq eb)
+    ∙ (ap (λ (t : List ℕ). (old ++ (d ++ e)) ++ t) ec
+    ∙ (append_assoc old (d ++ e) f ∙ ap (λ (t : List ℕ). old ++ t) (append_assoc d e f))))
+
+-- the same for five pieces
+pub five_pushed : (old p q r s t a b c d e f g h i j : List ℕ) → p ≡ old ++ a → a ≡ f → q ≡ p ++ b → b ≡ g → r ≡ q ++ c
+    → c ≡ h → s ≡ r ++ d → d ≡ i → t ≡ s ++ e → e ≡ j → t ≡ old ++ (f ++ (g ++ (h ++ (i ++ j))))
+five_pushed old p q r s t a b c d e f g h i j ep ea eq eb er ec es ed et ee =
+    two_pushed r s t d e i j es ed et ee
+    ∙ (ap (λ (x : List ℕ). x ++ (i ++ j)) (three_pushed old p q r a b c f g h ep ea eq eb er ec)
+    ∙ (append_assoc old (f ++ (g ++ h)) (i ++ j)
+    ∙ ap (λ (x : List ℕ). old ++ x) (append_assoc f (g ++ h) (i ++ j) ∙ ap (λ (x : List ℕ). f ++ x) (append_assoc g h (i ++ j)))))
 
 -- two pieces appended to an empty text are the whole, each given by an equation
 pub whole_pushed : (old p q a b c d : List ℕ) → old ≡ [] → p ≡ old ++ a → a ≡ c → q ≡ p ++ b → b ≡ d → q ≡ c ++ d

@@ -1,19 +1,23 @@
 -- A text states one report at most: it is read line by line from the front.
 use Rattle.std.proofs.Common.{◌≡◌, ℕ, zero, suc, ◌+◌, ◌^◌, ◌≤◌, List, [], ◌∷◌, ◌++◌, length, map, get_or, drop}
-use Rattle.std.proofs.Common.{slice_get, refl, sym, ◌∙◌, ap, append_assoc, arith}
+use Rattle.std.proofs.Common.{Bool, Option, is_some, slice_get, refl, sym, ◌∙◌, ap, append_assoc, arith}
 use Rattle.std.specs.List.{AllByRecursion, list_all}
+use Rattle.std.proofs.lemmas.List.{length-map}
 use Rattle.model.specs.Programs.{Symbol, Rule, Program, arity_in, arity_of}
 use Rattle.its_model.specs.text_core.Names.{AreNames}
 use Rattle.its_model.specs.Valid.{IsValid, IsValidSymbol}
-use Rattle.outcome.specs.Reports.{Size, Report, is_timed}
+use Rattle.outcome.specs.Reports.{RuleCost, Size, Report, is_bounded, spendings}
 use Rattle.report_text.specs.Pieces.{numbered_lines}
-use Rattle.report_text.specs.Reports.{headline, time_line, total_line, size_lines, why_time, why_sizes, text_of_report}
+use Rattle.report_text.specs.Reports.{headline, time_line, cost_line, total_line, size_lines}
+use Rattle.report_text.specs.Reports.{why_time, why_cost, why_sizes, text_of_report}
 use Rattle.report_text.specs.States.{States}
 use Rattle.report_text.specs.Printable.{IsPrintableSize, IsPrintableReport}
 use Rattle.report_text.specs.OneReport.{TextsStateOneReport}
 use Rattle.report_text.proofs.SymbolNames.{names_of, are_names, valid_names}
-use Rattle.report_text.proofs.EntryLines.{SizesSaySame, headline_determined, times_say, rows_say, total_determined}
-use Rattle.report_text.proofs.WhyLines.{FitsRow, sizes_no_time, why_times_determined, why_sizes_determined}
+use Rattle.report_text.proofs.EntryLines.{BothCost, SizesSaySame, headline_determined, times_say, costs_say, total_says}
+use Rattle.report_text.proofs.EntryLines.{rows_say, total_determined}
+use Rattle.report_text.proofs.WhyLines.{FitsRow, sizes_no_cost, others_no_time, why_times_determined, why_costs_determined}
+use Rattle.report_text.proofs.WhyLines.{why_sizes_determined}
 use Rattle.report_text.proofs.Numbered.{Pairs}
 
 -- symbols have few places
@@ -58,20 +62,35 @@ rows_fit : (p : Program) (rows : List (List Size)) → AllByRecursion (AllByRecu
 rows_fit p [] f g = tt
 rows_fit p (row ∷ rows) f g = ((f.0, g.0), rows_fit p rows f.1 g.1)
 
+-- costs of two reports on one program are paired: both are there, or neither is
+costs_paired : (cs ds : List (Option RuleCost)) → map is_some cs ≡ map is_some ds → Pairs BothCost cs ds
+costs_paired [] [] e = tt
+costs_paired [] (d ∷ ds) e = absurd cc
+costs_paired (c ∷ cs) [] e = absurd cc
+costs_paired (c ∷ cs) (d ∷ ds) e = (ap (λ (bs : List Bool). get_or bs 0 (is_some c)) e, costs_paired cs ds (ap (drop 1) e))
+
+-- and there are as many as rules
+costs_many : (cs : List (Option RuleCost)) (rules : List Rule) → map is_some cs ≡ map (λ rule. is_some rule.cost) rules → length cs ≡ length rules
+costs_many cs rules e = sym (length-map cs is_some) ∙ (ap length e ∙ length-map rules (λ rule. is_some rule.cost))
+
 -- the lines of a text, one part behind the other
-laid_out : (a b c d w s : List ℕ) → (a ++ (b ++ (c ++ d))) ++ (w ++ s) ≡ a ++ (b ++ (c ++ (d ++ (w ++ s))))
-laid_out a b c d w s =
-    append_assoc a (b ++ (c ++ d)) (w ++ s)
-    ∙ ap (λ (t : List ℕ). a ++ t) (append_assoc b (c ++ d) (w ++ s) ∙ ap (λ (t : List ℕ). b ++ t) (append_assoc c d (w ++ s)))
+laid_out : (a b c d e w x s : List ℕ) → (a ++ (b ++ (c ++ (d ++ e)))) ++ (w ++ (x ++ s)) ≡ a ++ (b ++ (c ++ (d ++ (e ++ (w ++ (x ++ s))))))
+laid_out a b c d e w x s =
+    let more = w ++ (x ++ s) in
+    append_assoc a (b ++ (c ++ (d ++ e))) more
+    ∙ ap (λ (t : List ℕ). a ++ t) (append_assoc b (c ++ (d ++ e)) more
+    ∙ ap (λ (t : List ℕ). b ++ t) (append_assoc c (d ++ e) more ∙ ap (λ (t : List ℕ). c ++ t) (append_assoc d e more)))
 
 -- the parts of a report's text
 parts_of : (p : Program) (r : Report) → text_of_report p r
-    ≡ headline r.times ++ (numbered_lines (time_line p.start_names) 1 r.times ++ (total_line p.start_names r.total ++ (numbered_lines (size_lines p.start_names) 1 r.sizes
-    ++ (numbered_lines (why_time p.symbols) 1 r.times ++ numbered_lines why_sizes 1 r.sizes))))
+    ≡ headline r ++ (numbered_lines (time_line p.start_names) 1 r.times ++ (numbered_lines (cost_line p.start_names) 1 r.costs
+    ++ (total_line p.start_names r.total ++ (numbered_lines (size_lines p.start_names) 1 r.sizes
+    ++ (numbered_lines (why_time p.symbols) 1 r.times ++ (numbered_lines why_cost 1 r.costs ++ numbered_lines why_sizes 1 r.sizes))))))
 unfolding text_of_report
 parts_of p r =
-    laid_out (headline r.times) (numbered_lines (time_line p.start_names) 1 r.times) (total_line p.start_names r.total) (numbered_lines (size_lines p.start_names) 1 r.sizes)
-    (numbered_lines (why_time p.symbols) 1 r.times) (numbered_lines why_sizes 1 r.sizes)
+    laid_out (headline r) (numbered_lines (time_line p.start_names) 1 r.times) (numbered_lines (cost_line p.start_names) 1 r.costs)
+    (total_line p.start_names r.total) (numbered_lines (size_lines p.start_names) 1 r.sizes)
+    (numbered_lines (why_time p.symbols) 1 r.times) (numbered_lines why_cost 1 r.costs) (numbered_lines why_sizes 1 r.sizes)
 
 -- the lines of sizes determine them: the two entries of each pair are the same, they are printable, and the rest of the
 -- text is the same
@@ -94,7 +113,7 @@ module _ (p : Program) (valid : IsValid p) where
 
   -- the lines of a report's reasons
   abbrev reasons : Report → List ℕ
-  reasons r = numbered_lines (why_time p.symbols) 1 r.times ++ numbered_lines why_sizes 1 r.sizes
+  reasons r = numbered_lines (why_time p.symbols) 1 r.times ++ (numbered_lines why_cost 1 r.costs ++ numbered_lines why_sizes 1 r.sizes)
 
   -- as many lines as rules are few
   few_lines : (n : ℕ) → n ≡ length p.rules → 1 + n ≤ 2 ^ 64
@@ -118,18 +137,28 @@ module _ (p : Program) (valid : IsValid p) where
       let names = p.start_names in
       let sizes = λ (o : Report). numbered_lines (size_lines names) 1 o.sizes ++ reasons o in
       let total = λ (o : Report). total_line names o.total ++ sizes o in
-      let times = λ (o : Report). numbered_lines (time_line names) 1 o.times ++ total o in
-      let head = headline_determined (list_all is_timed r.times) (list_all is_timed q.times) (times r) (times q) (sym (parts_of p r) ∙ (sym s.text_of ∙ (t.text_of ∙ parts_of p q))) in
+      let costs = λ (o : Report). numbered_lines (cost_line names) 1 o.costs ++ total o in
+      let times = λ (o : Report). numbered_lines (time_line names) 1 o.times ++ costs o in
+      let head = headline_determined (is_bounded r) (is_bounded q) (times r) (times q) (sym (parts_of p r) ∙ (sym s.text_of ∙ (t.text_of ∙ parts_of p q))) in
       let few = few_lines (length r.times) s.report.times in
       let less = few_lines (length q.times) t.report.times in
-      let said = times_say names starts r.times q.times (total r) (total q) (s.report.times ∙ sym t.report.times) few head.1 in
-      let whole = total_determined p starts r.total q.total (sizes r) (sizes q) f.total g.total
-      (λ there. t.report.total.0 (sym head.0 ∙ s.report.total.1 there)) (λ there. s.report.total.0 (head.0 ∙ t.report.total.1 there)) said.1 in
-      let rows = rows_told r q f g s.report.sizes t.report.sizes whole.1 in
-      let why = why_times_determined p starts named r.times q.times (numbered_lines why_sizes 1 r.sizes) (numbered_lines why_sizes 1 q.sizes) few less f.times g.times said.0
-      (λ n. sizes_no_time n 1 r.sizes) (λ n. sizes_no_time n 1 q.sizes) rows.rest in
-      let places = why_sizes_determined p starts named r.sizes q.sizes rows.few rows.less rows.left rows.right rows.say why.1 in
-      λ i. record { times = why.0 i; total = whole.0 i; sizes = places i }
+      let said = times_say names starts r.times q.times (costs r) (costs q) (s.report.times ∙ sym t.report.times) few head.1 in
+      let few_costs = few_lines (length r.costs) (costs_many r.costs p.rules s.report.costs) in
+      let less_costs = few_lines (length q.costs) (costs_many q.costs p.rules t.report.costs) in
+      let paid = costs_say names starts r.costs q.costs (total r) (total q) (costs_paired r.costs q.costs (s.report.costs ∙ sym t.report.costs)) few_costs less_costs said.1 in
+      let summed = total_says names starts r.total q.total (sizes r) (sizes q) paid.1 in
+      let rows = rows_told r q f g s.report.sizes t.report.sizes summed.1 in
+      let why = why_times_determined p starts named r.times q.times (numbered_lines why_cost 1 r.costs ++ numbered_lines why_sizes 1 r.sizes)
+      (numbered_lines why_cost 1 q.costs ++ numbered_lines why_sizes 1 q.sizes) few less f.times g.times said.0
+      (λ n. others_no_time n r.costs r.sizes) (λ n. others_no_time n q.costs q.sizes) rows.rest in
+      let why_costs = why_costs_determined p starts named r.costs q.costs (numbered_lines why_sizes 1 r.sizes) (numbered_lines why_sizes 1 q.sizes) few_costs less_costs f.costs g.costs paid.0
+      (λ n. sizes_no_cost n 1 r.sizes) (λ n. sizes_no_cost n 1 q.sizes) why.1 in
+      let places = why_sizes_determined p starts named r.sizes q.sizes rows.few rows.less rows.left rows.right rows.say why_costs.1 in
+      let known : list_all is_some (spendings r.times r.costs) ≡ list_all is_some (spendings q.times q.costs) =
+      λ i. list_all is_some (spendings (why.0 i) (why_costs.0 i)) in
+      let whole = total_determined p starts r.total q.total f.total g.total
+      (λ there. t.report.total.0 (sym known ∙ s.report.total.1 there)) (λ there. s.report.total.0 (known ∙ t.report.total.1 there)) summed.0 in
+      λ i. record { times = why.0 i; costs = why_costs.0 i; total = whole i; sizes = places i }
 
 -- a text states one report at most
 pub one_report : TextsStateOneReport

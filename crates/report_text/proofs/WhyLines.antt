@@ -1,15 +1,16 @@
--- The lines that say why times and sizes are missing determine which these are, and why.
+-- The lines that say why times, bounds on costs and sizes are missing determine which these are, and why.
 use Rattle.std.proofs.Common.{◌≡◌, ℕ, suc, ◌+◌, ◌^◌, ◌<◌, ◌≤◌, List, [], ◌∷◌, ◌++◌, length, get_or, codes, decimal}
-use Rattle.std.proofs.Common.{refl, sym, ◌∙◌, ap, append_assoc, append-nil, arith}
+use Rattle.std.proofs.Common.{◌≢◌, Option, Some, None, refl, sym, ◌∙◌, ap, append_assoc, append-nil, arith}
 use Rattle.std.specs.List.{AllByRecursion}
 use Rattle.model.specs.Programs.{Program}
+use Rattle.model.specs.Bounds.{Bound}
 use Rattle.its_model.specs.text_core.Names.{AreNames}
 use Rattle.its_model.proofs.text_core.PrefixLaws.{Stops}
-use Rattle.outcome.specs.Reports.{Time, Timed, Untimed, Size, Sized, Unsized}
+use Rattle.outcome.specs.Reports.{Time, Timed, Untimed, NoSize, RuleCost, Costed, Uncosted, Size, Sized, Unsized}
 use Rattle.report_text.specs.Pieces.{place_text, numbered_lines}
 use Rattle.report_text.specs.Reasons.{no_time_text, no_size_text}
-use Rattle.report_text.specs.Reports.{why_time, why_size, why_sizes}
-use Rattle.report_text.specs.Printable.{IsShort, IsPrintableTime, IsPrintableSize}
+use Rattle.report_text.specs.Reports.{why_time, why_cost, why_size, why_sizes}
+use Rattle.report_text.specs.Printable.{IsShort, IsPrintableTime, IsPrintableCost, IsPrintableSize}
 use Rattle.report_text.proofs.TellingTexts.{Determines, Any, determined_before, same_behind, inside, inside_three}
 use Rattle.report_text.proofs.Digits.{counts, number_determined}
 use Rattle.report_text.proofs.Points.{pair_determined}
@@ -17,7 +18,7 @@ use Rattle.report_text.proofs.SymbolNames.{names_of}
 use Rattle.report_text.proofs.GapLines.{Whys}
 use Rattle.report_text.proofs.ReasonLines.{no_time_determined, no_size_determined}
 use Rattle.report_text.proofs.BoundLines.{bound_same}
-use Rattle.report_text.proofs.EntryLines.{SaySame, SizesSaySame}
+use Rattle.report_text.proofs.EntryLines.{SaySame, CostsSaySame, SizesSaySame}
 use Rattle.report_text.proofs.Numbered.{Pairs, pairs_same, numbered_determined}
 
 -- nothing follows, or a reason that doesn't begin like this
@@ -28,6 +29,10 @@ pub record IsLater (lead u : List ℕ) : Type 0 where
 -- what the reason of a rule begins with
 abbrev pub time_lead : ℕ → List ℕ
 time_lead n = codes "why time " ++ (decimal n ++ codes ": ")
+
+-- what the reason of a rule's cost begins with
+abbrev pub cost_lead : ℕ → List ℕ
+cost_lead n = codes "why cost " ++ (decimal n ++ codes ": ")
 
 -- what the reason of a place begins with
 abbrev pub place_lead : ℕ → ℕ → List ℕ
@@ -81,6 +86,39 @@ module _ (p : Program) (are : AreNames p.start_names) (named : AreNames (names_o
       let r = numbered_determined (IsPrintableTime p) (SaySame p.start_names) (λ t s. t ≡ s) (λ n w. IsLater (time_lead n) w) (why_time p.symbols) time_step time_later 1 ts ss u v few less f g like k l e in
       (pairs_same ts ss r.0, r.1)
 
+  -- why the bounds on two rules' costs are missing, if they are
+  cost_step : (n : ℕ) (c d : Option RuleCost) (u v : List ℕ) → n < 2 ^ 64 → IsPrintableCost p c → IsPrintableCost p d → CostsSaySame p.start_names c d
+      → IsLater (cost_lead n) u → IsLater (cost_lead n) v → why_cost n c ++ u ≡ why_cost n d ++ v → (c ≡ d) × (u ≡ v)
+  cost_step n None None u v short f g like k l e = (refl, e)
+  cost_step n None (Some d) u v short f g like k l e = absurd like
+  cost_step n (Some c) None u v short f g like k l e = absurd like
+  cost_step n (Some (Costed a)) (Some (Costed b)) u v short f g like k l e = (ap (λ (b : Bound). Some (Costed b)) (bound_same p.start_names are a b f g like), e)
+  cost_step n (Some (Costed a)) (Some (Uncosted w)) u v short f g like k l e = absurd (k.no _ (e ∙ begins (codes "why cost ") (decimal n) (codes ": ") (no_size_text w) v))
+  cost_step n (Some (Uncosted w)) (Some (Costed b)) u v short f g like k l e = absurd (l.no _ (sym e ∙ begins (codes "why cost ") (decimal n) (codes ": ") (no_size_text w) u))
+  cost_step n (Some (Uncosted w)) (Some (Uncosted z)) u v short f g like k l e =
+      let r = no_size_determined.each w z u v f g tt tt (inside_three (codes "why cost ") (decimal n) (codes ": ") (no_size_text w) (no_size_text z) u v e) in
+      (ap (λ (w : NoSize). Some (Uncosted w)) r.0, r.1)
+
+  -- the reason of a later rule's cost is later
+  cost_later : (n m : ℕ) (c : Option RuleCost) (u : List ℕ) → n < m → m < 2 ^ 64 → IsLater (cost_lead n) u → IsLater (cost_lead n) (why_cost m c ++ u)
+  cost_later n m None u over short h = h
+  cost_later n m (Some (Costed b)) u over short h = h
+  cost_later n m (Some (Uncosted w)) u over short h = record {
+    whys = refl;
+    no = λ x e.
+        let same = lead_key number_determined (codes "why cost ") m n short (omega (arith, over, short)) (no_size_text w ++ u) x
+        (sym (begins (codes "why cost ") (decimal m) (codes ": ") (no_size_text w) u) ∙ e) in
+        omega (arith, over, same);
+  }
+
+  -- why all bounds on costs are missing that are
+  pub why_costs_determined : (cs ds : List (Option RuleCost)) (u v : List ℕ) → 1 + length cs ≤ 2 ^ 64 → 1 + length ds ≤ 2 ^ 64 → AllByRecursion (IsPrintableCost p) cs → AllByRecursion (IsPrintableCost p) ds
+      → Pairs (CostsSaySame p.start_names) cs ds → ((n : ℕ) → IsLater (cost_lead n) u) → ((n : ℕ) → IsLater (cost_lead n) v)
+      → numbered_lines why_cost 1 cs ++ u ≡ numbered_lines why_cost 1 ds ++ v → (cs ≡ ds) × (u ≡ v)
+  why_costs_determined cs ds u v few less f g like k l e =
+      let r = numbered_determined (IsPrintableCost p) (CostsSaySame p.start_names) (λ c d. c ≡ d) (λ n w. IsLater (cost_lead n) w) why_cost cost_step cost_later 1 cs ds u v few less f g like k l e in
+      (pairs_same cs ds r.0, r.1)
+
   -- why the sizes of two places are missing, if they are
   size_step : (rule n : ℕ) (t s : Size) (u v : List ℕ) → n < 2 ^ 64 → IsPrintableSize p t → IsPrintableSize p s → SizesSaySame p.start_names t s
       → IsLater (place_lead rule n) u → IsLater (place_lead rule n) v → why_size rule n t ++ u ≡ why_size rule n s ++ v → (t ≡ s) × (u ≡ v)
@@ -133,22 +171,50 @@ row_later n m k (Unsized w ∷ row) u over short h = record {
       omega (arith, over, same);
 }
 
--- the reasons of places are none of rules
-row_no_time : (n rule k : ℕ) (row : List Size) (u : List ℕ) → IsLater (time_lead n) u → IsLater (time_lead n) (numbered_lines (why_size rule) k row ++ u)
-row_no_time n rule k [] u h = h
-row_no_time n rule k (Sized b ∷ row) u h = row_no_time n rule (suc k) row u h
-row_no_time n rule k (Unsized w ∷ row) u h = record { whys = refl; no = λ x e. let no : 115 ≡ 116 = ap (λ (y : List ℕ). get_or y 4 0) e in omega (arith, no) }
+-- the fifth byte of every text that begins so is this one, which no reason of a place has there
+record IsOtherLead (lead : List ℕ) : Type 0 where
+  pub fifth : ℕ
+  pub has : (w : List ℕ) → get_or (lead ++ w) 4 0 ≡ fifth
+  pub some : fifth ≢ 0
+  pub other : fifth ≢ 115
 
--- nor are those of all places
-pub sizes_no_time : (n k : ℕ) (rows : List (List Size)) → IsLater (time_lead n) (numbered_lines why_sizes k rows)
-sizes_no_time n k [] = record { whys = tt; no = λ x e. cc }
-sizes_no_time n k (row ∷ rows) = row_no_time n k 1 row (numbered_lines why_sizes (suc k) rows) (sizes_no_time n (suc k) rows)
+-- the reasons of places don't begin like those of times and of costs
+row_other : (lead : List ℕ) → IsOtherLead lead → (rule k : ℕ) (row : List Size) (u : List ℕ) → IsLater lead u → IsLater lead (numbered_lines (why_size rule) k row ++ u)
+row_other lead is rule k [] u h = h
+row_other lead is rule k (Sized b ∷ row) u h = row_other lead is rule (suc k) row u h
+row_other lead is rule k (Unsized w ∷ row) u h = record {
+  whys = refl;
+  no = λ x e.
+      let here : 115 ≡ get_or (lead ++ x) 4 0 = ap (λ (y : List ℕ). get_or y 4 0) e in
+      is.other (sym (here ∙ is.has x));
+}
 
--- after the reasons of times there are reasons alone
-pub whys_times : (p : Program) (n : ℕ) (ts : List Time) (u : List ℕ) → Whys u → Whys (numbered_lines (why_time p.symbols) n ts ++ u)
-whys_times p n [] u h = h
-whys_times p n (Timed b ∷ ts) u h = whys_times p (suc n) ts u h
-whys_times p n (Untimed w ∷ ts) u h = refl
+-- nor do those of all places
+sizes_other : (lead : List ℕ) → IsOtherLead lead → (k : ℕ) (rows : List (List Size)) → IsLater lead (numbered_lines why_sizes k rows)
+sizes_other lead is k [] = record {
+  whys = tt;
+  no = λ x e.
+      let here : 0 ≡ get_or (lead ++ x) 4 0 = ap (λ (y : List ℕ). get_or y 4 0) e in
+      is.some (sym (here ∙ is.has x));
+}
+sizes_other lead is k (row ∷ rows) = row_other lead is k 1 row (numbered_lines why_sizes (suc k) rows) (sizes_other lead is (suc k) rows)
+
+-- so the reasons of places are later than those of costs
+pub sizes_no_cost : (n k : ℕ) (rows : List (List Size)) → IsLater (cost_lead n) (numbered_lines why_sizes k rows)
+sizes_no_cost n k rows =
+    sizes_other (cost_lead n) (record { fifth = 99; has = λ w. refl; some = λ e. omega (arith, e); other = λ e. omega (arith, e) }) k rows
+
+-- the reasons of costs, and those of places behind them, are later than those of times
+costs_no_time : (n k : ℕ) (cs : List (Option RuleCost)) (u : List ℕ) → IsLater (time_lead n) u → IsLater (time_lead n) (numbered_lines why_cost k cs ++ u)
+costs_no_time n k [] u h = h
+costs_no_time n k (None ∷ cs) u h = costs_no_time n (suc k) cs u h
+costs_no_time n k (Some (Costed b) ∷ cs) u h = costs_no_time n (suc k) cs u h
+costs_no_time n k (Some (Uncosted w) ∷ cs) u h = record { whys = refl; no = λ x e. let no : 99 ≡ 116 = ap (λ (y : List ℕ). get_or y 4 0) e in omega (arith, no) }
+
+pub others_no_time : (n : ℕ) (cs : List (Option RuleCost)) (rows : List (List Size)) → IsLater (time_lead n) (numbered_lines why_cost 1 cs ++ numbered_lines why_sizes 1 rows)
+others_no_time n cs rows =
+    costs_no_time n 1 cs (numbered_lines why_sizes 1 rows)
+    (sizes_other (time_lead n) (record { fifth = 116; has = λ w. refl; some = λ e. omega (arith, e); other = λ e. omega (arith, e) }) 1 rows)
 
 -- a rule's places fit
 abbrev pub FitsRow : Program → List Size → Type 0

@@ -1,6 +1,5 @@
 -- Preconditions of the report's functions: entries of the code, and their lines.
-use Rattle.std.specs.Prelude.{ℕ, Bool, true, false, cond, List, ◌++◌, Option, codes, decimal}
-use Rattle.std.specs.List.{list_all}
+use Rattle.std.specs.Prelude.{ℕ, List, ◌++◌, Option, codes, decimal}
 use Rattle.std.specs.Option.{option_map}
 use Rattle.model.specs.Programs.{Name}
 use Rattle.model.specs.Bounds.{Bound}
@@ -8,6 +7,9 @@ use Rattle.bound_expr.specs.Views.{bound_of}
 use Rattle.bound_expr.specs.declared.bound.Bound as code
 use Rattle.outcome.specs.declared.entry.TimeEntry.{TimeEntry}
 use Rattle.outcome.specs.declared.entry.TimeEntry.TheVariants as times
+use Rattle.outcome.specs.declared.entry.CostEntry.{CostEntry}
+use Rattle.outcome.specs.Reports.{RuleCost}
+use Rattle.outcome.specs.Views.{cost_of}
 use Rattle.report_text.specs.Reports.{bound_end, none_end}
 
 -- the line of a rule's entry
@@ -24,12 +26,6 @@ entry_line names rule e = codes "time " ++ (decimal rule ++ (codes ": " ++ entry
 abbrev pub total_of : Option code.Bound → Option Bound
 total_of o = option_map bound_of o
 
--- whether an entry is a time, and the headline of entries
-abbrev pub is_known : TimeEntry → Bool
-is_known (times.Known s) = true
-is_known (times.Gap g) = false
-is_known (times.OutOfLimits t) = false
-is_known (times.Large nodes) = false
-
-abbrev pub headline_of : List TimeEntry → List ℕ
-headline_of entries = cond (list_all is_known entries) (codes "bounded\n") (codes "unknown\n")
+-- the cost of a rule as plain data, where it has one
+abbrev pub rule_cost_of : Option CostEntry → Option RuleCost
+rule_cost_of o = option_map cost_of o

@@ -19,7 +19,7 @@ use Rattle.farkas_cert.specs.linear_forms.declared.limit_cause.LimitCause.TheVar
 use Rattle.cert_types.specs.declared.answer.LimitHit.{LimitHit}
 use Rattle.outcome.specs.Reports.{NoTime, NoFunction, TimeTripped, TimeLarge, Time, Timed, Untimed}
 use Rattle.outcome.specs.Reports.{NoSize, SizeUnbounded, SizeTripped, SizeMissing, SizeNonlinear, SizeUntimed, SizeLarge}
-use Rattle.outcome.specs.Reports.{Size, Sized, Unsized, Report}
+use Rattle.outcome.specs.Reports.{Size, Sized, Unsized, RuleCost, Costed, Uncosted, Report}
 
 -- a number has 64 bits
 abbrev pub IsShort : ℕ → Type 0
@@ -101,6 +101,12 @@ abbrev pub IsPrintableTime : Program → Time → Type 0
 IsPrintableTime p (Timed b) = IsPrintableBound (length p.start_names) b
 IsPrintableTime p (Untimed w) = IsPrintableNoTime (length p.symbols) w
 
+-- a cost is printable on a program, where the rule has one
+abbrev pub IsPrintableCost : Program → Option RuleCost → Type 0
+IsPrintableCost p None = ⊤
+IsPrintableCost p (Some (Costed b)) = IsPrintableBound (length p.start_names) b
+IsPrintableCost p (Some (Uncosted w)) = IsPrintableNoSize w
+
 -- a size is printable on a program
 abbrev pub IsPrintableSize : Program → Size → Type 0
 IsPrintableSize p (Sized b) = IsPrintableBound (length p.start_names) b
@@ -114,5 +120,6 @@ IsPrintableTotal p None = ⊤
 -- a report is printable on a program: its entries are
 pub record IsPrintableReport (p : Program) (r : Report) : Type 0 where
   pub times : AllByRecursion (IsPrintableTime p) r.times
+  pub costs : AllByRecursion (IsPrintableCost p) r.costs
   pub total : IsPrintableTotal p r.total
   pub sizes : AllByRecursion (AllByRecursion (IsPrintableSize p)) r.sizes

@@ -1,19 +1,20 @@
 -- Worked values of small reports and their texts: what texts distinguish, and what they don't.
-use Rattle.std.specs.Prelude.{◌≡◌, ℕ, List, [], ◌∷◌, ◌++◌, replicate, Some, None, codes}
-use Rattle.model.specs.Terms.{Variable}
+use Rattle.std.specs.Prelude.{◌≡◌, ℕ, List, [], ◌∷◌, ◌++◌, replicate, Option, Some, None, codes}
+use Rattle.model.specs.Terms.{Term, Variable}
 use Rattle.model.specs.Programs.{Program}
-use Rattle.model.specs.Bounds.{Input}
+use Rattle.model.specs.Bounds.{Bound, Constant, Input}
 use Rattle.its_model.specs.Valid.{IsValid}
 use Rattle.cert_types.specs.cert_rules.Gaps.{ScaledPoint, SymbolPlace, Gap}
 use Rattle.outcome.specs.Holding.{IsReportOn}
-use Rattle.outcome.specs.Reports.{TimeLarge, Timed, Untimed, SizeUntimed, Size, Sized, Unsized, Report}
+use Rattle.outcome.specs.Reports.{Time, TimeLarge, Timed, Untimed, SizeUntimed, SizeLarge, Size, Sized, Unsized}
+use Rattle.outcome.specs.Reports.{RuleCost, Costed, Uncosted, Report}
 use Rattle.report_text.specs.Reasons.{gap_text}
 use Rattle.report_text.specs.Reports.{text_of_report}
 use Rattle.report_text.specs.Printable.{IsPrintableGap, IsPrintableReport}
 
--- the program f(unknown) -> g(unknown, .., unknown), with this many places of g
-abbrev pub leading_to : ℕ → Program
-leading_to n = record {
+-- the program f(unknown) -> g(unknown, .., unknown), with this many places of g and this cost or none
+abbrev pub leading_at_cost : ℕ → Option Term → Program
+leading_at_cost n c = record {
   symbols = record { name = codes "f"; arity = 1 } ∷ record { name = codes "g"; arity = n } ∷ [];
   start = 0;
   start_names = codes "unknown" ∷ [];
@@ -25,18 +26,23 @@ leading_to n = record {
     names = codes "unknown" ∷ [];
     updates = replicate n (Variable 0);
     guard = [];
-    cost = None;
+    cost = c;
   } ∷ [];
 }
 
+abbrev pub leading_to : ℕ → Program
+leading_to n = leading_at_cost n None
+
 -- the variable as the time and as the total, and sizes
 abbrev pub timed_by_variable : List (List Size) → Report
-timed_by_variable sizes = record { times = Timed (Input 0) ∷ []; total = Some (Input 0); sizes = sizes }
+timed_by_variable sizes =
+    record { times = Timed (Input 0) ∷ []; costs = None ∷ []; total = Some (Input 0); sizes = sizes }
 
 -- no time, since its bound has 5,000 nodes, and no size, since there is no time
 abbrev pub without_time : Report
 without_time = record {
   times = Untimed (TimeLarge 5000) ∷ [];
+  costs = None ∷ [];
   total = None;
   sizes = (Unsized (SizeUntimed 1) ∷ []) ∷ [];
 }
@@ -51,6 +57,45 @@ bare_gap shut moves = record {
   floor = record { parts = []; den = 1 };
   kept = [];
 }
+
+-- the report of a rule with this time, this cost and this total, where the size is the variable
+abbrev pub paid_report : Time → RuleCost → Option Bound → Report
+paid_report t c sum = record { times = t ∷ []; costs = Some c ∷ []; total = sum; sizes = (Sized (Input 0) ∷ []) ∷ [] }
+
+-- the program whose one rule costs its variable
+abbrev pub paying_to : Program
+paying_to = leading_at_cost 1 (Some (Variable 0))
+
+-- a rule with a cost has a line of it, and the total is what it costs; the first line is `unknown` where the time or the
+-- bound on the cost is missing, also over a total that is there. A variable that is named `unknown` is distinguished from
+-- a missing bound on a cost, and from a missing total, by the reason
+pub record CostTexts : Type 0 where
+  pub program : IsValid paying_to
+  pub costed : text_of_report paying_to (paid_report (Timed (Constant 1)) (Costed (Input 0)) (Some (Input 0)))
+      ≡ codes "bounded\ntime 1: 1\ncost 1: unknown\ntotal: unknown\nsize 1.1: unknown\n"
+  pub uncosted : text_of_report paying_to (paid_report (Timed (Constant 1)) (Uncosted (SizeLarge 5000)) None)
+      ≡ codes "unknown\ntime 1: 1\ncost 1: unknown\ntotal: unknown\nsize 1.1: unknown\n"
+      ++ codes "why cost 1: large 5000 nodes\n"
+  pub untimed : text_of_report paying_to (paid_report (Untimed (TimeLarge 5000)) (Costed (Constant 0)) (Some (Constant 0)))
+      ≡ codes "unknown\ntime 1: unknown\ncost 1: 0\ntotal: 0\nsize 1.1: unknown\n"
+      ++ codes "why time 1: large 5000 nodes\n"
+  pub nothing_known : text_of_report paying_to (paid_report (Untimed (TimeLarge 5000)) (Uncosted (SizeUntimed 1)) None)
+      ≡ codes "unknown\ntime 1: unknown\ncost 1: unknown\ntotal: unknown\nsize 1.1: unknown\n"
+      ++ codes "why time 1: large 5000 nodes\nwhy cost 1: untimed 1\n"
+  -- with the same lines of bounds, the total is the variable in one report and missing in the other
+  pub variable_total : text_of_report paying_to (paid_report (Untimed (TimeLarge 5000)) (Costed (Input 0)) (Some (Input 0)))
+      ≡ codes "unknown\ntime 1: unknown\ncost 1: unknown\ntotal: unknown\nsize 1.1: unknown\n"
+      ++ codes "why time 1: large 5000 nodes\n"
+  pub printable : IsPrintableReport paying_to (paid_report (Timed (Constant 1)) (Costed (Input 0)) (Some (Input 0)))
+  pub printable_reason : IsPrintableReport paying_to (paid_report (Timed (Constant 1)) (Uncosted (SizeLarge 5000)) None)
+  pub stated : IsReportOn paying_to (paid_report (Timed (Constant 1)) (Costed (Input 0)) (Some (Input 0)))
+  pub stated_total : IsReportOn paying_to (paid_report (Untimed (TimeLarge 5000)) (Costed (Constant 0)) (Some (Constant 0)))
+  pub without_cost : ¬ (IsReportOn paying_to (timed_by_variable ((Sized (Input 0) ∷ []) ∷ [])))
+  -- a text doesn't show a cost that is left out and a further rule's that isn't there, but then it is no report
+  pub no_lines : text_of_report (leading_to 0) (timed_by_variable ([] ∷ []))
+      ≡ text_of_report (leading_to 0) (record { times = Timed (Input 0) ∷ []; costs = []; total = Some (Input 0); sizes = [] ∷ [] })
+  pub left_out : ¬ (IsReportOn (leading_to 0)
+      (record { times = Timed (Input 0) ∷ []; costs = []; total = Some (Input 0); sizes = [] ∷ [] }))
 
 -- a variable that is named `unknown` is distinguished from a missing bound by the first line and the reasons
 pub record TextsTellApart : Type 0 where
@@ -77,7 +122,8 @@ pub record TextsDontTell : Type 0 where
       ≡ gap_text [] (bare_gap (record { symbol = 1; place = 1 } ∷ []) [])
   pub unnamed : ¬ (IsPrintableGap 0 (bare_gap (record { symbol = 0; place = 1 } ∷ []) []))
 
--- both
+-- all of them
 pub record TextsAreWorkedOut : Type 0 where
   pub determined : TextsTellApart
+  pub costs : CostTexts
   pub untold : TextsDontTell

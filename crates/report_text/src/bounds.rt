@@ -1,19 +1,20 @@
 //! The lines of bounds in a report.
 
-ghost use Rattle.std.specs.Prelude.{◌≡◌, ◌++◌, length, map, OnOk};
+ghost use Rattle.std.specs.Prelude.{◌≡◌, ◌++◌, length, map, Some, OnOk};
 ghost use Rattle.its_model.specs.Views.{name_of};
 ghost use Rattle.bound_expr.specs.Views.{bound_of};
-ghost use Rattle.outcome.specs.Views.{size_of};
-ghost use Rattle.report_text.specs.Reports.{bound_end, none_end, total_line, size_end, size_line};
-ghost use Rattle.outcome.specs.Printing.{IsPrintable, IsPrintableTime, IsPrintableSize, IsPrintableTotal};
-ghost use Rattle.report_text.specs.Conditions.{entry_end, entry_line, total_of};
+ghost use Rattle.outcome.specs.Views.{cost_of, size_of};
+ghost use Rattle.report_text.specs.Reports.{bound_end, none_end, cost_end, cost_line, total_line, size_end, size_line};
+ghost use Rattle.outcome.specs.Printing.{IsPrintable, IsPrintableTime, IsPrintableCost, IsPrintableSize};
+ghost use Rattle.outcome.specs.Printing.{IsPrintableTotal};
+ghost use Rattle.report_text.specs.Conditions.{entry_end, entry_line, rule_cost_of, total_of};
 
 use crate::numbers::{push_number, push_place};
 use bound_expr::Bound;
 use bound_text::write;
 use its_model::Name;
 use model::Memory;
-use outcome::{SizeEntry, TimeEntry};
+use outcome::{CostEntry, SizeEntry, TimeEntry};
 
 /// The line of a rule.
 pub(crate) fn push_time(
@@ -41,6 +42,55 @@ fn push_time_end(text: &mut Vec<u8>, names: &[Name], entry: &TimeEntry) -> Resul
         TimeEntry::Gap { .. } => text.extend_from_slice(b"unknown\n"),
         TimeEntry::OutOfLimits(_) => text.extend_from_slice(b"unknown\n"),
         TimeEntry::Large { .. } => text.extend_from_slice(b"unknown\n"),
+    }
+}
+
+/// The line of what a rule costs, where it has a cost.
+pub(crate) fn push_cost(
+    text: &mut Vec<u8>,
+    names: &[Name],
+    rule: u64,
+    entry: &Option<CostEntry>,
+) -> Result<(), Memory>
+    requires { IsPrintableCost (length names.now) entry.now }
+    ensures { OnOk result
+        (text.new.items ≡ text.old.items ++ cost_line (map name_of names.now) rule (rule_cost_of entry.now)) }
+{
+    match entry {
+        Some(entry) => push_cost_line(text, names, rule, entry),
+        None => Ok(()),
+    }
+}
+
+// Writes the line of a cost.
+fn push_cost_line(
+    text: &mut Vec<u8>,
+    names: &[Name],
+    rule: u64,
+    entry: &CostEntry,
+) -> Result<(), Memory>
+    requires { IsPrintableCost (length names.now) (Some entry.now) }
+    ensures { OnOk result
+        (text.new.items ≡ text.old.items ++ cost_line (map name_of names.now) rule (Some (cost_of entry.now))) }
+{
+    text.extend_from_slice(b"cost ")?;
+    push_number(text, rule)?;
+    text.extend_from_slice(b": ")?;
+    push_cost_end(text, names, entry)
+}
+
+// Writes the text behind the colon.
+fn push_cost_end(text: &mut Vec<u8>, names: &[Name], entry: &CostEntry) -> Result<(), Memory>
+    requires { IsPrintableCost (length names.now) (Some entry.now) }
+    ensures { OnOk result (text.new.items ≡ text.old.items ++ cost_end (map name_of names.now) (cost_of entry.now)) }
+{
+    match entry {
+        CostEntry::Known(stored) => push_bound(text, names, &stored.bound),
+        CostEntry::UnboundedSide(_) => text.extend_from_slice(b"unknown\n"),
+        CostEntry::OutOfLimits(_) => text.extend_from_slice(b"unknown\n"),
+        CostEntry::Missing(_) => text.extend_from_slice(b"unknown\n"),
+        CostEntry::Untimed { .. } => text.extend_from_slice(b"unknown\n"),
+        CostEntry::Large { .. } => text.extend_from_slice(b"unknown\n"),
     }
 }
 

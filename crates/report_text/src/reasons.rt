@@ -1,12 +1,13 @@
 //! Why bounds are missing.
 
-ghost use Rattle.std.specs.Prelude.{◌≡◌, ◌++◌, codes, decimal, length, map, OnOk};
+ghost use Rattle.std.specs.Prelude.{◌≡◌, ◌++◌, codes, decimal, length, map, Some, OnOk};
 ghost use Rattle.its_model.specs.Views.{symbol_of};
 ghost use Rattle.cert_types.specs.Views.{result_variable_of};
-ghost use Rattle.outcome.specs.Views.{time_of, size_of, side_by, unbounded_of};
+ghost use Rattle.outcome.specs.Views.{time_of, cost_of, size_of, side_by, unbounded_of};
 ghost use Rattle.report_text.specs.Pieces.{place_text, result_variable_text};
 ghost use Rattle.report_text.specs.Reasons.{limit_hit_text, large_text, side_text, no_size_text};
-ghost use Rattle.report_text.specs.Reports.{why_time, why_size};
+ghost use Rattle.report_text.specs.Reports.{why_time, why_cost, why_size};
+ghost use Rattle.report_text.specs.Conditions.{rule_cost_of};
 ghost use Rattle.outcome.specs.Printing.{HasItsGap};
 
 use crate::gaps::push_gap;
@@ -15,7 +16,7 @@ use crate::trips::{push_large, push_limit_hit};
 use cert_types::{Gap, LimitHit, ResultVariable};
 use its_model::Symbol;
 use model::Memory;
-use outcome::{SizeEntry, TimeEntry, UnboundedSide};
+use outcome::{CostEntry, SizeEntry, TimeEntry, UnboundedSide};
 
 /// Why the time of a rule is missing, if it is.
 pub(crate) fn push_why_time(
@@ -51,6 +52,58 @@ fn push_time_start(text: &mut Vec<u8>, rule: u64) -> Result<(), Memory>
     ensures { OnOk result (text.new.items ≡ text.old.items ++ (codes "why time " ++ (decimal rule ++ codes ": "))) }
 {
     text.extend_from_slice(b"why time ")?;
+    push_number(text, rule)?;
+    text.extend_from_slice(b": ")
+}
+
+/// Why the bound on a rule's cost is missing, if it has a cost and no bound on it.
+pub(crate) fn push_why_cost(
+    text: &mut Vec<u8>,
+    rule: u64,
+    entry: &Option<CostEntry>,
+) -> Result<(), Memory>
+    ensures { OnOk result (text.new.items ≡ text.old.items ++ why_cost rule (rule_cost_of entry.now)) }
+{
+    match entry {
+        Some(entry) => push_cost_reason(text, rule, entry),
+        None => Ok(()),
+    }
+}
+
+// Why a cost has no bound, if it has none.
+fn push_cost_reason(text: &mut Vec<u8>, rule: u64, entry: &CostEntry) -> Result<(), Memory>
+    ensures { OnOk result (text.new.items ≡ text.old.items ++ why_cost rule (Some (cost_of entry.now))) }
+{
+    match entry {
+        CostEntry::Known(_) => Ok(()),
+        CostEntry::UnboundedSide(unbounded) => {
+            push_cost_start(text, rule)?;
+            push_unbounded(text, unbounded)
+        }
+        CostEntry::OutOfLimits(limit_hit) => {
+            push_cost_start(text, rule)?;
+            push_limit_hit_line(text, limit_hit)
+        }
+        CostEntry::Missing(result_variable) => {
+            push_cost_start(text, rule)?;
+            push_result_variable_line(text, b"missing ", *result_variable)
+        }
+        CostEntry::Untimed { rule: untimed } => {
+            push_cost_start(text, rule)?;
+            push_untimed(text, *untimed)
+        }
+        CostEntry::Large { nodes } => {
+            push_cost_start(text, rule)?;
+            push_large_line(text, *nodes)
+        }
+    }
+}
+
+// Writes the text before the reason of a cost.
+fn push_cost_start(text: &mut Vec<u8>, rule: u64) -> Result<(), Memory>
+    ensures { OnOk result (text.new.items ≡ text.old.items ++ (codes "why cost " ++ (decimal rule ++ codes ": "))) }
+{
+    text.extend_from_slice(b"why cost ")?;
     push_number(text, rule)?;
     text.extend_from_slice(b": ")
 }

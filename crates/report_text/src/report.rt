@@ -1,20 +1,21 @@
 //! The whole report.
 
 ghost use Rattle.std.specs.Prelude.{◌≡◌, ◌++◌, length, map, IfOk, OnOk};
-ghost use Rattle.std.specs.List.{list_all, All};
+ghost use Rattle.std.specs.List.{All};
 ghost use Rattle.its_model.specs.Views.{name_of, symbol_of, program_of};
 ghost use Rattle.outcome.specs.Views.{time_of, size_of, report_of};
 ghost use Rattle.report_text.specs.Pieces.{numbered_lines};
-ghost use Rattle.report_text.specs.Reports.{size_line, why_time, why_size, bounds_text, reasons_text, text_of_report};
-ghost use Rattle.outcome.specs.Printing.{IsPrintableTime, IsPrintableSize, IsPrintableOutcome, HasItsGap};
-ghost use Rattle.report_text.specs.Conditions.{entry_line, is_known, headline_of};
+ghost use Rattle.report_text.specs.Reports.{headline, cost_line, size_line, why_time, why_cost, why_size};
+ghost use Rattle.report_text.specs.Reports.{bounds_text, reasons_text, text_of_report};
+ghost use Rattle.outcome.specs.Printing.{IsPrintableTime, IsPrintableCost, IsPrintableSize, IsPrintableOutcome, HasItsGap};
+ghost use Rattle.report_text.specs.Conditions.{entry_line, rule_cost_of};
 
-use crate::bounds::{push_size, push_time, push_total};
-use crate::reasons::{push_why_size, push_why_time};
+use crate::bounds::{push_cost, push_size, push_time, push_total};
+use crate::reasons::{push_why_cost, push_why_size, push_why_time};
 use cert_types::Gap;
 use its_model::{Name, Program, Symbol};
 use model::Memory;
-use outcome::{Outcome, SizeEntry, TimeEntry};
+use outcome::{CostEntry, Outcome, SizeEntry, TimeEntry};
 use std::alloc::Global;
 
 /// The text of the report of an outcome on a program.
@@ -37,8 +38,9 @@ fn push_bounds(text: &mut Vec<u8>, names: &[Name], o: &Outcome) -> Result<(), Me
     requires { IsPrintableOutcome (length names.now) o.now }
     ensures { OnOk result (text.new.items ≡ text.old.items ++ bounds_text (map name_of names.now) (report_of o.now)) }
 {
-    push_headline(text, &o.times)?;
+    push_headline(text, o)?;
     push_times(text, names, &o.times)?;
+    push_costs(text, names, &o.costs)?;
     push_total(text, names, &o.total)?;
     push_sizes(text, names, &o.sizes)
 }
@@ -50,26 +52,19 @@ fn push_reasons(text: &mut Vec<u8>, symbols: &[Symbol], o: &Outcome) -> Result<(
         (text.new.items ≡ text.old.items ++ reasons_text (map symbol_of symbols.now) (report_of o.now)) }
 {
     push_why_times(text, symbols, &o.gaps, &o.times)?;
+    push_why_costs(text, &o.costs)?;
     push_why_sizes(text, &o.sizes)
 }
 
-// Whether every rule has a time.
-fn push_headline(text: &mut Vec<u8>, times: &[TimeEntry]) -> Result<(), Memory>
-    ensures { OnOk result (text.new.items ≡ text.old.items ++ headline_of times.now) }
+// Whether every rule has a time, and every rule with a cost a bound on it.
+fn push_headline(text: &mut Vec<u8>, o: &Outcome) -> Result<(), Memory>
+    ensures { OnOk result (text.new.items ≡ text.old.items ++ headline (report_of o.now)) }
 {
-    if all_known(times) {
+    if o.is_bounded() {
         text.extend_from_slice(b"bounded\n")
     } else {
         text.extend_from_slice(b"unknown\n")
     }
-}
-
-fn all_known(times: &[TimeEntry]) -> bool
-    ensures { result ≡ list_all is_known times.now }
-{
-    times
-        .iter()
-        .all(|entry| matches!(entry, TimeEntry::Known(_)))
 }
 
 // The lines of the rules.
@@ -80,6 +75,18 @@ fn push_times(text: &mut Vec<u8>, names: &[Name], times: &[TimeEntry]) -> Result
 {
     for (i, entry) in times.iter().enumerate() {
         push_time(text, names, i as u64 + 1, entry)?;
+    }
+    Ok(())
+}
+
+// The lines of what the rules cost.
+fn push_costs(text: &mut Vec<u8>, names: &[Name], costs: &[Option<CostEntry>]) -> Result<(), Memory>
+    requires { All (IsPrintableCost (length names.now)) costs.now }
+    ensures { OnOk result (text.new.items ≡ text.old.items
+        ++ numbered_lines (λ rule c. cost_line (map name_of names.now) rule (rule_cost_of c)) 1 costs.now) }
+{
+    for (i, entry) in costs.iter().enumerate() {
+        push_cost(text, names, i as u64 + 1, entry)?;
     }
     Ok(())
 }
@@ -127,6 +134,17 @@ fn push_why_times(
 {
     for (i, entry) in times.iter().enumerate() {
         push_why_time(text, symbols, gaps, i as u64 + 1, entry)?;
+    }
+    Ok(())
+}
+
+// Why bounds on costs are missing.
+fn push_why_costs(text: &mut Vec<u8>, costs: &[Option<CostEntry>]) -> Result<(), Memory>
+    ensures { OnOk result
+        (text.new.items ≡ text.old.items ++ numbered_lines (λ rule c. why_cost rule (rule_cost_of c)) 1 costs.now) }
+{
+    for (i, entry) in costs.iter().enumerate() {
+        push_why_cost(text, i as u64 + 1, entry)?;
     }
     Ok(())
 }

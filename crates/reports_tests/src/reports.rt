@@ -1,10 +1,10 @@
 //! Reports of outcomes that were made by hand.
 
-use bound_expr::Memory;
+use bound_expr::{Bound, Memory};
 use cert_types::{Gap, LimitCause, LimitHit, Question, ResultVariable};
 use farkas_cert::Scaled;
 use its_model::{Program, Symbol};
-use outcome::{Outcome, SizeEntry, TimeEntry, UnboundedSide};
+use outcome::{CostEntry, Outcome, SizeEntry, Stored, TimeEntry, UnboundedSide};
 use report_text::print;
 use std::alloc::Global;
 use std::test::Fail;
@@ -61,6 +61,7 @@ fn a_gap_and_an_unbounded_place_are_printed(rt: HostRuntime) -> Result<(), Fail>
     let outcome = Outcome {
         times: vec![in alloc; TimeEntry::Gap { gap: 1 }]?,
         sizes: vec![in alloc; vec![in alloc; SizeEntry::UnboundedSide(unbounded)]?]?,
+        costs: vec![in alloc; None]?,
         total: None,
         lemmas: Vec::new(alloc),
         gaps: vec![in alloc; gap]?,
@@ -105,6 +106,7 @@ fn reasons_are_printed(rt: HostRuntime) -> Result<(), Fail> {
             ]?,
             vec![in alloc; SizeEntry::Large { nodes: 5_000 }]?,
         ]?,
+        costs: vec![in alloc; None, None, None]?,
         total: None,
         lemmas: Vec::new(alloc),
         gaps: Vec::new(alloc),
@@ -116,6 +118,53 @@ size 1.2: unknown\nsize 2.1: unknown\nsize 2.2: unknown\nsize 3.1: unknown\n\
 why time 1: rank 1 budget after 0 pivots\nwhy time 2: empty 2 range at pivot 3\nwhy time 3: large 4097 nodes\n\
 why size 1.1: local 1.1 wide 16000001 entries\nwhy size 1.2: cost 4 scale\nwhy size 2.1: bent 2.2\n\
 why size 2.2: untimed 3\nwhy size 3.1: large 5000 nodes\n";
+    assert_eq!(rt; text.as_slice(), wanted);
+    Ok(())
+}
+
+// A bound with a lemma that states it.
+fn stored(bound: Bound) -> Stored {
+    Stored { bound, lemma: 1 }
+}
+
+#[test]
+fn costs_are_printed(rt: HostRuntime) -> Result<(), Fail> {
+    let alloc = rt.alloc();
+    let unbounded = UnboundedSide {
+        up: true,
+        ray: vec![in alloc; 0, 1]?,
+        kept: point(alloc, &[1, 1], 1)?,
+    };
+    let limit = tripped(
+        Question::Cost { rule: 4 },
+        LimitCause::Budget { pivots: 10 },
+    );
+    let outcome = Outcome {
+        times: vec![in alloc;
+            TimeEntry::Known(stored(Bound::Const(1))),
+            TimeEntry::Known(stored(Bound::Var(0))),
+            TimeEntry::Large { nodes: 4_097 },
+        ]?,
+        sizes: Vec::new(alloc),
+        costs: vec![in alloc;
+            Some(CostEntry::Known(stored(Bound::Var(0)))),
+            None,
+            Some(CostEntry::UnboundedSide(unbounded)),
+            Some(CostEntry::OutOfLimits(limit)),
+            Some(CostEntry::Missing(ResultVariable { rule: 2, place: 1 })),
+            Some(CostEntry::Untimed { rule: 3 }),
+            Some(CostEntry::Large { nodes: 5_000 }),
+        ]?,
+        total: None,
+        lemmas: Vec::new(alloc),
+        gaps: Vec::new(alloc),
+    };
+    let text = print(alloc, &named(alloc)?, &outcome)?;
+    let wanted: &[u8] =
+        b"unknown\ntime 1: 1\ntime 2: A\ntime 3: unknown\ncost 1: A\ncost 3: unknown\n\
+cost 4: unknown\ncost 5: unknown\ncost 6: unknown\ncost 7: unknown\ntotal: unknown\nwhy time 3: large 4097 nodes\n\
+why cost 3: loose up\n  ray: (0, 1)\n  kept: (1, 1) / 1\nwhy cost 4: cost 4 budget after 10 pivots\n\
+why cost 5: missing 2.1\nwhy cost 6: untimed 3\nwhy cost 7: large 5000 nodes\n";
     assert_eq!(rt; text.as_slice(), wanted);
     Ok(())
 }

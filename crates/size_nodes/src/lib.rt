@@ -22,6 +22,7 @@ mod transitions;
 mod updates;
 
 pub use growth::is_zero;
+pub use missing::first_missing;
 pub use sized::{sized_cycle, sized_spread};
 pub use sizing::Sizing;
 pub use stating::size_facts;

@@ -7,7 +7,7 @@ ghost use Rattle.size_nodes.specs.Needs.{first_missing as first_missing_of, firs
 use cert_types::{Known, ResultVariable};
 
 /// The first of these places after rules whose size isn't known.
-pub(crate) fn first_missing<K: Known>(
+pub fn first_missing<K: Known>(
     known: &K,
     result_variables: &[ResultVariable],
 ) -> Option<ResultVariable>

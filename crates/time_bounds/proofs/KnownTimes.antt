@@ -1,5 +1,5 @@
--- The bounds of times, one by one.
-use Rattle.std.proofs.Common.{◌≡◌, ℕ, ◌+◌, ◌<◌, ◌≤◌, List, [], ◌∷◌, ◌++◌, length, map, drop, get_or, Option, Some, None}
+-- The bounds on what rules spend, one by one.
+use Rattle.std.proofs.Common.{◌≡◌, ℕ, ◌+◌, ◌<◌, ◌≤◌, List, [], ◌∷◌, ◌++◌, length, drop, get_or, Option, Some, None}
 use Rattle.std.proofs.Common.{refl, sym, ◌∙◌, ap}
 use Rattle.std.specs.Option.{option_map}
 use Rattle.std.proofs.lemmas.List.{at_drop_more}
@@ -11,8 +11,9 @@ use Rattle.bound_expr.specs.Views.{bound_of, bounds_of, parts_of}
 use Rattle.bound_table.specs.InForce.{rewritten}
 use Rattle.cert_types.specs.Sizes.{joined}
 use Rattle.cert_types.proofs.Parts.{joined-nothing, joined_assoc, parts_of-more}
+use Rattle.outcome.specs.declared.entry.CostEntry.{CostEntry}
 use Rattle.outcome.specs.declared.entry.TimeEntry.{TimeEntry}
-use Rattle.time_bounds.specs.Totals.{time_in, before, known_parts, total_of}
+use Rattle.time_bounds.specs.Totals.{spent_by, spendings_by, before, known_parts, total_of}
 
 -- these parts before others, where there are others
 abbrev pub all_before : Parts → Option Parts → Option Parts
@@ -28,36 +29,46 @@ one_before done b (Some rest) = ap (λ (ps : Parts). Some ps) (sym (joined_assoc
 none_before : (done : Parts) → all_before done None ≡ None
 none_before done = refl
 
--- what is known of the entries that are left
-pub left_more : (entries : List TimeEntry) (i : ℕ) (d : TimeEntry) → i < length entries
-    → known_parts (map time_in (drop i entries)) ≡ before (time_in (get_or entries i d)) (known_parts (map time_in (drop (i + 1) entries)))
-left_more entries i d low = at_drop_more (λ (es : List TimeEntry). known_parts (map time_in es)) entries i d low
+module _ (times : List TimeEntry) (costs : List (Option CostEntry)) where
+  -- what is known of the rules from a position on
+  abbrev pub known_from : ℕ → Option Parts
+  known_from i = known_parts (spendings_by (drop i times) (drop i costs))
 
--- a bound was pushed
-pub pushed : (entries : List TimeEntry) (i : ℕ) (d : TimeEntry) (all : Option Parts) (xs : List Bound) (x : Bound) (new : List Bound) → i < length entries
-    → all ≡ all_before (parts_of (bounds_of xs)) (known_parts (map time_in (drop i entries)))
-    → time_in (get_or entries i d) ≡ Some (bound_of x) → new ≡ xs ++ x ∷ []
-    → all ≡ all_before (parts_of (bounds_of new)) (known_parts (map time_in (drop (i + 1) entries)))
-pushed entries i d all xs x new low inv e n =
-    let rest = known_parts (map time_in (drop (i + 1) entries)) in
-    let done = parts_of (bounds_of xs) in
-    inv ∙ (ap (all_before done) (left_more entries i d low ∙ ap (λ (o : Option plain.Bound). before o rest) e)
-    ∙ (one_before done (bound_of x) rest
-    ∙ (ap (λ (ps : Parts). all_before ps rest) (sym (parts_of-more xs x)) ∙ ap (λ (ys : List Bound). all_before (parts_of (bounds_of ys)) rest) (sym n))))
+  -- it is what the rule there spends, before what is known of the others
+  left_more : (i : ℕ) (d : TimeEntry) (e : Option CostEntry) → i < length times → i < length costs
+      → known_from i ≡ before (spent_by (get_or times i d) (get_or costs i e)) (known_from (i + 1))
+  left_more i d e low short =
+      at_drop_more (λ (ts : List TimeEntry). known_parts (spendings_by ts (drop i costs))) times i d low
+      ∙ at_drop_more (λ (cs : List (Option CostEntry)). known_parts (spendings_by (get_or times i d ∷ drop (i + 1) times) cs)) costs i
+      e short
 
--- one is missing
-pub missing : (entries : List TimeEntry) (i : ℕ) (d : TimeEntry) (all : Option Parts) (done : Parts) → i < length entries
-    → all ≡ all_before done (known_parts (map time_in (drop i entries))) → time_in (get_or entries i d) ≡ None → all ≡ None
-missing entries i d all done low inv e =
-    inv ∙ (ap (all_before done) (left_more entries i d low ∙ ap (λ (o : Option plain.Bound). before o (known_parts (map time_in (drop (i + 1) entries)))) e)
-    ∙ none_before done)
+  -- a bound was pushed
+  pub pushed : (i : ℕ) (d : TimeEntry) (e : Option CostEntry) (all : Option Parts) (xs : List Bound) (x : Bound) (new : List Bound)
+      → i < length times → i < length costs → all ≡ all_before (parts_of (bounds_of xs)) (known_from i)
+      → spent_by (get_or times i d) (get_or costs i e) ≡ Some (bound_of x) → new ≡ xs ++ x ∷ []
+      → all ≡ all_before (parts_of (bounds_of new)) (known_from (i + 1))
+  pushed i d e all xs x new low short inv spent n =
+      let done = parts_of (bounds_of xs) in
+      inv ∙ (ap (all_before done)
+      (left_more i d e low short ∙ ap (λ (o : Option plain.Bound). before o (known_from (i + 1))) spent)
+      ∙ (one_before done (bound_of x) (known_from (i + 1))
+      ∙ (ap (λ (ps : Parts). all_before ps (known_from (i + 1))) (sym (parts_of-more xs x))
+      ∙ ap (λ (ys : List Bound). all_before (parts_of (bounds_of ys)) (known_from (i + 1))) (sym n))))
 
--- none is left
-pub all_pushed : (entries : List TimeEntry) (i : ℕ) (all : Option Parts) (done : Parts) → length entries ≤ i
-    → all ≡ all_before done (known_parts (map time_in (drop i entries))) → all ≡ Some done
-all_pushed entries i all done high inv =
-    inv ∙ (ap (λ (es : List TimeEntry). all_before done (known_parts (map time_in es))) (drop_of_length-le entries high)
-    ∙ ap (λ (ps : Parts). Some ps) (joined-nothing done))
+  -- one is missing
+  pub missing : (i : ℕ) (d : TimeEntry) (e : Option CostEntry) (all : Option Parts) (done : Parts) → i < length times
+      → i < length costs → all ≡ all_before done (known_from i) → spent_by (get_or times i d) (get_or costs i e) ≡ None → all ≡ None
+  missing i d e all done low short inv spent =
+      inv ∙ (ap (all_before done)
+      (left_more i d e low short ∙ ap (λ (o : Option plain.Bound). before o (known_from (i + 1))) spent)
+      ∙ none_before done)
+
+  -- none is left
+  pub all_pushed : (i : ℕ) (all : Option Parts) (done : Parts) → length times ≤ i → all ≡ all_before done (known_from i) → all ≡ Some done
+  all_pushed i all done high inv =
+      inv ∙ (ap (λ (ts : List TimeEntry). all_before done (known_parts (spendings_by ts (drop i costs))))
+      (drop_of_length-le times high)
+      ∙ ap (λ (ps : Parts). Some ps) (joined-nothing done))
 
 -- the total of known parts, and that of none
 pub total_some : (times : List (Option plain.Bound)) (ps : Parts) (r : plain.Bound) → known_parts times ≡ Some ps → r ≡ rewritten (SumOf ps)

@@ -1,4 +1,4 @@
--- the steps of a run are at most the sum of all times
+-- what a run costs is at most the sum of what each rule spends
 pub mod KnownTimes
 pub mod TotalSteps
 -- the set of a rule, and its shut places
@@ -70,6 +70,10 @@ pub mod SaidRows
 -- entries carry the numbers of their lemmas
 pub mod TimeNumbers
 pub mod SizeNumbers
+-- the entries of costs, and the numbers of their lemmas
+pub mod CostEntries
+pub mod CostingAnswers
+pub mod CostNumbers
 -- what is found of a program is its analysis
 pub mod ReportEntries
 pub mod AnalysisOfDerivations

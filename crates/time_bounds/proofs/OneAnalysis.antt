@@ -2,30 +2,27 @@
 use Rattle.std.proofs.Common.{◌≡◌, ℕ, suc, List, [], ◌∷◌, length, map, Some, None, refl, sym, ◌∙◌, ap, subst, arith}
 use Rattle.model.specs.Programs.{Program}
 use Rattle.model.specs.Bounds.{Bound}
-use Rattle.outcome.specs.Reports.{Time, Timed, Untimed, NoTime, Size, Sized, Unsized, NoSize, Report}
+use Rattle.outcome.specs.Reports.{Time, Timed, Untimed, NoTime, Size, Sized, Unsized, NoSize, RuleCost, Report, spendings}
 use Rattle.cert_types.specs.cert_rules.Nodes.{ResultVariable}
 use Rattle.cert_types.specs.cert_program.Setting.{setting_of}
 use Rattle.bound_fixpoint.specs.Components.{AreApart}
 use Rattle.bound_fixpoint.specs.Right.{AreOne}
-use Rattle.bound_fixpoint.specs.Derivations.{Derivation}
+use Rattle.bound_fixpoint.specs.Derivations.{Derivation, bounds_of}
 use Rattle.bound_fixpoint.specs.Searches as searches
 use Rattle.bound_fixpoint.specs.Searches.{OfTime, OfSize}
 use Rattle.bound_fixpoint.proofs.DerivationsAreOne.{last_one, time_reason, reason_one}
 use Rattle.time_bounds.specs.ProgramSearches.{searches_of_program}
-use Rattle.time_bounds.specs.Analysis.{bound_in, IsTimeOf, AreTimesOf, IsSizeOf, AreSizesOf, AreSizeRowsOf, IsAnalysis}
+use Rattle.time_bounds.specs.Analysis.{IsTimeOf, AreTimesOf, IsSizeOf, AreSizesOf, AreSizeRowsOf, AreCostsOver, IsAnalysis}
 use Rattle.time_bounds.specs.Totals.{total_of}
+use Rattle.time_bounds.proofs.CostEntries.{costs_one, joined}
 use Rattle.model.proofs.Cases.{some_same as same_bound}
 
 some_none : (b : Bound) → Some b ≡ None → ⊥
 some_none b e = cc
 
--- lists that begin and go on alike are the same
-pub joined : {A : Type 0} (x y : A) (xs ys : List A) → x ≡ y → xs ≡ ys → x ∷ xs ≡ y ∷ ys
-joined {A} x y xs ys e h = ap (λ (z : A). z ∷ xs) e ∙ ap (λ (zs : List A). y ∷ zs) h
-
 -- two reports with the same parts are the same
-same_report : (r q : Report) → r.times ≡ q.times → r.total ≡ q.total → r.sizes ≡ q.sizes → r ≡ q
-same_report r q times total sizes = λ i. record { times = times i; total = total i; sizes = sizes i }
+same_report : (r q : Report) → r.times ≡ q.times → r.costs ≡ q.costs → r.total ≡ q.total → r.sizes ≡ q.sizes → r ≡ q
+same_report r q times costs total sizes = λ i. record { times = times i; costs = costs i; total = total i; sizes = sizes i }
 
 -- one reason for a time has one form, and so has one for a size
 one_time : (v w : NoTime) → OfTime v ≡ OfTime w → v ≡ w
@@ -93,8 +90,10 @@ module _ (p : Program) (pivots : ℕ) (one : AreOne (searches_of_program p pivot
       let said = subst (λ (fs : List Derivation). AreTimesOf q p fs 1 r.times) derivations h.times in
       let sized = subst (λ (fs : List Derivation). AreSizeRowsOf q p fs 1 r.sizes) derivations h.sizes in
       let times = all_one k.derivations 1 r.times s.times (h.one_each ∙ sym k.one_each) said k.times in
+      let spent = subst (λ (fs : List Derivation). AreCostsOver p pivots (bounds_of p fs) 1 r.costs) derivations h.costs in
+      let costs = costs_one p pivots (bounds_of p k.derivations) 1 r.costs s.costs (h.cost_each ∙ sym k.cost_each) spent k.costs in
       let round = k.last.closed in
       let sizes =
       rows_one round.components round.are_components round.live.apart k.derivations 1 r.sizes s.sizes
       (h.places ∙ sym k.places) sized k.sizes in
-      same_report r s times (h.total ∙ (ap (λ (ts : List Time). total_of (map bound_in ts)) times ∙ sym k.total)) sizes
+      same_report r s times costs (h.total ∙ ((λ i. total_of (spendings (times i) (costs i))) ∙ sym k.total)) sizes

@@ -1,10 +1,15 @@
 -- The outcome of an analysis with its lemmas is unique: its report determines its gaps and the contents of its entries.
-use Rattle.std.proofs.Common.{◌≡◌, ℕ, zero, suc, ◌<◌, ◌≤◌, List, [], ◌∷◌, length, map, refl, sym, ◌∙◌, ap, arith}
+use Rattle.std.proofs.Common.{◌≡◌, ℕ, zero, suc, ◌<◌, ◌≤◌, List, [], ◌∷◌, ◌++◌, length, map, Option, Some, None, refl, sym, ◌∙◌, ap, subst}
+use Rattle.std.proofs.Common.{arith}
+use Rattle.std.specs.Option.{option_map}
 use Rattle.std.specs.declared.alloc.Global.{Global}
 use Rattle.std.specs.declared.vec.Vec.{Vec}
 use Rattle.model.specs.Programs.{Program}
 use Rattle.outcome.specs.Reports.{Time, Timed, Untimed, NoFunction, TimeTripped, TimeLarge, Size, Sized, Unsized, Report}
-use Rattle.outcome.specs.Views.{numbered_gap, time_of, size_of, report_of}
+use Rattle.outcome.specs.Reports.{RuleCost, Costed, Uncosted}
+use Rattle.outcome.specs.Views.{numbered_gap, time_of, cost_of, size_of, report_of}
+use Rattle.outcome.specs.declared.entry.CostEntry.{CostEntry}
+use Rattle.outcome.specs.declared.entry.CostEntry.TheVariants as costs
 use Rattle.outcome.specs.declared.entry.TimeEntry.{TimeEntry}
 use Rattle.outcome.specs.declared.entry.TimeEntry.TheVariants as times
 use Rattle.outcome.specs.declared.entry.SizeEntry.{SizeEntry}
@@ -14,16 +19,18 @@ use Rattle.cert_types.specs.cert_rules.Gaps.{Gap}
 use Rattle.cert_types.specs.cert_program.Setting.{setting_of}
 use Rattle.cert_types.specs.AnswerViews.{gap_of}
 use Rattle.cert_types.specs.declared.gap.Gap as code
-use Rattle.bound_fixpoint.specs.Derivations.{Derivation, number_in}
+use Rattle.bound_fixpoint.specs.Derivations.{Derivation, bounds_of, number_in}
 use Rattle.bound_fixpoint.specs.Needs.{lemmas_of}
 use Rattle.bound_fixpoint.specs.Right.{AreOne}
 use Rattle.bound_fixpoint.proofs.DerivationsAreOne.{last_one}
+use Rattle.cost_bounds.specs.CostLemmas.{cost_lemmas}
 use Rattle.time_bounds.specs.Analysis.{IsAnalysis}
-use Rattle.time_bounds.specs.AnalysisLaws.{number_of_time, number_of_size, AreOneOutcome}
-use Rattle.time_bounds.specs.AnalysisLemmas.{CarriesTime, CarriesSize, CarriesSizes, AreGapsInOrder, HasLemmas}
+use Rattle.time_bounds.specs.AnalysisLaws.{number_of_time, number_of_cost, number_of_size, AreOneOutcome}
+use Rattle.time_bounds.specs.AnalysisLemmas.{CarriesTime, CarriesSize, CarriesSizes, CarryCosts, AreCertified, AreGapsInOrder, HasLemmas}
 use Rattle.time_bounds.specs.Numbered.{EachNumbered}
 use Rattle.time_bounds.specs.ProgramSearches.{searches_of_program}
-use Rattle.time_bounds.proofs.OneAnalysis.{analysis_one, joined}
+use Rattle.time_bounds.proofs.CostEntries.{certified_one, joined}
+use Rattle.time_bounds.proofs.OneAnalysis.{analysis_one}
 
 -- the numbers that times of a report carry, from rule t on, behind n earlier gaps
 abbrev time_numbers : (ℕ → ℕ → ℕ) → ℕ → ℕ → List Time → List ℕ
@@ -137,6 +144,27 @@ rows_numbered number t (row ∷ rows) h =
     (map (λ r. map number_of_size r.items) rows) (row_numbers number (suc t) (map (λ r. map size_of r.items) rows))
     (sizes_numbered number t 1 row.items h.0) (rows_numbered number (suc t) rows h.1)
 
+-- the numbers that costs of a report carry, behind n lemmas
+abbrev cost_numbers : ℕ → List (Option RuleCost) → List ℕ
+cost_numbers n [] = []
+cost_numbers n (None ∷ told) = 0 ∷ cost_numbers n told
+cost_numbers n (Some (Costed b) ∷ told) = suc n ∷ cost_numbers (suc n) told
+cost_numbers n (Some (Uncosted w) ∷ told) = 0 ∷ cost_numbers n told
+
+-- entries that carry numbers in order carry those
+costs_numbered : (n : ℕ) (entries : List (Option CostEntry)) → CarryCosts n entries
+    → map number_of_cost entries ≡ cost_numbers n (map (option_map cost_of) entries)
+costs_numbered n [] h = refl
+costs_numbered n (None ∷ entries) h = ap (λ (ks : List ℕ). 0 ∷ ks) (costs_numbered n entries h)
+costs_numbered n (Some (costs.Known s) ∷ entries) h =
+    joined s.lemma (suc n) (map number_of_cost entries) (cost_numbers (suc n) (map (option_map cost_of) entries)) h.0
+    (costs_numbered (suc n) entries h.1)
+costs_numbered n (Some (costs.UnboundedSide l) ∷ entries) h = ap (λ (ks : List ℕ). 0 ∷ ks) (costs_numbered n entries h)
+costs_numbered n (Some (costs.OutOfLimits x) ∷ entries) h = ap (λ (ks : List ℕ). 0 ∷ ks) (costs_numbered n entries h)
+costs_numbered n (Some (costs.Missing m) ∷ entries) h = ap (λ (ks : List ℕ). 0 ∷ ks) (costs_numbered n entries h)
+costs_numbered n (Some (costs.Untimed r) ∷ entries) h = ap (λ (ks : List ℕ). 0 ∷ ks) (costs_numbered n entries h)
+costs_numbered n (Some (costs.Large k) ∷ entries) h = ap (λ (ks : List ℕ). 0 ∷ ks) (costs_numbered n entries h)
+
 -- two outcomes with the lemmas of the analysis of a program, within the same number of pivots, are one
 pub outcome_one : (p : Program) (pivots : ℕ) → AreOne (searches_of_program p pivots) → (x y : Outcome)
     → IsAnalysis p pivots (report_of x) → HasLemmas p pivots x → IsAnalysis p pivots (report_of y) → HasLemmas p pivots y
@@ -145,9 +173,19 @@ outcome_one p pivots one x y analysed has others too =
     let same = analysis_one p pivots one (report_of x) (report_of y) analysed others in
     let derivations =
     last_one (searches_of_program p pivots) one (setting_of p) has.derivations too.derivations has.last too.last in
+    let moved = subst (λ (fs : List Derivation). AreCertified p pivots (bounds_of p fs) 1 (report_of x).costs has.certified) derivations
+    has.are_certified in
+    let nodes = certified_one p pivots (bounds_of p too.derivations) 1 (report_of y).costs has.certified too.certified
+    (subst (λ (r : Report). AreCertified p pivots (bounds_of p too.derivations) 1 r.costs has.certified) same moved)
+    too.are_certified in
     record {
       report = same;
-      lemmas = has.lemmas ∙ (ap lemmas_of derivations ∙ sym too.lemmas);
+      lemmas = has.lemmas
+          ∙ ((λ i. lemmas_of (derivations i) ++ cost_lemmas (setting_of p) (number_in (derivations i)) (nodes i)) ∙ sym too.lemmas);
+      costs =
+          costs_numbered (length has.derivations) x.costs.items has.carried_costs
+          ∙ ((λ i. cost_numbers (length (derivations i)) (same i).costs)
+          ∙ sym (costs_numbered (length too.derivations) y.costs.items too.carried_costs));
       gaps =
           gaps_in_order x.gaps.items 0 x.times.items has.gaps
           ∙ (ap (λ (r : Report). gaps_in r.times) same ∙ sym (gaps_in_order y.gaps.items 0 y.times.items too.gaps));

@@ -1,5 +1,5 @@
 -- What an analysis finds of a program can be printed.
-use Rattle.std.proofs.Common.{◌≡◌, ℕ, suc, List, [], ◌∷◌, length, map, Option, Some, None, sym, All}
+use Rattle.std.proofs.Common.{◌≡◌, ℕ, suc, List, [], ◌∷◌, length, map, Option, Some, None, sym, subst, All}
 use Rattle.std.specs.Prelude.{Vec}
 use Rattle.std.specs.Option.{option_map}
 use Rattle.std.specs.declared.alloc.Global.{Global}
@@ -11,29 +11,68 @@ use Rattle.bound_expr.specs.Views.{bound_of}
 use Rattle.bound_expr.specs.declared.bound.Bound as code
 use Rattle.cert_types.specs.declared.gap.Gap.{Gap}
 use Rattle.outcome.specs.Reports as reports
-use Rattle.outcome.specs.Reports.{Timed, Untimed}
-use Rattle.outcome.specs.Views.{time_of, size_of, report_of}
-use Rattle.outcome.specs.Printing.{IsPrintableTime, IsPrintableSize, IsPrintableTotal, HasItsGap, IsPrintableOutcome}
+use Rattle.outcome.specs.Reports.{Timed, Untimed, RuleCost, Costed, Uncosted, spendings, spent_in}
+use Rattle.outcome.specs.Views.{time_of, cost_of, size_of, report_of}
+use Rattle.outcome.specs.Printing.{IsPrintableTime, IsPrintableCost, IsPrintableSize, IsPrintableTotal, HasItsGap, IsPrintableOutcome}
+use Rattle.outcome.specs.declared.entry.CostEntry.{CostEntry}
+use Rattle.outcome.specs.declared.entry.CostEntry.TheVariants as costs
 use Rattle.outcome.specs.declared.entry.TimeEntry.{TimeEntry}
 use Rattle.outcome.specs.declared.entry.TimeEntry.TheVariants as entries
 use Rattle.outcome.specs.declared.entry.SizeEntry.{SizeEntry}
 use Rattle.outcome.specs.declared.entry.SizeEntry.TheVariants as sizes
 use Rattle.outcome.specs.declared.outcome_of.Outcome.{Outcome}
+use Rattle.cert_types.specs.cert_program.Setting.{setting_of}
+use Rattle.cert_types.specs.cert_rules.AcceptsCosts.{stated_cost}
+use Rattle.cert_types.specs.cert_rules.Nodes.{CostBy}
 use Rattle.bound_fixpoint.specs.Derivations.{Derivation, bounds_of}
+use Rattle.bound_fixpoint.specs.Keys.{over}
 use Rattle.bound_fixpoint.specs.Searches.{Searches}
+use Rattle.cost_bounds.specs.CostOutcomes.{BoundedBy, IsCostOf}
 use Rattle.time_bounds.specs.ProgramSearches.{searches_of_program}
 use Rattle.time_bounds.specs.Totals.{total_of}
-use Rattle.time_bounds.specs.Analysis.{IsTimeOf, AreTimesOf, IsSizeOf, AreSizesOf, AreSizeRowsOf, IsAnalysis, bound_in}
-use Rattle.time_bounds.specs.PrintableLaws.{ArePrintableBounds, ArePrintable}
-use Rattle.time_bounds.proofs.Printables.{derivations_printable, total_printable}
+use Rattle.time_bounds.specs.Analysis.{IsTimeOf, AreTimesOf, IsSizeOf, AreSizesOf, AreSizeRowsOf, IsCostOver, AreCostsOver, IsAnalysis}
+use Rattle.time_bounds.specs.PrintableLaws.{IsPrintableBound, ArePrintableBounds, ArePrintable}
+use Rattle.time_bounds.proofs.Printables.{derivations_printable, costs_printable, total_printable}
 
--- the entries of times of the rules over printable bounds
-said_printable : (n : ℕ) (q : Searches) (p : Program) (fs : List Derivation) → ArePrintableBounds n (bounds_of p fs) → (k : ℕ)
-    (times : List reports.Time) → AreTimesOf q p fs k times → ArePrintable n (map bound_in times)
-said_printable n q p fs good k [] h = tt
-said_printable n q p fs good k (Timed b ∷ times) h =
-    (good.each k 0 b h.0, said_printable n q p fs good (suc k) times h.1)
-said_printable n q p fs good k (Untimed why ∷ times) h = said_printable n q p fs good (suc k) times h.1
+-- each bound on a cost over these bounds is printable
+AreCostsPrintable : ℕ → Program → ℕ → List Derivation → Type 0
+AreCostsPrintable n p pivots fs = (t : ℕ) (by : CostBy) → IsCostOf p pivots (over (bounds_of p fs)) t (BoundedBy by)
+    → IsPrintableBound n (stated_cost (setting_of p) (over (bounds_of p fs)) t by)
+
+-- what rules spend over printable bounds
+module _ (n : ℕ) (q : Searches) (p : Program) (pivots : ℕ) (fs : List Derivation) (good : ArePrintableBounds n (bounds_of p fs))
+    (costed : AreCostsPrintable n p pivots fs) where
+  spent_printable : (k : ℕ) (x : reports.Time) (c : Option RuleCost) (rest : List (Option Bound)) → IsTimeOf q p fs k x
+      → IsCostOver p pivots (bounds_of p fs) k c → ArePrintable n rest → ArePrintable n (spent_in x c ∷ rest)
+  spent_printable k (Timed b) None rest h g more = (good.each k 0 b h, more)
+  spent_printable k (Untimed why) None rest h g more = more
+  spent_printable k x (Some (Costed b)) rest h g more =
+      (subst (IsPrintableBound n) (sym g.2) (costed k g.0 g.1), more)
+  spent_printable k x (Some (Uncosted why)) rest h g more = more
+
+  said_printable : (k : ℕ) (times : List reports.Time) (costs : List (Option RuleCost)) → AreTimesOf q p fs k times
+      → AreCostsOver p pivots (bounds_of p fs) k costs → ArePrintable n (spendings times costs)
+  said_printable k [] costs h g = tt
+  said_printable k (x ∷ times) [] h g = tt
+  said_printable k (x ∷ times) (c ∷ costs) h g =
+      spent_printable k x c (spendings times costs) h.0 g.0 (said_printable (suc k) times costs h.1 g.1)
+
+  -- and the entries of costs
+  cost_entry_printable : (k : ℕ) (x : Option CostEntry) → IsCostOver p pivots (bounds_of p fs) k (option_map cost_of x)
+      → IsPrintableCost n x
+  cost_entry_printable k None h = tt
+  cost_entry_printable k (Some (costs.Known s)) h = subst (IsPrintableBound n) (sym h.2) (costed k h.0 h.1)
+  cost_entry_printable k (Some (costs.UnboundedSide l)) h = tt
+  cost_entry_printable k (Some (costs.OutOfLimits x)) h = tt
+  cost_entry_printable k (Some (costs.Missing m)) h = tt
+  cost_entry_printable k (Some (costs.Untimed t)) h = tt
+  cost_entry_printable k (Some (costs.Large m)) h = tt
+
+  cost_entries_printable : (k : ℕ) (xs : List (Option CostEntry)) → AreCostsOver p pivots (bounds_of p fs) k (map (option_map cost_of) xs)
+      → All (IsPrintableCost n) xs
+  cost_entries_printable k [] h = All-nil (IsPrintableCost n)
+  cost_entries_printable k (x ∷ xs) h =
+      All-cons (IsPrintableCost n) x xs (cost_entry_printable k x h.0) (cost_entries_printable (suc k) xs h.1)
 
 -- and their entries
 entry_printable : (n : ℕ) (q : Searches) (p : Program) (fs : List Derivation) → ArePrintableBounds n (bounds_of p fs) → (k : ℕ)
@@ -88,6 +127,7 @@ pub analysis_printable : (p : Program) (pivots : ℕ) (o : Outcome) → IsValid 
 analysis_printable p pivots o valid h gaps = record {
   times = entries_printable n q p h.derivations good 1 o.gaps.items o.times.items h.times;
   gaps = gaps;
+  costs = cost_entries_printable n q p pivots h.derivations good costed 1 o.costs.items h.costs;
   total = total o.total h.total;
   sizes = rows_printable n q p h.derivations good 1 o.sizes.items h.sizes;
 }
@@ -101,9 +141,14 @@ analysis_printable p pivots o valid h gaps = record {
     good : ArePrintableBounds n (bounds_of p h.derivations)
     good = derivations_printable p pivots h.derivations valid h.last.made
 
-    times : List (Option Bound)
-    times = map bound_in (map (time_of o.gaps.items) o.times.items)
+    costed : AreCostsPrintable n p pivots h.derivations
+    costed t by is = costs_printable p pivots h.derivations t by valid h.last.made is
 
-    total : (x : Option code.Bound) → option_map bound_of x ≡ total_of times → IsPrintableTotal n x
+    bounds : List (Option Bound)
+    bounds = spendings (report_of o).times (report_of o).costs
+
+    total : (x : Option code.Bound) → option_map bound_of x ≡ total_of bounds → IsPrintableTotal n x
     total None e = tt
-    total (Some b) e = total_printable n times (bound_of b) (said_printable n q p h.derivations good 1 _ h.times) (sym e)
+    total (Some b) e =
+        total_printable n bounds (bound_of b)
+        (said_printable n q p pivots h.derivations good costed 1 (report_of o).times (report_of o).costs h.times h.costs) (sym e)

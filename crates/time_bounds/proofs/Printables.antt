@@ -11,18 +11,21 @@ use Rattle.bound_expr.specs.Numbers.{IsInputBelow, ReadsBelow, AllReadBelow}
 use Rattle.bound_expr.proofs.Nodes.{IsTidy-numbers}
 use Rattle.bound_table.specs.InForce.{rewritten}
 use Rattle.bound_table.proofs.TableInForce.{rewritten-tidy, rewritten-reads}
-use Rattle.cert_types.specs.cert_rules.Nodes.{ResultVariable, Member, RankNode}
+use Rattle.cert_types.specs.cert_rules.AcceptsCosts.{HasCostNumbers, side_bound_cost, stated_cost}
+use Rattle.cert_types.specs.cert_rules.Nodes.{ResultVariable, Member, RankNode, CostBy, EmptyCost, NeverCost, SideBoundCost}
 use Rattle.cert_types.specs.cert_rules.AcceptsRank.{HasRankShape, rank_time}
 use Rattle.cert_types.specs.cert_rules.AcceptsSizes.{HasMemberShape, spread_size, cycle_size}
 use Rattle.cert_types.specs.cert_program.Setting.{setting_of}
 use Rattle.cert_types.proofs.cert_rules.ComposedNumbers.{rank_time-each}
-use Rattle.cert_types.proofs.cert_rules.SizeNumbers.{spread-each, cycle-each}
+use Rattle.cert_types.proofs.cert_rules.SizeNumbers.{spread-each, cycle-each, cost-each}
 use Rattle.cert_types.proofs.cert_program.Tidying.{settings-tidying}
 use Rattle.bound_fixpoint.specs.Keys.{Bounds, has_key, over, size_by}
 use Rattle.bound_fixpoint.specs.Derivations.{Node, EmptyBy, UnreachedBy, NeverBy, RankBy, SpreadBy, CycleBy, Derivation, bound_found, bounds_of}
 use Rattle.bound_fixpoint.specs.Rounds.{IsMade}
 use Rattle.bound_fixpoint.specs.Standing.{composed_bound, AcceptsOver, StandAfter}
 use Rattle.bound_fixpoint.proofs.DerivationLists.{first_of-cases, bounds_of-append, bounds_of-kept}
+use Rattle.cost_bounds.specs.CostOutcomes.{BoundedBy, IsCostOf}
+use Rattle.cost_bounds.proofs.CostNodes.{certified, cost-numbers}
 use Rattle.time_bounds.specs.ProgramSearches.{searches_of_program}
 use Rattle.time_bounds.specs.Totals.{known_parts, total_of}
 use Rattle.time_bounds.specs.PrintableLaws.{IsPrintableBound, ArePrintableBounds, ArePrintable, FoundBoundsArePrintable}
@@ -72,6 +75,19 @@ module _ (p : Program) (valid : IsValid p) (n : ℕ) where
         (cycle-each (IsInputBelow n) (λ c low. tt) (λ bs. tt) (λ bs. tt) (λ bs. tt) (λ c e low. tt) (setting_of p)
         (settings-tidying.each p valid).updates (over b).time (over b).size (λ t x e. (good.each t 0 x e).1)
         (λ t i x e. (sized t i x e).1) ms shapes)
+
+    cost_printable : (t : ℕ) (by : CostBy) → HasCostNumbers (setting_of p) t by
+        → IsPrintableBound n (stated_cost (setting_of p) (over b) t by)
+    cost_printable t (EmptyCost multipliers) shape = (omega arith, tt)
+    cost_printable t NeverCost shape = (omega arith, tt)
+    cost_printable t (SideBoundCost side_bound) shape =
+        rewritten_printable n (side_bound_cost (setting_of p) (over b) t side_bound)
+        (cost-each IsTidyNumber (λ c low. low) (λ bs. tt) (λ bs. tt) (λ bs. tt) (λ c e low. low) (setting_of p)
+        (settings-tidying.each p valid).updates (over b).time (over b).size (λ u x e. IsTidy-numbers x (good.each u 0 x e).0)
+        (λ u i x e. IsTidy-numbers x (sized u i x e).0) t side_bound ((settings-tidying.each p valid).costs t) shape)
+        (cost-each (IsInputBelow n) (λ c low. tt) (λ bs. tt) (λ bs. tt) (λ bs. tt) (λ c e low. tt) (setting_of p)
+        (settings-tidying.each p valid).updates (over b).time (over b).size (λ u x e. (good.each u 0 x e).1)
+        (λ u i x e. (sized u i x e).1) t side_bound ((settings-tidying.each p valid).costs t) shape)
 
     composed_printable : (node : Node) (premises : List ResultVariable) → AcceptsOver (setting_of p) b node premises
         → IsPrintableBound n (composed_bound (setting_of p) b node)
@@ -143,6 +159,14 @@ derivations_printable p pivots fs valid made =
     (all_stand (searches_of_program p pivots) (setting_of p) (program_searches_right.each p pivots valid) (program_searches_one.each p pivots) fs
     made).each
 
+-- and so is a bound on a cost over them
+pub costs_printable : (p : Program) (pivots : ℕ) (fs : List Derivation) (t : ℕ) (by : CostBy) → IsValid p
+    → IsMade (searches_of_program p pivots) (setting_of p) fs → IsCostOf p pivots (over (bounds_of p fs)) t (BoundedBy by)
+    → IsPrintableBound (length p.start_names) (stated_cost (setting_of p) (over (bounds_of p fs)) t by)
+costs_printable p pivots fs t by valid made is =
+    cost_printable p valid (length p.start_names) (bounds_of p fs) (derivations_printable p pivots fs valid made) t by
+    (cost-numbers p pivots (over (bounds_of p fs)) t valid is.costs by (certified p pivots (over (bounds_of p fs)) t (by, is)))
+
 -- the parts of a total
 parts_printable : (n : ℕ) (os : List (Option Bound)) (ps : Parts) → known_parts os ≡ Some ps → ArePrintable n os
     → HaveTidyNumbers ps × AllReadBelow n ps
@@ -168,6 +192,6 @@ total_printable n times b h e =
     let parts = parts_printable n times total.0 total.1 h in
     subst (IsPrintableBound n) (sym total.2) (rewritten_printable n (SumOf total.0) (tt, parts.0) (tt, parts.1))
 
--- the bounds that are found of a valid program, and their total, are tidy and over start arguments alone
+-- the bounds that are found of a valid program, those on costs and their total are tidy and over start arguments alone
 pub found_printable : FoundBoundsArePrintable
-found_printable = record { derivations = derivations_printable; totals = total_printable }
+found_printable = record { derivations = derivations_printable; costs = costs_printable; totals = total_printable }

@@ -1,29 +1,33 @@
--- The steps of a run are at most the sum of all times.
+-- What a run costs is at most the sum of what each rule spends.
 use Rattle.std.proofs.Common.{◌≡◌, ℕ, suc, ◌+◌, ◌<◌, ◌≤◌, List, [], ◌∷◌, length, Option, Some, None, refl, sym, ◌∙◌, ap}
 use Rattle.std.proofs.Common.{subst, arith}
+use Rattle.std.specs.List.{range_with_len, sum_by}
+use Rattle.std.proofs.lemmas.List.Sums.{sum_by-cons}
 use Rattle.std.specs.Prelude.{slice_index_or}
 use Rattle.model.specs.Programs.{Program}
 use Rattle.model.specs.Bounds.{Bound, SumOf, Parts, NoParts, Part, val, val_sum, IsBased, AreBased}
-use Rattle.model.specs.Facts.{HoldsLength}
-use Rattle.model.specs.Runs.{count, sizes_of_start}
-use Rattle.its_graph.proofs.Totals.{sum_from_one, steps_by_rule}
+use Rattle.model.specs.Facts.{HoldsTotal}
+use Rattle.model.specs.Runs.{sizes_of_start}
+use Rattle.model.specs.Spending.{spent}
+use Rattle.model.proofs.SpendingSums.{spending_is_by_rules}
 use Rattle.bound_table.specs.InForce.{rewritten}
 use Rattle.bound_table.proofs.TableInForce.{rewritten-value}
 use Rattle.time_bounds.specs.Totals.{before, known_parts, total_of}
-use Rattle.time_bounds.specs.Laws.{TimesHold, TotalsHold}
+use Rattle.time_bounds.specs.Laws.{SpendingsHold, TotalsHold}
 
 -- a sum over as many numbers as a list has elements, from k on
 sum_along : (ℕ → ℕ) → ℕ → List (Option Bound) → ℕ
 sum_along f k [] = 0
 sum_along f k (o ∷ os) = f k + sum_along f (suc k) os
 
--- the sum from 1 on
-from_one : (f : ℕ → ℕ) (k : ℕ) (os : List (Option Bound)) → sum_from_one f k + sum_along f (suc k) os ≡ sum_from_one f (k + length os)
+-- it is the sum over these numbers
+along : (f : ℕ → ℕ) (k : ℕ) (os : List (Option Bound)) → sum_along f k os ≡ sum_by f (range_with_len k (length os))
 unfolding sum_along
-from_one f k [] = let e : k ≡ k + 0 = omega arith in omega (arith, ap (sum_from_one f) e)
-from_one f k (o ∷ os) =
-    let e : suc k + length os ≡ k + suc (length os) = omega arith in
-    omega (arith, from_one f (suc k) os, ap (sum_from_one f) e)
+along f k [] = refl
+along f k (o ∷ os) =
+    ap (λ (n : ℕ). f k + n)
+    (along f (suc k) os ∙ ap (λ (n : ℕ). sum_by f (range_with_len n (length os))) (let e : suc k ≡ k + 1 = omega arith in e))
+    ∙ sym (sum_by-cons f k (range_with_len (k + 1) (length os)))
 
 -- known parts have a first and others
 pub first_known : (o : Option Bound) (rest : Option Parts) (ps : Parts) → before o rest ≡ Some ps
@@ -74,22 +78,22 @@ total_is os b e = go (known_parts os) refl
         let same : b ≡ rewritten (SumOf ps) = cc in
         (ps, f, same)
 
--- where the times of all rules hold, every run has at most as many steps as their total says
+-- where these bounds hold of all rules, every run costs at most what their total says
 pub totals_hold : TotalsHold
-totals_hold = record { each = λ p times b h e. holds p times b h (total_is times b e) }
+totals_hold = record { each = λ p bounds b h e. holds p bounds b h (total_is bounds b e) }
   where
-    holds : (p : Program) (times : List (Option Bound)) (b : Bound) → TimesHold p times
-        → (ps : Parts) × (known_parts times ≡ Some ps) × (b ≡ rewritten (SumOf ps)) → HoldsLength p b
-    holds p times b h (ps, known, is) = record {
+    holds : (p : Program) (bounds : List (Option Bound)) (b : Bound) → SpendingsHold p bounds
+        → (ps : Parts) × (known_parts bounds ≡ Some ps) × (b ≡ rewritten (SumOf ps)) → HoldsTotal p b
+    holds p bounds b h (ps, known, is) = record {
       each = λ start steps c run.
           let m = sizes_of_start start in
-          let within = sum_within m times ps known (λ t. count t steps) 1 (λ i x low g.
-          subst (λ (t : ℕ). count t steps ≤ val x m) (number i) ((h.holds i x low g).each start steps c run)) in
+          let within = sum_within m bounds ps known (λ t. spent p t start steps) 1 (λ i x low g.
+          subst (λ (t : ℕ). spent p t start steps ≤ val x m) (number i) ((h.holds i x low g).each start steps c run)) in
           let value : val b m ≡ val (SumOf ps) m =
-          ap (λ (x : Bound). val x m) is ∙ (rewritten-value (SumOf ps) (tt, parts_based times ps known h.based)).each m in
-          let numbers = from_one (λ t. count t steps) 0 times in
-          let long : 0 + length times ≡ length p.rules = omega (arith, h.one_each) in
-          omega (arith, within, value, numbers, ap (sum_from_one (λ t. count t steps)) long, steps_by_rule p start steps c run);
+          ap (λ (x : Bound). val x m) is ∙ (rewritten-value (SumOf ps) (tt, parts_based bounds ps known h.based)).each m in
+          let numbers = along (λ t. spent p t start steps) 1 bounds in
+          let long = ap (λ (n : ℕ). sum_by (λ t. spent p t start steps) (range_with_len 1 n)) h.one_each in
+          omega (arith, within, value, numbers, long, spending_is_by_rules.each p start steps);
     }
       where
         number : (i : ℕ) → suc i ≡ 1 + i

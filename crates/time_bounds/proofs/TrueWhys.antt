@@ -5,20 +5,28 @@ use Rattle.model.specs.Programs.{Program}
 use Rattle.model.proofs.Cases.{none_some}
 use Rattle.its_model.specs.Valid.{IsValid}
 use Rattle.outcome.specs.Holding.{numbered_entry, place_entry}
-use Rattle.outcome.specs.Reports.{NoTime, Untimed, NoSize, Size, Unsized, Report}
+use Rattle.outcome.specs.Reports.{NoTime, Untimed, NoSize, SizeUnbounded, SizeTripped, SizeMissing, SizeNonlinear, SizeUntimed}
+use Rattle.outcome.specs.Reports.{SizeLarge, Size, Unsized, Uncosted, Report}
 use Rattle.cert_types.specs.cert_rules.Known.{IsKnown}
 use Rattle.cert_types.specs.cert_program.Setting.{setting_of}
 use Rattle.bound_fixpoint.specs.Answers.{Target, TimeOf, SizesOf, Lacks, TellsTime, Tells}
 use Rattle.bound_fixpoint.specs.Derivations.{Derivation, bounds_of}
-use Rattle.bound_fixpoint.specs.Keys.{Bounds}
+use Rattle.bound_fixpoint.specs.Keys.{Bounds, over}
 use Rattle.bound_fixpoint.specs.Rounds.{IsAskedFor, IsNoBound}
+use Rattle.local_size.specs.Places.{value_on}
+use Rattle.cost_bounds.specs.CostOutcomes.{NotBounded, IsCostOf}
+use Rattle.cost_bounds.specs.CostReasons.{prepared_cost, HasNoCostBound}
+use Rattle.cost_bounds.proofs.CostReasons.{reasons-true}
 use Rattle.time_bounds.specs.Analysis.{IsAnalysis}
+use Rattle.time_bounds.specs.CostWhys.{HasNoCost}
 use Rattle.time_bounds.specs.ProgramSearches.{searches_of_program}
 use Rattle.bound_fixpoint.specs.Searches.{OfTime, OfSize}
 use Rattle.time_bounds.specs.SaidBounds.{bounds_said}
 use Rattle.time_bounds.specs.SizeWhys.{HasNoSize}
 use Rattle.time_bounds.specs.TimeWhys.{HasNoTime}
 use Rattle.time_bounds.specs.Whys.{ReasonsAreTrue, AnalysesGiveReasons}
+use Rattle.time_bounds.proofs.PassedForms.{unbounded_passes}
+use Rattle.time_bounds.proofs.ReportEntries.{costed_at}
 use Rattle.time_bounds.proofs.SaidKnown.{time-sound_at, size-sound, said_known}
 use Rattle.time_bounds.proofs.TrueSizeWhys.{place_so}
 use Rattle.time_bounds.proofs.TrueTimeWhys.{time_so}
@@ -55,6 +63,23 @@ module _ (p : Program) (pivots : ℕ) (valid : IsValid p) (fs : List Derivation)
       go (SizesOf keys) (cs, are, one, has) tells =
           place_so p pivots valid (bounds_of p fs) t (suc j) cs are keys one has why tells
 
+-- what is said of the reason of a cost is true of the program
+cost_so : (p : Program) (pivots : ℕ) → IsValid p → (b : Bounds) (t : ℕ) (why : NoSize) → IsCostOf p pivots (over b) t (NotBounded why)
+    → HasNoCost p pivots b t why
+cost_so p pivots valid b t why is = go why (reasons-true.each p pivots (over b) t why valid is)
+  where
+    go : (w : NoSize) → HasNoCostBound p pivots (over b) t w → HasNoCost p pivots b t w
+    go (SizeUnbounded side ray kept) k = record {
+      step = k;
+      passes = unbounded_passes (prepared_cost k.costs).rows (prepared_cost k.costs).left (value_on side (prepared_cost k.costs) 1)
+          kept ray k.from k.along;
+    }
+    go (SizeTripped x) k = k
+    go (SizeMissing m) k = k
+    go (SizeNonlinear m) k = k
+    go (SizeUntimed u) k = k
+    go (SizeLarge n) k = k
+
 module _ (p : Program) (pivots : ℕ) (valid : IsValid p) (r : Report) (h : IsAnalysis p pivots r) where
   -- each reason of a time
   time_why : (t : ℕ) (why : NoTime) → numbered_entry r.times t ≡ Some (Untimed why)
@@ -63,6 +88,13 @@ module _ (p : Program) (pivots : ℕ) (valid : IsValid p) (r : Report) (h : IsAn
   time_why (suc k) why e =
       subst (λ (b : Bounds). HasNoTime p pivots b (suc k) why) (sym (said_known p pivots valid r h))
       (no_time_so p pivots valid h.derivations (suc k) why (time-sound_at p pivots valid r h k (Untimed why) e))
+
+  -- each reason of a cost
+  cost_why : (t : ℕ) (why : NoSize) → numbered_entry r.costs t ≡ Some (Some (Uncosted why)) → HasNoCost p pivots (bounds_said p r) t why
+  cost_why zero why e = absurd (none_some (Some (Uncosted why)) e)
+  cost_why (suc k) why e =
+      subst (λ (b : Bounds). HasNoCost p pivots b (suc k) why) (sym (said_known p pivots valid r h))
+      (cost_so p pivots valid (bounds_of p h.derivations) (suc k) why (costed_at p pivots valid r h k (Some (Uncosted why)) e))
 
   -- and of a size
   place_why : (k i : ℕ) (why : NoSize) (o : Option (List Size)) → slice_get r.sizes k ≡ o
@@ -80,7 +112,7 @@ module _ (p : Program) (pivots : ℕ) (valid : IsValid p) (r : Report) (h : IsAn
 
   -- all of them
   pub reasons_so : ReasonsAreTrue p pivots r
-  reasons_so = record { times = time_why; sizes = size_why }
+  reasons_so = record { times = time_why; costs = cost_why; sizes = size_why }
 
 -- the same for each analysis of a valid program
 pub analyses_give_reasons : AnalysesGiveReasons

@@ -10,7 +10,7 @@ use Rattle.model.specs.Programs.{Program, Rule, arity_of}
 use Rattle.model.proofs.Membership.{no_is_not_yes}
 use Rattle.bound_expr.specs.Views.{bound_of}
 use Rattle.outcome.specs.Reports.{Size}
-use Rattle.outcome.specs.Views.{time_of, size_of, report_of}
+use Rattle.outcome.specs.Views.{time_of, cost_of, size_of, report_of}
 use Rattle.outcome.specs.declared.entry.SizeEntry.{SizeEntry}
 use Rattle.outcome.specs.declared.outcome_of.Outcome.{Outcome}
 use Rattle.cert_types.specs.cert_program.Setting.{setting_of}
@@ -26,8 +26,8 @@ use Rattle.time_bounds.specs.declared.candidates.Candidate.{Candidate}
 use Rattle.time_bounds.specs.declared.sizing.ComponentAttempt.{ComponentAttempt}
 use Rattle.time_bounds.specs.declared.sizing.ComponentAttempt.TheVariants as attempts
 use Rattle.time_bounds.specs.ProgramSearches.{searches_of_program}
-use Rattle.time_bounds.specs.Totals.{time_in, total_of}
-use Rattle.time_bounds.specs.Analysis.{IsSizeOf, AreSizeRowsOf}
+use Rattle.time_bounds.specs.Totals.{spendings_by, total_of}
+use Rattle.time_bounds.specs.Analysis.{IsSizeOf, AreSizeRowsOf, AreCostsOver}
 use Rattle.time_bounds.specs.Attempts.{IsAttempt, AreAttempts, is_sized}
 use Rattle.time_bounds.specs.Candidates.{result_variables_in, AreCandidatesOf}
 use Rattle.time_bounds.specs.SizeSaid.{placed, said_table, put_whys}
@@ -97,9 +97,12 @@ module _ (p : Program) (pivots : ℕ) (cs : List Candidate) (tab : Table) (deriv
       → map (λ row. map (λ e. Some (size_of e)) row.items) (first ∷ rows) ≡ put_whys (said_table tab) cs xs → o.sizes.items ≡ rows
       → length o.times.items ≡ length p.rules
       → AreTimesOver (searches_of_program p pivots) p (bounds_of p (derivations_of derivations)) 1 (map (time_of o.gaps.items) o.times.items)
-      → option_map bound_of o.total ≡ total_of (map time_in o.times.items) → IsAnalysisWith p pivots (derivations_of derivations) (report_of o)
-  whole_analysis first rows told same long said total =
-      analysis_of p pivots (derivations_of derivations) o last long said total
+      → length o.costs.items ≡ length p.rules
+      → AreCostsOver p pivots (bounds_of p (derivations_of derivations)) 1 (map (option_map cost_of) o.costs.items)
+      → option_map bound_of o.total ≡ total_of (spendings_by o.times.items o.costs.items)
+      → IsAnalysisWith p pivots (derivations_of derivations) (report_of o)
+  whole_analysis first rows told same long said each costs total =
+      analysis_of p pivots (derivations_of derivations) o last long said each costs total
       (ap (λ (rs : List (Vec SizeEntry Global)). map (λ (ys : List Size). length ys) (map (λ places. map size_of places.items) rs)) same
       ∙ (rows_lengths rows ∙ lengths))
       (subst (λ (rs : List (Vec SizeEntry Global)). AreSizeRowsOf (searches_of_program p pivots) p (derivations_of derivations) 1
@@ -124,12 +127,16 @@ module _ (p : Program) (pivots : ℕ) (cs : List Candidate) (tab : Table) (deriv
       → map (λ row. map (λ e. Some (size_of e)) row.items) sizes ≡ put_whys (said_table tab) cs xs → o.sizes.items ≡ remove sizes 0
       → length o.times.items ≡ length p.rules
       → AreTimesOver (searches_of_program p pivots) p (bounds_of p (derivations_of derivations)) 1 (map (time_of o.gaps.items) o.times.items)
-      → option_map bound_of o.total ≡ total_of (map time_in o.times.items) → IsAnalysisWith p pivots (derivations_of derivations) (report_of o)
-  removed_analysis [] told same long said total = absurd (no_rows told)
+      → length o.costs.items ≡ length p.rules
+      → AreCostsOver p pivots (bounds_of p (derivations_of derivations)) 1 (map (option_map cost_of) o.costs.items)
+      → option_map bound_of o.total ≡ total_of (spendings_by o.times.items o.costs.items)
+      → IsAnalysisWith p pivots (derivations_of derivations) (report_of o)
+  removed_analysis [] told same long said each costs total = absurd (no_rows told)
     where
       no_rows : [] ≡ put_whys (said_table tab) cs xs → ⊥
       no_rows e =
           let few = many p pivots tab derivations derived cs found last.made xs tried nothing in
           let none = ap (λ (rs : List (List (Option Size))). length rs) e in
           omega (arith, few, none)
-  removed_analysis (first ∷ rows) told same long said total = whole_analysis first rows told same long said total
+  removed_analysis (first ∷ rows) told same long said each costs total =
+      whole_analysis first rows told same long said each costs total

@@ -12,7 +12,7 @@ use Rattle.model.proofs.Membership.{filter-in, no_is_not_yes}
 use Rattle.its_model.specs.linear_forms.Forms.{at}
 use Rattle.guard_prep.specs.Prepared.{prepared}
 use Rattle.outcome.specs.Holding.{numbered_entry, place_entry}
-use Rattle.outcome.specs.Reports.{NoTime, Untimed, NoSize, SizeUnbounded, Unsized}
+use Rattle.outcome.specs.Reports.{NoTime, Untimed, NoSize, SizeUnbounded, Unsized, Uncosted}
 use Rattle.cert_types.specs.rule_forms.Bounds.{IsUnboundedRay}
 use Rattle.cert_types.specs.rule_forms.Worked.{plane_form, free_value}
 use Rattle.cert_types.proofs.rule_forms.Worked.{worked}
@@ -28,6 +28,7 @@ use Rattle.local_size.specs.Places.{value_on, is_polynomial_at}
 use Rattle.bound_fixpoint.specs.Keys.{Bounds, key}
 use Rattle.bound_fixpoint.proofs.Cases.{either}
 use Rattle.time_bounds.specs.SaidBounds.{bounds_said}
+use Rattle.time_bounds.specs.CostWhys.{HasNoCost}
 use Rattle.time_bounds.specs.SizeWhys.{PassesEveryForm, PlaceTripsSo, RestsOnSize, BendsAt, GrowsUntimed, HasNoSize}
 use Rattle.time_bounds.specs.TimeWhys.{HasNoTime}
 use Rattle.time_bounds.specs.WorkedReports.{along_free, from_one}
@@ -137,6 +138,13 @@ whole_sizes (suc zero) (suc zero) why e =
 whole_sizes (suc zero) (suc (suc j)) why e = absurd (none_some (Unsized why) e)
 whole_sizes (suc (suc k)) i why e = absurd (none_some (Unsized why) e)
 
+whole_costs : (t : ℕ) (why : NoSize)
+    → numbered_entry (alone_with (SizeUnbounded Up along_free from_one)).costs t ≡ Some (Some (Uncosted why))
+    → HasNoCost guessing_alone 10 (bounds_said guessing_alone (alone_with (SizeUnbounded Up along_free from_one))) t why
+whole_costs zero why e = absurd (none_some (Some (Uncosted why)) e)
+whole_costs (suc zero) why e = absurd (let none : ⊥ = cc in none)
+whole_costs (suc (suc k)) why e = absurd (none_some (Some (Uncosted why)) e)
+
 -- it doesn't rise on the low side
 not_down : PassesEveryForm guessing_alone 1 1 Low along_free from_one → ⊥
 not_down h =
@@ -149,7 +157,7 @@ not_down h =
 pub missing_sizes : MissingSizesAreWorkedOut
 missing_sizes = record {
   places = places;
-  whole = record { times = whole_times; sizes = whole_sizes };
+  whole = record { times = whole_times; costs = whole_costs; sizes = whole_sizes };
   wrong_side = λ h. not_down (h.sizes 1 1 (SizeUnbounded Low along_free from_one) refl);
   wrong_place = λ h. bounded along_free from_one (h.sizes 2 1 (SizeUnbounded Up along_free from_one) refl);
 }

@@ -9,7 +9,7 @@ use Rattle.its_model.specs.linear_forms.declared.limit_cause.LimitCause.{LimitCa
 use Rattle.its_model.specs.linear_forms.declared.limit_cause.LimitCause.TheVariants as causes
 use Rattle.guard_prep.specs.Tightening.{divisor_of}
 use Rattle.outcome.specs.Holding.{numbered_entry, place_entry}
-use Rattle.outcome.specs.Reports.{NoTime, NoFunction, Untimed, NoSize, Unsized}
+use Rattle.outcome.specs.Reports.{NoTime, NoFunction, Untimed, NoSize, Unsized, Uncosted}
 use Rattle.cert_types.specs.cert_rules.AcceptsPlain.{IsRule}
 use Rattle.cert_types.specs.cert_rules.AcceptsRank.{rank_time}
 use Rattle.cert_types.specs.cert_rules.GapChecks.{HasGapShape, GapHolds, IsGapPoint, point_of, balance}
@@ -25,6 +25,7 @@ use Rattle.cert_types.proofs.cert_program.RankedSets.{gap-excludes_all}
 use Rattle.cert_types.proofs.cert_program.WorkedGaps.{gaps_of_programs}
 use Rattle.bound_fixpoint.specs.Keys.{over}
 use Rattle.bound_fixpoint.proofs.Cases.{either}
+use Rattle.time_bounds.specs.CostWhys.{HasNoCost}
 use Rattle.time_bounds.specs.SizeWhys.{HasNoSize}
 use Rattle.time_bounds.specs.TimeWhys.{FirstTripsSo, RankTripsSo, HasNoTime}
 use Rattle.time_bounds.specs.WorkedReports.{staying_gap, staying_report, staying_said}
@@ -181,12 +182,18 @@ whole_sizes (suc zero) (suc zero) why e = absurd (let none : ⊥ = cc in none)
 whole_sizes (suc zero) (suc (suc j)) why e = absurd (none_some (Unsized why) e)
 whole_sizes (suc (suc k)) i why e = absurd (none_some (Unsized why) e)
 
+whole_costs : (t : ℕ) (why : NoSize) → numbered_entry staying_report.costs t ≡ Some (Some (Uncosted why))
+    → HasNoCost looping 10 staying_said t why
+whole_costs zero why e = absurd (none_some (Some (Uncosted why)) e)
+whole_costs (suc zero) why e = absurd (let none : ⊥ = cc in none)
+whole_costs (suc (suc k)) why e = absurd (none_some (Some (Uncosted why)) e)
+
 pub missing_times : MissingTimesAreWorkedOut
 missing_times = record {
   own = own;
   sets = sets;
   gaps = gaps;
   limits = limits;
-  whole = record { times = whole_times; sizes = whole_sizes };
+  whole = record { times = whole_times; costs = whole_costs; sizes = whole_sizes };
   wrong = λ h. unbalanced (h.times 1 (NoFunction (gap_alone 1 one one one)) refl).shown;
 }

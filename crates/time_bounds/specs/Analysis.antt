@@ -1,12 +1,16 @@
 -- What the analysis of a program is.
 use Rattle.std.specs.Prelude.{◌≡◌, ℕ, List, length, map, Option, Some, None}
-use Rattle.model.specs.Bounds.{Bound}
+use Rattle.model.specs.Costs.{HasCost}
 use Rattle.model.specs.Programs.{Program, arity_of}
-use Rattle.outcome.specs.Reports.{Time, Timed, Untimed, Size, Sized, Unsized, Report}
+use Rattle.outcome.specs.Reports.{Time, Timed, Untimed, Size, Sized, Unsized, RuleCost, Costed, Uncosted, Report, spendings}
 use Rattle.cert_types.specs.cert_program.Setting.{setting_of}
+use Rattle.cert_types.specs.cert_rules.AcceptsCosts.{stated_cost}
+use Rattle.cert_types.specs.cert_rules.Nodes.{CostBy}
 use Rattle.bound_fixpoint.specs.Derivations.{Derivation, bounds_of}
+use Rattle.bound_fixpoint.specs.Keys.{Bounds, over}
 use Rattle.bound_fixpoint.specs.Searches.{Searches, OfTime, OfSize}
 use Rattle.bound_fixpoint.specs.Rounds.{IsLast, IsNoBound}
+use Rattle.cost_bounds.specs.CostOutcomes.{BoundedBy, NotBounded, IsCostOf}
 use Rattle.time_bounds.specs.Numbered.{EachNumbered}
 use Rattle.time_bounds.specs.ProgramSearches.{searches_of_program}
 use Rattle.time_bounds.specs.Totals.{total_of}
@@ -35,19 +39,29 @@ AreSizesOf q p fs t i sizes = EachNumbered (IsSizeOf q p fs t) i sizes
 abbrev pub AreSizeRowsOf : Searches → Program → List Derivation → ℕ → List (List Size) → Type 0
 AreSizeRowsOf q p fs t rows = EachNumbered (λ u row. AreSizesOf q p fs u 1 row) t rows
 
--- the bound, where there is one
-abbrev pub bound_in : Time → Option Bound
-bound_in (Timed b) = Some b
-bound_in (Untimed why) = None
+-- the entry of the cost of rule t follows from known bounds: there is none where the rule has no cost; else it is the
+-- bound that is composed of them, as its certificate says; or the first reason why there is none
+abbrev pub IsCostOver : Program → ℕ → Bounds → ℕ → Option RuleCost → Type 0
+IsCostOver p pivots b t None = ¬ (HasCost p t)
+IsCostOver p pivots b t (Some (Costed x)) =
+    (by : CostBy) × IsCostOf p pivots (over b) t (BoundedBy by) × (x ≡ stated_cost (setting_of p) (over b) t by)
+IsCostOver p pivots b t (Some (Uncosted why)) = IsCostOf p pivots (over b) t (NotBounded why)
+
+-- the same for each rule from t on, in order
+abbrev pub AreCostsOver : Program → ℕ → Bounds → ℕ → List (Option RuleCost) → Type 0
+AreCostsOver p pivots b t costs = EachNumbered (IsCostOver p pivots b) t costs
 
 -- the report is that of the last finds of the rounds, over the searches of the program with this many pivots: of each
--- rule the time that is known with them, or why none is; of each place of its target the size that is, or why none is;
--- and the rewritten sum of all times, where each rule has one
+-- rule the time that is known with them, or why none is; of each rule with a cost the bound on it over what is known
+-- with them, or why there is none; of each place of its target the size that is known, or why none is; and the rewritten
+-- sum of what each rule spends at most, where all of this has a bound
 pub record IsAnalysis (p : Program) (pivots : ℕ) (r : Report) : Type 0 where
   pub derivations : List Derivation
   pub last : IsLast (searches_of_program p pivots) (setting_of p) derivations
   pub one_each : length r.times ≡ length p.rules
   pub times : AreTimesOf (searches_of_program p pivots) p derivations 1 r.times
-  pub total : r.total ≡ total_of (map bound_in r.times)
+  pub cost_each : length r.costs ≡ length p.rules
+  pub costs : AreCostsOver p pivots (bounds_of p derivations) 1 r.costs
+  pub total : r.total ≡ total_of (spendings r.times r.costs)
   pub places : map length r.sizes ≡ map (λ rule. arity_of p rule.target) p.rules
   pub sizes : AreSizeRowsOf (searches_of_program p pivots) p derivations 1 r.sizes

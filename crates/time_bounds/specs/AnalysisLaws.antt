@@ -1,8 +1,10 @@
 -- A program has one analysis.
-use Rattle.std.specs.Prelude.{◌≡◌, ℕ, map}
+use Rattle.std.specs.Prelude.{◌≡◌, ℕ, map, Option, Some, None}
 use Rattle.model.specs.Programs.{Program}
 use Rattle.outcome.specs.Reports.{Report}
 use Rattle.outcome.specs.Views.{report_of}
+use Rattle.outcome.specs.declared.entry.CostEntry.{CostEntry}
+use Rattle.outcome.specs.declared.entry.CostEntry.TheVariants as costs
 use Rattle.outcome.specs.declared.entry.TimeEntry.{TimeEntry}
 use Rattle.outcome.specs.declared.entry.TimeEntry.TheVariants as times
 use Rattle.outcome.specs.declared.entry.SizeEntry.{SizeEntry}
@@ -21,6 +23,16 @@ number_of_time (times.Gap g) = g
 number_of_time (times.OutOfLimits x) = 0
 number_of_time (times.Large n) = 0
 
+-- the number that the entry of a cost carries: that of its lemma; 0 where it carries none
+abbrev pub number_of_cost : Option CostEntry → ℕ
+number_of_cost None = 0
+number_of_cost (Some (costs.Known s)) = s.lemma
+number_of_cost (Some (costs.UnboundedSide l)) = 0
+number_of_cost (Some (costs.OutOfLimits x)) = 0
+number_of_cost (Some (costs.Missing m)) = 0
+number_of_cost (Some (costs.Untimed t)) = 0
+number_of_cost (Some (costs.Large n)) = 0
+
 -- the number that the entry of a size carries: that of its lemma; 0 where it carries none
 abbrev pub number_of_size : SizeEntry → ℕ
 number_of_size x = lemma_stored (size_stored x)
@@ -32,6 +44,7 @@ pub record AreOneOutcome (x y : Outcome) : Type 0 where
   pub lemmas : map proof_of x.lemmas.items ≡ map proof_of y.lemmas.items
   pub gaps : map gap_of x.gaps.items ≡ map gap_of y.gaps.items
   pub times : map number_of_time x.times.items ≡ map number_of_time y.times.items
+  pub costs : map number_of_cost x.costs.items ≡ map number_of_cost y.costs.items
   pub sizes : map (λ row. map number_of_size row.items) x.sizes.items
       ≡ map (λ row. map number_of_size row.items) y.sizes.items
 

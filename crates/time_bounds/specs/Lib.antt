@@ -1,4 +1,4 @@
--- the total of all times, and what it is worth
+-- the total, and what it is worth
 pub mod Totals
 pub mod Laws
 -- entries in order, and the numbers of lemmas
@@ -30,12 +30,14 @@ pub mod Beginning
 -- what an analysis says
 pub mod Analysis
 pub mod AnalysisLemmas
+pub mod CostEntries
 -- a program has one analysis
 pub mod AnalysisLaws
 -- what each reason in a report says of the program
 pub mod SaidBounds
 pub mod TimeWhys
 pub mod SizeWhys
+pub mod CostWhys
 pub mod Whys
 pub mod WorkedReports
 pub mod WorkedTimeWhys

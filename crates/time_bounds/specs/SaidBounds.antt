@@ -3,9 +3,8 @@ use Rattle.std.specs.Prelude.{zero, suc, Option, Some, None}
 use Rattle.model.specs.Bounds.{Bound}
 use Rattle.model.specs.Programs.{Program}
 use Rattle.outcome.specs.Holding.{numbered_entry, place_entry}
-use Rattle.outcome.specs.Reports.{Time, Size, Sized, Unsized, Report}
+use Rattle.outcome.specs.Reports.{Time, Size, Sized, Unsized, Report, bound_in}
 use Rattle.bound_fixpoint.specs.Keys.{Bounds, start_bounds}
-use Rattle.time_bounds.specs.Analysis.{bound_in}
 
 -- the bound of a rule's entry, where there is an entry and it is a bound
 abbrev pub time_said : Option Time → Option Bound

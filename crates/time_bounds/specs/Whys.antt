@@ -3,8 +3,9 @@ use Rattle.std.specs.Prelude.{◌≡◌, ℕ, Some}
 use Rattle.model.specs.Programs.{Program}
 use Rattle.its_model.specs.Valid.{IsValid}
 use Rattle.outcome.specs.Holding.{numbered_entry, place_entry}
-use Rattle.outcome.specs.Reports.{NoTime, Untimed, NoSize, Unsized, Report}
+use Rattle.outcome.specs.Reports.{NoTime, Untimed, NoSize, Unsized, Uncosted, Report}
 use Rattle.time_bounds.specs.Analysis.{IsAnalysis}
+use Rattle.time_bounds.specs.CostWhys.{HasNoCost}
 use Rattle.time_bounds.specs.SaidBounds.{bounds_said}
 use Rattle.time_bounds.specs.SizeWhys.{HasNoSize}
 use Rattle.time_bounds.specs.TimeWhys.{HasNoTime}
@@ -13,6 +14,8 @@ use Rattle.time_bounds.specs.TimeWhys.{HasNoTime}
 pub record ReasonsAreTrue (p : Program) (pivots : ℕ) (r : Report) : Type 0 where
   pub times : (t : ℕ) (why : NoTime) → numbered_entry r.times t ≡ Some (Untimed why)
       → HasNoTime p pivots (bounds_said p r) t why
+  pub costs : (t : ℕ) (why : NoSize) → numbered_entry r.costs t ≡ Some (Some (Uncosted why))
+      → HasNoCost p pivots (bounds_said p r) t why
   pub sizes : (t i : ℕ) (why : NoSize) → place_entry (numbered_entry r.sizes t) i ≡ Some (Unsized why)
       → HasNoSize p pivots (bounds_said p r) t i why
 

@@ -17,6 +17,7 @@ staying_gap = gap_alone 1 one nowhere one
 abbrev pub staying_report : Report
 staying_report = record {
   times = Untimed (NoFunction staying_gap) ∷ [];
+  costs = None ∷ [];
   total = None;
   sizes = (Sized (Input 0) ∷ []) ∷ [];
 }
@@ -34,6 +35,7 @@ from_one = scaled (pos 1 ∷ pos 1 ∷ []) 1
 abbrev pub guessed_report : Report
 guessed_report = record {
   times = Timed (Constant 1) ∷ Untimed (NoFunction (gap_of_one place_of_l (pos 1) 1 (pos 1) 0 (pos 1) 1)) ∷ [];
+  costs = None ∷ None ∷ [];
   total = None;
   sizes = (Unsized (SizeUnbounded Up along_free from_one) ∷ []) ∷ (Unsized (SizeMissing (key 1 1)) ∷ []) ∷ [];
 }

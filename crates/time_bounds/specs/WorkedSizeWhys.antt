@@ -46,12 +46,13 @@ pub record SmallPlacesAreWorkedOut : Type 0 where
 
 -- the rule has a time, and the place after it this reason
 abbrev pub alone_with : NoSize → Report
-alone_with why = record { times = Timed (Constant 1) ∷ []; total = None; sizes = (Unsized why ∷ []) ∷ [] }
+alone_with why = record { times = Timed (Constant 1) ∷ []; costs = None ∷ []; total = None; sizes = (Unsized why ∷ []) ∷ [] }
 
 -- two rules, where A - 1 is called loose, too
 abbrev pub wrong_at_2 : Report
 wrong_at_2 = record {
   times = Timed (Constant 1) ∷ Untimed (NoFunction (gap_of_one place_of_l (pos 1) 1 (pos 1) 0 (pos 1) 1)) ∷ [];
+  costs = None ∷ None ∷ [];
   total = None;
   sizes = (Unsized (SizeUnbounded Up along_free from_one) ∷ []) ∷ (Unsized (SizeUnbounded Up along_free from_one) ∷ []) ∷ [];
 }

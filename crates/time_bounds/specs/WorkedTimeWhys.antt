@@ -34,6 +34,7 @@ pair_gap = gap_with 1 (1 ∷ 2 ∷ []) [] (one ∷ nowhere ∷ []) nowhere (one 
 abbrev pub second_report : Report
 second_report = record {
   times = Untimed (NoFunction staying_gap) ∷ Timed (Constant 1) ∷ [];
+  costs = None ∷ None ∷ [];
   total = None;
   sizes = (Unsized (SizeMissing (key 2 1)) ∷ []) ∷ (Sized (Input 0) ∷ []) ∷ [];
 }
@@ -42,6 +43,7 @@ second_report = record {
 abbrev pub unsized_report : Report
 unsized_report = record {
   times = Untimed (NoFunction staying_gap) ∷ Timed (Constant 1) ∷ [];
+  costs = None ∷ None ∷ [];
   total = None;
   sizes = (Sized (Input 0) ∷ []) ∷ (Unsized (SizeMissing (key 1 1)) ∷ []) ∷ [];
 }
@@ -50,6 +52,7 @@ unsized_report = record {
 abbrev pub both_report : Report
 both_report = record {
   times = Untimed (NoFunction pair_gap) ∷ Untimed (NoFunction pair_gap) ∷ [];
+  costs = None ∷ None ∷ [];
   total = None;
   sizes = (Sized (Input 0) ∷ []) ∷ (Sized (Input 0) ∷ []) ∷ [];
 }
@@ -109,6 +112,7 @@ pub record LimitsSaySo : Type 0 where
 abbrev pub wrong_report : Report
 wrong_report = record {
   times = Untimed (NoFunction (gap_alone 1 one one one)) ∷ [];
+  costs = None ∷ [];
   total = None;
   sizes = (Sized (Input 0) ∷ []) ∷ [];
 }

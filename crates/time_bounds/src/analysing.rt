@@ -20,6 +20,7 @@ ghost use Rattle.time_bounds.specs.Whys.{ReasonsAreTrue};
 use crate::beginning::first_derivations;
 use crate::candidates::{Candidate, candidates};
 use crate::context::{Context, context_of};
+use crate::costing::{CostsAndLemmas, cost_entries};
 use crate::new_derivations::take_all;
 use crate::reasons::{TimesAndGaps, time_entries};
 use crate::rounds::{LastRound, rounds};
@@ -33,8 +34,8 @@ use outcome::Outcome;
 use std::alloc::Global;
 
 /// Analyses a program, where each linear program may take this many pivots: for each rule a time or why there is none,
-/// and for each place after it a size or why there is none; the total where each rule has a time; the lemmas that state
-/// them, and the gaps.
+/// for each rule with a cost a bound on what its steps cost or why there is none, and for each place after it a size or
+/// why there is none; the total, where what each rule spends has a bound; the lemmas that state them, and the gaps.
 ///
 /// # Errors
 ///
@@ -100,11 +101,13 @@ fn outcome_from(
     let mut sizes = size_entries(cx.alloc, &table, candidates, &attempts)?;
     sizes.remove(0);
     let TimesAndGaps { times, gaps } = time_entries(cx, &table, asked)?;
-    let total = total(cx.alloc, &times)?;
     let lemmas = lemmas(cx.alloc, &table, derivations)?;
+    let CostsAndLemmas { costs, lemmas } = cost_entries(cx, &table, lemmas)?;
+    let total = total(cx.alloc, &times, &costs)?;
     Ok(Outcome {
         times,
         sizes,
+        costs,
         total,
         lemmas,
         gaps,

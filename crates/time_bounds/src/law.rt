@@ -7,8 +7,8 @@ ghost use Rattle.time_bounds.specs.SearchLaws.{ProgramSearchesAreRight, ProgramS
 ghost use Rattle.time_bounds.specs.Whys.{AnalysesGiveReasons};
 ghost use Rattle.time_bounds.specs.WorkedWhys.{WhysAreWorkedOut};
 
-/// The law that if each rule's time holds on all runs, every run has at most as many steps as the total says. The
-/// function has no code: its contract is the law.
+/// The law that if what each rule spends is bounded on all runs by the bound of a list, every run costs at most what the
+/// total of the list says. The function has no code: its contract is the law.
 pub fn totals_hold()
     ensures { TotalsHold }
 {}
@@ -19,8 +19,9 @@ pub fn analyses_are_one()
     ensures { AnalysesAreOne }
 {}
 
-/// The law that each bound that rounds find for a valid program is tidy, over the start arguments alone, and so is the
-/// total of such times: all of them can be printed. The function has no code: its contract is the law.
+/// The law that each bound that rounds find for a valid program is tidy, over the start arguments alone, and so are the
+/// bounds on costs over these, and the total of such bounds: all of them can be printed. The function has no code: its
+/// contract is the law.
 pub fn found_bounds_are_printable()
     ensures { FoundBoundsArePrintable }
 {}
@@ -47,9 +48,11 @@ pub fn searches_are_one()
 /// solution, but one that decides whether a rule of the set has a point exceeds the limit, the first that exceeds any;
 /// or the composed time is too large. For a place without a size: the new value exceeds every affine form in the
 /// arguments, along a ray and from a point; or a linear program exceeds a limit; or the size depends on one that isn't
-/// known, bends in a loop, grows by a rule without a time, or is too large. For functions and forms alike a new value
-/// of degree 2 or more counts as a variable of its own, which may be any number, and comparisons of degree 2 or more
-/// are ignored. The function has no code: its contract is the law.
+/// known, bends in a loop, grows by a rule without a time, or is too large. For a rule with a cost that has no bound: the
+/// cost of one step exceeds every affine form in the arguments; or a linear program exceeds a limit; or a size that its
+/// bound reads, or the rule's time, isn't known; or the composed bound is too large. For functions and forms alike a new
+/// value or a cost of degree 2 or more counts as a variable of its own, which may be any number, and comparisons of
+/// degree 2 or more are ignored. The function has no code: its contract is the law.
 pub fn reasons_are_true()
     ensures { AnalysesGiveReasons }
 {}

@@ -27,3 +27,4 @@ pub mod Squares
 pub mod Growths
 pub mod FirstReasons
 pub mod FirstUntimed
+pub mod Costs

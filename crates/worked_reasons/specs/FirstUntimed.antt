@@ -35,6 +35,7 @@ abbrev pub bounds_with : Time → Time → Bounds
 bounds_with first second = bounds_said growing_twice
     (record {
       times = first ∷ second ∷ [];
+      costs = None ∷ None ∷ [];
       total = None;
       sizes = (Unsized (SizeUntimed 1) ∷ []) ∷ (Unsized (SizeUntimed 1) ∷ []) ∷ [];
     })

@@ -11,3 +11,4 @@ pub mod Products
 pub mod Growths
 pub mod FirstReasons
 pub mod FirstUntimed
+pub mod Costs

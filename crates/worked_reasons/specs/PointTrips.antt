@@ -33,6 +33,7 @@ abbrev pub resetting_report : Report
 resetting_report = record {
   times = Untimed (TimeTripped (tripped_at 2 (asked.Empty 1)))
       ∷ Untimed (TimeTripped (tripped_at 2 (asked.Empty 1))) ∷ [];
+  costs = None ∷ None ∷ [];
   total = None;
   sizes = (Unsized (SizeTripped (tripped_at 2 (asked.Empty 1))) ∷ [])
       ∷ (Unsized (SizeTripped (tripped_at 2 (asked.Empty 1))) ∷ []) ∷ [];

@@ -76,6 +76,7 @@ both_products = record { result_variable = key 1 1; local = both_polynomial } �
 abbrev pub products_report : Report
 products_report = record {
   times = Untimed (TimeTripped (tripped_at 0 (asked.Rank 1))) ∷ [];
+  costs = None ∷ [];
   total = None;
   sizes = (Unsized (SizeNonlinear (key 1 1)) ∷ Unsized (SizeNonlinear (key 1 1)) ∷ []) ∷ [];
 }
@@ -103,6 +104,7 @@ abbrev pub squares_report : Report
 squares_report = record {
   times = Untimed (TimeTripped (tripped_at 0 (asked.Rank 1)))
       ∷ Untimed (TimeTripped (tripped_at 0 (asked.Rank 2))) ∷ [];
+  costs = None ∷ None ∷ [];
   total = None;
   sizes = (Unsized (SizeNonlinear (key 1 1)) ∷ []) ∷ (Unsized (SizeMissing (key 1 1)) ∷ []) ∷ [];
 }
@@ -111,6 +113,7 @@ squares_report = record {
 abbrev pub bending_report : Report
 bending_report = record {
   times = squares_report.times;
+  costs = None ∷ None ∷ [];
   total = None;
   sizes = (Unsized (SizeNonlinear (key 1 1)) ∷ []) ∷ (Unsized (SizeNonlinear (key 2 1)) ∷ []) ∷ [];
 }
@@ -119,6 +122,7 @@ bending_report = record {
 abbrev pub towering_report : Report
 towering_report = record {
   times = squares_report.times;
+  costs = None ∷ None ∷ [];
   total = None;
   sizes = (Sized (tower 200) ∷ []) ∷ (Unsized (SizeLarge 823) ∷ []) ∷ [];
 }
@@ -128,6 +132,7 @@ towering_report = record {
 abbrev pub growing_report : Report
 growing_report = record {
   times = Timed (Constant 1) ∷ Untimed (TimeTripped (tripped_at 0 (asked.Rank 2))) ∷ [];
+  costs = None ∷ None ∷ [];
   total = None;
   sizes = (Sized (Input 0) ∷ []) ∷ (Unsized (SizeUntimed 2) ∷ []) ∷ [];
 }
@@ -137,6 +142,7 @@ abbrev pub untimed_report : Report
 untimed_report = record {
   times = Untimed (TimeTripped (tripped_at 0 (asked.Rank 1)))
       ∷ Untimed (TimeTripped (tripped_at 0 (asked.Rank 2))) ∷ [];
+  costs = None ∷ None ∷ [];
   total = None;
   sizes = growing_report.sizes;
 }
@@ -145,6 +151,7 @@ untimed_report = record {
 abbrev pub timed_report : Report
 timed_report = record {
   times = Timed (Constant 1) ∷ Timed (Constant 3) ∷ [];
+  costs = None ∷ None ∷ [];
   total = None;
   sizes = growing_report.sizes;
 }
@@ -153,6 +160,7 @@ timed_report = record {
 abbrev pub untimed_tower_report : Report
 untimed_tower_report = record {
   times = untimed_report.times;
+  costs = None ∷ None ∷ [];
   total = None;
   sizes = (Sized (tower 200) ∷ []) ∷ (Unsized (SizeUntimed 2) ∷ []) ∷ [];
 }
@@ -161,6 +169,7 @@ untimed_tower_report = record {
 abbrev pub timed_tower_report : Report
 timed_tower_report = record {
   times = timed_report.times;
+  costs = None ∷ None ∷ [];
   total = None;
   sizes = (Sized (tower 200) ∷ []) ∷ (Unsized (SizeLarge 415) ∷ []) ∷ [];
 }
@@ -169,6 +178,7 @@ timed_tower_report = record {
 abbrev pub deep_report : Report
 deep_report = record {
   times = Timed (Constant 1) ∷ Untimed (TimeLarge 208) ∷ [];
+  costs = None ∷ None ∷ [];
   total = None;
   sizes = (Sized (tower 200) ∷ []) ∷ (Sized (tower 200) ∷ []) ∷ [];
 }

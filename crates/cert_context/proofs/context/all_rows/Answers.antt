@@ -1,6 +1,6 @@
 use Rattle.std.proofs.Common.{◌∙◌, ap, subst, ◌<◌, length, List, get_or}
 use Rattle.its_model.specs.declared.program.Rule.{Rule}
-use Rattle.cert_context.proofs.Rows.{rule-preparable}
+use Rattle.cost_nodes.proofs.WrittenCosts.{rule-preparable}
 use Rattle.cert_context.proofs.context.all_rows.Goals as goal
 
 pub rows-requires : goal.rows-requires

@@ -6,7 +6,8 @@ use Rattle.cert_context.specs.CheckContexts.{program}
 use Rattle.check_sizes.specs.CostAnswers.{cost_setting}
 use Rattle.check_sizes.proofs.SideBoundsOver.{accepted-over, over-accepted}
 use Rattle.check_sizes.proofs.CostAnswers.{side_bound-untimed, no-side_bound}
-use Rattle.check_sizes.proofs.CostRows.{cost-side_bounds, cost-own, cost-single}
+use Rattle.cost_nodes.proofs.CostRules.{cost-single}
+use Rattle.check_sizes.proofs.CostRows.{cost-side_bounds, cost-own}
 use Rattle.check_sizes.proofs.side_bound_costs.side_bound_cost.Goals as goal
 
 pub accepts_side_bound-requires-clause-suits : goal.accepts_side_bound-requires-clause-suits

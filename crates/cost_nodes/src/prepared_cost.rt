@@ -1,0 +1,12 @@
+//! A rule with a cost, as its bounds are composed.
+
+use guard_prep::RuleRows;
+use its_graph::Graph;
+
+/// A rule with a cost: the graph of its program, its number, and the prepared rows of its cost rule.
+#[derive(Drop)]
+pub struct PreparedCost<'a> {
+    pub graph: &'a Graph,
+    pub rule: u32,
+    pub rows: &'a RuleRows,
+}
