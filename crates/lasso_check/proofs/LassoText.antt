@@ -124,9 +124,11 @@ module _ (p : Program) where
   stand_rest [] l rule h = (tt, λ k. omega (arith, k))
   stand_rest (s ∷ ss) l rule h =
       let w = stand_step s (rest_parts ss) l rule true h in
-      let rest = stand_rest ss (with_step true s l) s.rule w.2 in
-      ((w.0, rest.0), λ k. let m = w.1 k in let n = rest.1 (omega (arith, m, one_more true s l)) in
-      omega (arith, n, one_more true s l))
+      let rest = stand_rest ss (with_step true s l) s.rule w.2 in (
+        (w.0, rest.0),
+        λ k. let m = w.1 k in let n = rest.1 (omega (arith, m, one_more true s l)) in
+            omega (arith, n, one_more true s l),
+      )
 
   rest_comes : (ss : List Step) (l : Lasso) (rule : ℕ) → AreStepsOf p ss
       → (comes (from l rule true) (rest_parts ss)).own.lasso
@@ -156,9 +158,12 @@ module _ (p : Program) where
       (tt, rest.0, λ k. let n = rest.1 k in omega (arith, n))
   stand_stem (s ∷ ss) t l rule h =
       let w = stand_step s (stem_parts ss t) l rule false h in
-      let rest = stand_stem ss t (with_step false s l) s.rule w.2 in
-      ((w.0, rest.0), rest.1, λ k. let m = w.1 k in let n = rest.2 (omega (arith, m, one_more false s l)) in
-      omega (arith, n, one_more false s l))
+      let rest = stand_stem ss t (with_step false s l) s.rule w.2 in (
+        (w.0, rest.0),
+        rest.1,
+        λ k. let m = w.1 k in let n = rest.2 (omega (arith, m, one_more false s l)) in
+            omega (arith, n, one_more false s l),
+      )
 
   stem_comes : (ss : List Step) (t : TurnSteps) (l : Lasso) (rule : ℕ) → AreStepsOf p ss → AreStepsOf p (turn_of t)
       → (comes (from l rule false) (stem_parts ss t)).own.lasso

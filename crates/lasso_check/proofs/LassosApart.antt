@@ -27,8 +27,8 @@ parts_apart (s ∷ ss) (t ∷ ts) us vs h k m n e =
     let free = line_apart s.free t.free (stem_text ss us) (stem_text ts vs) h.1 k.1 rule.1 in
     let behind = parts_apart ss ts us vs h.2 k.2 m n free.1 in (
       ap (λ (n : ℕ). record { rule = n; free = s.free } ∷ ss) rule.0
-      ∙ ap (λ (vs : List ℤ). record { rule = t.rule; free = vs } ∷ ss) free.0
-      ∙ ap (λ (us : List Step). t ∷ us) behind.0,
+          ∙ ap (λ (vs : List ℤ). record { rule = t.rule; free = vs } ∷ ss) free.0
+          ∙ ap (λ (us : List Step). t ∷ us) behind.0,
       behind.1,
     )
 

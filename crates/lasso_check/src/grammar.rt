@@ -26,7 +26,9 @@ pub const CLASSES: u32 = 18;
 pub const ROUNDS: u32 = 9;
 
 const STEM: u32 = 9;
+
 const TURN: u32 = 10;
+
 const REST: u32 = 11;
 
 /// The mark behind the line `loop`.
