@@ -9,7 +9,7 @@ import random
 import re
 import sys
 
-from . import analyser, answers, bounds, explain, gallery, growth, lint, making, many, page, picture, programs
+from . import analyser, answers, bounds, endless, explain, gallery, growth, lint, making, many, page, picture, programs
 from . import proofs, refusals, runs, sentences, serve
 from .analyser import Stop
 
@@ -24,6 +24,8 @@ stands beside it (hints, O-classes, values, pictures) is worked out here and isn
   class FILE          a first line as the termination competition has it, and the O-class of each bound
   at FILE A=30 B=12   the value of each bound at these inputs
   run FILE A=30 B=12  a run made at random from these inputs, as a run file for `koat replay`
+  endless FILE        a lasso, which shows that some run never ends, as a file for `koat lasso`; status 1 where none is
+                      found
   proof FILE          the proof of the bounds in sentences, lemma by lemma; with --proof PROOF that of this file
   many PATH..         files and folders at once: a line of JSON for each, and a table at the end
   serve               an editor in the browser with koat's answers beside it, for this machine alone
@@ -31,14 +33,16 @@ stands beside it (hints, O-classes, values, pictures) is worked out here and isn
   page FILE           a page for the browser: the graph, the rules with their bounds, fields for the inputs; with
                       --run RUN also how often each rule occurs in the run of that file, and how large values become"""
 
-STATUSES = """status: 0 done; 1 lint found a likely slip; 2 the words are no command line; 3 FILE can't be read; 4
-the output can't be written; 6 koat refused the program; 10 koat can't be run; 11 koat gave no answer, or none that
-can be read; 12 dot is missing, failed or took too long; 13 inputs of `at` or `run` are wrong; 14 koat refused the run;
-15 koat refused the proof's text, or doesn't accept it; 130 interrupted. FILE may be - for standard input. The
-variable KOAT names another program than ./koat."""
+STATUSES = """status: 0 done; 1 lint found a likely slip, or endless no lasso; 2 the words are no command line; 3 FILE
+can't be read; 4 the output can't be written; 6 koat refused the program; 10 koat can't be run; 11 koat gave no answer,
+or none that can be read; 12 dot is missing, failed or took too long; 13 inputs of `at` or `run` are wrong; 14 koat
+refused the run; 15 koat refused the proof's text, or doesn't accept it; 130 interrupted. FILE may be - for standard
+input. The variable KOAT names another program than ./koat."""
 
 
 INTERRUPTED = 130
+# How long `endless` looks where no time is given.
+ENDLESS_SECONDS = 10
 
 
 def seconds(text):
@@ -298,6 +302,15 @@ def _run(asked, out):
     return 0
 
 
+def _endless(asked, out):
+    """Looks for a run that comes to a configuration again, and writes it as a lasso file."""
+    lasso = endless.found(_reported(asked).program, asked.seconds or ENDLESS_SECONDS)
+    if lasso is None:
+        return 1
+    out.write(endless.text(lasso))
+    return 0
+
+
 def _proof(asked, out):
     """Shows the proof of the bounds in sentences, which koat's checker accepted, or says what it doesn't accept."""
     answer = _reported(asked)
@@ -359,5 +372,5 @@ WITH_INPUTS = ("at", "run")
 WORDS_OF = {"many": _many_words, "serve": _serve_words, "gallery": _gallery_words}
 AT_ONCE = ("many", "serve")
 
-COMMANDS = {"explain": _explain, "lint": _lint, "json": _json, "class": _class, "at": _at, "run": _run, "proof": _proof,
-            "page": _page, "many": _many, "serve": _serve, "gallery": _gallery}
+COMMANDS = {"explain": _explain, "lint": _lint, "json": _json, "class": _class, "at": _at, "run": _run,
+            "endless": _endless, "proof": _proof, "page": _page, "many": _many, "serve": _serve, "gallery": _gallery}

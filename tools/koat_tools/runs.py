@@ -39,7 +39,7 @@ def text(run):
 def made(program, start, most, seed):
     """A run from these start values of at most so many steps; the same seed gives the same run."""
     draws = random.Random(seed)
-    rules = [_Rule(rule) for rule in program.rules]
+    rules = [UsableRule(rule) for rule in program.rules]
     run, symbol, values = Run(list(start)), program.start, list(start)
     while len(run.steps) < most:
         step = _step(draws, rules, symbol, values)
@@ -53,7 +53,7 @@ def made(program, start, most, seed):
 
 def states(program, run, most):
     """For each step of a run its rule, the symbol that it leads to and the values there; none where one isn't possible."""
-    rules, values, found = {it.number: it for it in map(_Rule, program.rules)}, list(run.start), []
+    rules, values, found = {it.number: it for it in map(UsableRule, program.rules)}, list(run.start), []
     for number, free in run.steps[:most]:
         values = rules[number].after(values, free) if number in rules else None
         if values is None:
@@ -99,7 +99,7 @@ def _drawn(draws, values):
     return max(-WIDEST, min(WIDEST, middle + draws.randint(-NEAR, NEAR)))
 
 
-class _Rule:
+class UsableRule:
     """A rule of which guard, updates and cost can be computed."""
 
     def __init__(self, rule):

@@ -23,7 +23,7 @@ class Runs(unittest.TestCase):
         self.assertEqual(runs.text(runs.made(programs.read(LOOP), [3], 2, 0)).count("step"), 2)
 
     def test_rules_are_computed(self):
-        rule = runs._Rule(programs.read(FREE).rules[0])
+        rule = runs.UsableRule(programs.read(FREE).rules[0])
         self.assertEqual((rule.names, rule.free), (["A", "B"], ["Y", "Z", "W", "TRUE"]))
         told = [rule.after([2, 5], it) for it in ([0, 3, 3, 7], [0, 2, 2, 7], [0, 3, 4, 7], [0, 3, 3, 6])]
         self.assertEqual(told, [[4, -4], None, None, None])
@@ -32,9 +32,9 @@ class Runs(unittest.TestCase):
     def test_no_part_of_a_step_passes_128_bits(self):
         for rule, last in (("f(A) -> Com_1(f(A)) :|: A^3 >= 1", 2**42), ("f(A) -> Com_1(f(A^3-A^3))", 2**42),
                            ("f(A) -> Com_1(f(A*0)) :|: A^2*8 > 0 && -A <= A", 2**62 - 1)):
-            it = runs._Rule(programs.read(f"(STARTTERM (FUNCTIONSYMBOLS f))(RULES {rule})".encode()).rules[0])
+            it = runs.UsableRule(programs.read(f"(STARTTERM (FUNCTIONSYMBOLS f))(RULES {rule})".encode()).rules[0])
             self.assertEqual([it.after([value], []) is None for value in (last, 2**62)], [False, True], rule)
-        power = runs._Rule(programs.read(b"(STARTTERM (FUNCTIONSYMBOLS f))(RULES f(A) -> Com_1(f(A^999)))").rules[0])
+        power = runs.UsableRule(programs.read(b"(STARTTERM (FUNCTIONSYMBOLS f))(RULES f(A) -> Com_1(f(A^999)))").rules[0])
         self.assertEqual([power.after([it], []) for it in (-1, 0, 1, 2)], [[-1], [0], [1], None])
 
     def test_steps_follow_each_other(self):
@@ -43,7 +43,7 @@ class Runs(unittest.TestCase):
             run = runs.made(program, [1, -1], 30, seed)
             symbol, values = program.start, run.start
             for number, free in run.steps:
-                rule = runs._Rule(program.rule(number))
+                rule = runs.UsableRule(program.rule(number))
                 after = rule.after(values, free)
                 if rule.source != symbol or after is None:
                     broken.append((seed, number))

@@ -6,7 +6,7 @@ pub mod RunsApart
 pub mod WorkedRuns
 pub mod ReplayFaults
 pub mod ReplayRuns
-mod ReplayTallies
-mod ReplayStands
+pub mod ReplayTallies
+pub mod ReplayStands
 mod ReplayLaws
 mod WorkedReplays

@@ -25,7 +25,7 @@ use Rattle.run_replay.specs.Replays.{greatest_sizes, Sums, tally_along, IsSizeAf
 use Rattle.run_replay.specs.ReplayAnswers.{Notes}
 
 -- what is made of the numbers from 1 on, with another one at one place
-set_listed : {X : Type 0} (f g : ℕ → X) (n k t : ℕ) (x : X) → k < n → t ≡ suc k → x ≡ g t
+pub set_listed : {X : Type 0} (f g : ℕ → X) (n k t : ℕ) (x : X) → k < n → t ≡ suc k → x ≡ g t
     → ((u : ℕ) → u ≢ t → f u ≡ g u) → set (map f (range_with_len 1 n)) k x ≡ map g (range_with_len 1 n)
 set_listed {X} f g n k t x low e same other =
     same_lists _ _
@@ -59,7 +59,7 @@ count_at_most t (s ∷ earlier) h = go (eqb_tells s.rule t) (count_at_most t ear
     go (inr (test, other)) before = omega (arith, one_if_same-other s.rule t other, before)
 
 -- a step by another rule isn't counted
-count_same : (t : ℕ) (s : Step) (earlier : List Step) → s.rule ≢ t → count t earlier ≡ count t (s ∷ earlier)
+pub count_same : (t : ℕ) (s : Step) (earlier : List Step) → s.rule ≢ t → count t earlier ≡ count t (s ∷ earlier)
 count_same t s earlier ne = omega (arith, one_if_same-other s.rule t ne)
 
 -- a step by the rule raises the greatest absolute value to that behind it
@@ -119,7 +119,7 @@ same_sums : (a b : Sums) → a.steps ≡ b.steps → a.counts ≡ b.counts → a
 same_sums a b e f g h k = λ i. record { steps = e i; counts = f i; greatest = g i; costs = h i; spent = k i }
 
 -- a capped sum and a number more, capped, is the sum of all, capped
-capped_more : (a b : ℕ) → capped (capped a + b) ≡ capped (b + a)
+pub capped_more : (a b : ℕ) → capped (capped a + b) ≡ capped (b + a)
 capped_more a b = capped_at a b cap
   where
     capped_at : (a b limit : ℕ) → min (min a limit + b) limit ≡ min (b + a) limit

@@ -10,7 +10,7 @@ use Rattle.run_replay.specs.Runs.{Run}
 use Rattle.run_replay.specs.Spelled.{steps_text, text_of, AreStepsOf, IsWithin, AreShortSteps, IsShort, OneRun}
 
 -- the lines of steps are those of one list of steps
-steps_apart : (ss ts : List Step) → AreShortSteps ss → AreShortSteps ts → steps_text ss ≡ steps_text ts → ss ≡ ts
+pub steps_apart : (ss ts : List Step) → AreShortSteps ss → AreShortSteps ts → steps_text ss ≡ steps_text ts → ss ≡ ts
 steps_apart [] [] h k e = refl
 steps_apart [] (t ∷ ts) h k e = let same : ◌≡◌ {A = ℕ} 101 115 = cc in absurd (omega (arith, same))
 steps_apart (s ∷ ss) [] h k e = let same : ◌≡◌ {A = ℕ} 115 101 = cc in absurd (omega (arith, same))
@@ -26,11 +26,11 @@ steps_apart (s ∷ ss) (t ∷ ts) h k e =
     ∙ ap (λ (us : List Step). t ∷ us) (steps_apart ss ts h.2 k.2 free.1)
 
 -- small values have at most 64 digits, and so have all numbers of a run within the limits
-small_short : (vs : List ℤ) → AreSmall vs → AreShort vs
+pub small_short : (vs : List ℤ) → AreSmall vs → AreShort vs
 small_short [] h = tt
 small_short (v ∷ vs) h = ((let l = h.0 in omega (arith, l)), small_short vs h.1)
 
-steps_short : (p : Program) (ss : List Step) → AreStepsOf p ss → AreShortSteps ss
+pub steps_short : (p : Program) (ss : List Step) → AreStepsOf p ss → AreShortSteps ss
 steps_short p [] h = tt
 steps_short p (s ∷ ss) h =
     ((let l = h.0.held in omega (arith, l)), small_short s.free h.0.small, steps_short p ss h.1)

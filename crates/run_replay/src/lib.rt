@@ -20,8 +20,10 @@ mod text;
 mod walk;
 
 pub use error::RunTextError;
+pub use faults::{STEP_LIMIT, is_no_rule, wanted};
 pub use file::RunFile;
 pub use its_model::{Program, Step};
+pub use kind::RunKind;
 pub use law::{texts_are_of_one_run, worked_runs_hold};
 pub use reading::read_run;
 pub use replaying::replay;

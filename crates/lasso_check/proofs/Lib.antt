@@ -1,0 +1,5 @@
+-- laws of lasso files and their texts
+mod LassoParts
+mod LassoText
+mod LassosApart
+mod WorkedTexts
