@@ -73,7 +73,7 @@ one_more_name view eq ks new k left all same e so_far distinct =
     ∙ append_assoc (map view ks) (view k ∷ []) left
     ∙ so_far
 
--- a name that isn't among others is behind the last one
+-- a name that isn't in a list has the list's length as position
 pub absent_position : {X : Type 0} (view : X → Name) (n : Name) (ks : List X) → is_among n (map view ks) ≡ false → length ks ≡ position_of n (map view ks)
 absent_position view n [] h = refl
 absent_position view n (k ∷ ks) h = go (is_same n (view k)) refl h (absent_position view n ks)

@@ -107,7 +107,7 @@ module _ (letters : List ℕ) where
   only_below (suc (suc (suc (suc (suc zero))))) p e = omega arith
   only_below (suc (suc (suc (suc (suc (suc k)))))) p e = let h = get_below letters k p e in omega (arith, h)
 
--- a refusal stands where it stands
+-- the refusals at a position are at this position
 refused_at : {K : Type 0} (o : Option K) (at : ℕ) (y : Fault K) → Among y (refusals o at) → y.at ≡ at
 refused_at None at y a = absurd a
 refused_at {K} (Some kind) at y (inl e) = ap (λ (z : Fault K). z.at) e

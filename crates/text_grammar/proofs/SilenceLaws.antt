@@ -30,7 +30,7 @@ module _ {P T K : Type 0} (x : Text P T K) where
   silent_nothing before (Read p ∷ es) = tt
 
   module _ (lawful : IsLawful x) where
-    -- where symbols lead behind a token, the front does
+    -- where the expected symbols accept a token, the state steps
     pub stepped_to : (f : Front P) (es : List (Event P)) (p : P) (ps : List P) → (h : Led x.grammar f.expected es p ps) → (reader x).step f p ≡ Some (record { events = Read p ∷ did f.events h.marks; expected = h.rest })
     stepped_to f es p ps h = ap (stepped f.events p) h.leads
 

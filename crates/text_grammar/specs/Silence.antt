@@ -21,8 +21,8 @@ read_in [] = []
 read_in (Read p ∷ es) = p ∷ read_in es
 read_in (Did m ∷ es) = read_in es
 
--- a refusal is a fault of a token behind pieces: the text derives these pieces, the token's and some more, and the
--- refusal is among the faults of the token behind the events before it
+-- y is a fault of the token t after the pieces `before`: the text derives these pieces, that of t and some more, and y
+-- is among the faults of t after the events of the pieces before it
 pub record StandsAgainst {P T K : Type 0} (x : Text P T K) (before : List P) (t : Token P) (y : Fault K) : Type 0 where
   pub events : List (Event P)
   pub later : List (Event P)
@@ -31,8 +31,8 @@ pub record StandsAgainst {P T K : Type 0} (x : Text P T K) (before : List P) (t 
   pub derives : Derives x.grammar (Made 0 ∷ []) (events ++ Read t.piece ∷ later) (before ++ t.piece ∷ more)
   pub stands : Among y (x.faults (onto events []) t)
 
--- a refusal is shown at a token exactly where it is a fault of the token behind the pieces that were read; at the end
--- of a text none is shown
+-- a refusal is shown at a token exactly if it is a fault of the token after the pieces that were read; at the end of a
+-- text none is shown
 pub record ShownWhereDerived {P T K : Type 0} (x : Text P T K) : Type 0 where
   pub shown : (n : ℕ) (done rest : List (Token P)) (f : Front P) (t : Token P) (y : Fault K)
       → reached (reader x) (pieces done) ≡ Some f → Among y ((reader x).shown n done f (t ∷ rest))
