@@ -1,4 +1,4 @@
--- The names of a front are among the variables once it is read: names that come later change none of its terms.
+-- The names of a state are among the variables once it is read: names that come later change none of its terms.
 use Rattle.std.proofs.Common.{◌≡◌, ℕ, zero, suc, List, [], ◌∷◌, ◌++◌, refl, ap, sym, subst, map}
 use Rattle.std.specs.Prelude.{⊤}
 use Rattle.model.specs.Programs.{Name}
@@ -73,7 +73,7 @@ operand_extends names (BaseRead b) = sum_extends names (Alone (Single (Plain b))
 operand_extends names (CaretRead b) = sum_extends names (Alone (Single (Plain b)))
 operand_extends names (ExponentRead b ds) = sum_extends names (Alone (Single (Plain b)))
 
--- so all names of a front go to the end of those before it
+-- so all names of a state go to the end of those before it
 pub front_extends : (names : List Name) (f : Front) → Extends names (with_front names f)
 front_extends names f =
     extended names (with_level (with_outer names f.outer) f.level) (with_front names f)
@@ -129,7 +129,7 @@ pub outer_stays : (names more : List Name) (outer : List Level) → OuterReads n
 outer_stays names more [] h = refl
 outer_stays names more (l ∷ outer) h = rw (level_stays names more l h.1, outer_stays names more outer h.0) refl
 
--- the variables once a factor is read behind so many `-`, in its product, and in its sum
+-- the variables once a factor is read after this many `-`, in its product, and in its sum
 negated_names : (names : List Name) (n : ℕ) (f : Factor) → with_factor names (negated n f) ≡ with_factor names f
 negated_names names zero f = refl
 negated_names names (suc n) f = negated_names names n (Negated f)

@@ -1,4 +1,4 @@
--- The terms of what is made of a front are made of the front's terms.
+-- The terms of what is made of a state are made of the state's terms.
 use Rattle.std.proofs.Common.{◌≡◌, ℕ, zero, suc, List, [], ◌∷◌, ◌++◌, refl, ap, sym, ◌∙◌, reverse}
 use Rattle.std.proofs.lemmas.List.{reverse-append, reverse-reverse}
 use Rattle.model.specs.Programs.{Name}
@@ -10,7 +10,7 @@ use Rattle.expr_text.specs.Fronts.{NoSum, PlusAfter, MinusAfter, NoProduct, Time
 use Rattle.expr_text.specs.TermFronts as terms
 use Rattle.expr_text.specs.TermFronts.{limited, factored_terms, summed_terms}
 
--- a factor behind so many `-`
+-- a factor after this many `-`
 negated_term : (names : List Name) (n : ℕ) (f : Factor) → limited (factor_term names (written.negated n f)) ≡ terms.negated n (limited (factor_term names f))
 negated_term names zero f = refl
 negated_term names (suc n) f = negated_term names n (Negated f)

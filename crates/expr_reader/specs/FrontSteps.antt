@@ -22,14 +22,14 @@ pub record HasParts (f : Front) (outer : List Level) (level : Level) (operand : 
   pub level_is : f.level ≡ level
   pub operand_is : f.operand ≡ operand
 
--- what stands before an operand behind a sum, and behind a product
+-- what stands before an operand after a sum, and after a product
 abbrev pub behind_plus : Level → Operand → Level
 behind_plus l o = record { sum = PlusAfter (sum_made l o); product = NoProduct; minuses = 0 }
 
 abbrev pub behind_times : Level → Operand → Level
 behind_times l o = record { sum = l.sum; product = TimesAfter (product_made l o); minuses = 0 }
 
--- a `-` stands before an operand that is wanted, and behind a sum
+-- a `-` stands before an operand that is wanted, and after a sum
 abbrev pub behind_minus : Level → Operand → Level
 behind_minus l Wanted = record { sum = l.sum; product = l.product; minuses = l.minuses + 1 }
 behind_minus l (BaseRead t) = record { sum = MinusAfter (sum_made l (BaseRead t)); product = NoProduct; minuses = 0 }

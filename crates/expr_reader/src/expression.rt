@@ -111,7 +111,7 @@ impl Expression {
         self.outer.is_empty() && self.has_factor()
     }
 
-    /// Whether a piece goes on with the expression.
+    /// Whether a piece continues the expression.
     pub fn goes_on_with(&self, piece: Piece<'_>) -> bool
         ensures { result
             ≡ terms.goes_on_from (front_of self.now).outer (front_of self.now).operand (piece_of piece.entry) }
@@ -127,7 +127,7 @@ impl Expression {
         }
     }
 
-    // Whether a piece goes on behind a factor.
+    // Whether a piece goes on after a factor.
     fn goes_on_behind(&self, piece: Piece<'_>) -> bool
         ensures { result ≡ terms.goes_on_behind (front_of self.now).outer (piece_of piece.entry) }
     {
@@ -138,7 +138,7 @@ impl Expression {
         }
     }
 
-    /// One piece more, where it goes on with the expression.
+    /// One piece more, where it continues the expression.
     ///
     /// # Errors
     ///
@@ -218,7 +218,7 @@ impl Expression {
         }
     }
 
-    // Digits: an exponent behind `^`, and elsewhere a number.
+    // Digits: an exponent after `^`, and elsewhere a number.
     fn take_digits(&mut self, digits: &[u8])
         requires { IsTrue (list_all is_ascii_digit digits.now) }
         ensures operand { operand_of self.new.operand ≡ terms.with_digits (operand_of self.old.operand) digits.now }

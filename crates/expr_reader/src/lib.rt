@@ -2,7 +2,7 @@
 //! tokens.
 //!
 //! Builds on `expr_text`, which says what is written, and on `poly_terms` and `its_model`, whose expressions and atoms
-//! are made. Main guarantee: the state of parsing always represents the written front of `expr_text`, so what is made
+//! are made. Main guarantee: the state of parsing always represents the written state of `expr_text`, so what is made
 //! is the term of the pieces that were read.
 #![tactic(auto)]
 

@@ -21,7 +21,7 @@ pub fn empty_level() -> Level
     }
 }
 
-/// An expression behind so many `-`.
+/// An expression after this many `-`.
 ///
 /// # Errors
 ///

@@ -54,7 +54,7 @@ name_extends names n = go (is_among n names)
     go true = ([], sym (append-nil names))
     go false = (n ∷ [], refl)
 
--- one extension behind another
+-- one extension after another
 pub extended : (names middle last : List Name) → (a : (new : List Name) × (middle ≡ names ++ new)) → (b : (new : List Name) × (last ≡ middle ++ new)) → (new : List Name) × (last ≡ names ++ new)
 extended names middle last a b = (a.0 ++ b.0, b.1 ∙ (ap (λ ns. ns ++ b.0) a.1 ∙ append_assoc names a.0 b.0))
 

@@ -61,11 +61,11 @@ abbrev pub is_front : Option Front → Bool
 is_front None = false
 is_front (Some f) = true
 
--- whether a piece goes on with an expression
+-- whether a piece continues an expression
 abbrev pub goes_on_with : Front → Piece → Bool
 goes_on_with f p = is_front (inner.step f p)
 
--- whether a piece stands for an operator or a relation, so that the word before it is a name
+-- whether a piece denotes an operator or a relation, so that the word before it is a name
 abbrev pub operates : Piece → Bool
 operates Plus = true
 operates Minus = true

@@ -43,7 +43,7 @@ empty_level = record { sum = NoSum; product = NoProduct; minuses = 0 }
 abbrev pub beginning : Front
 beginning = record { outer = []; level = empty_level; operand = Wanted }
 
--- the pieces of each part behind those that come before it, the last one first
+-- the pieces of each part after those that come before it, the last one first
 module _ {P : Type 0} (into : Piece → P) where
   abbrev pub summed_behind : Summed → List P → List P
   summed_behind NoSum before = before
@@ -74,7 +74,7 @@ module _ {P : Type 0} (into : Piece → P) where
   abbrev pub front_behind : Front → List P → List P
   front_behind f before = operand_behind f.operand (level_behind f.level (outer_behind f.outer before))
 
--- a factor behind this many `-`
+-- a factor after this many `-`
 abbrev pub negated : ℕ → Factor → Factor
 negated zero f = f
 negated (suc n) f = negated n (Negated f)

@@ -9,7 +9,7 @@ use Rattle.expr_text.specs.Terms.{number_of, sum_term, product_term, base_term}
 use Rattle.expr_text.specs.Fronts as written
 use Rattle.expr_text.specs.FrontNames.{begins_expression}
 
--- an exponent over the limit on degrees counts as the one behind it: no program has one, and each is refused as that
+-- an exponent over the limit on degrees counts as the one after it: no program has one, and each is refused as that
 -- one is
 abbrev pub limited : Term → Term
 limited (Literal z) = Literal z
@@ -49,7 +49,7 @@ pub record Front : Type 0 where
   pub level : Level
   pub operand : Operand
 
--- what a written front is as terms over variables with these names
+-- what a written state is as terms over variables with these names
 module _ (names : List Name) where
   abbrev pub summed_terms : written.Summed → Summed
   summed_terms written.NoSum = NoSum
@@ -78,7 +78,7 @@ module _ (names : List Name) where
         operand = operand_terms f.operand;
       }
 
--- a term behind so many `-`
+-- a term after this many `-`
 abbrev pub negated : ℕ → Term → Term
 negated zero t = t
 negated (suc n) t = negated n (Negation t)
@@ -111,8 +111,8 @@ sum_made l o = sum_with l.sum (product_made l o)
 abbrev pub empty_level : Level
 empty_level = record { sum = NoSum; product = NoProduct; minuses = 0 }
 
--- what a number makes of an operand: an exponent behind `^`, and elsewhere a literal, where a number over the limit on
--- degrees, or on coefficients, counts as the one behind it
+-- what a number makes of an operand: an exponent after `^`, and elsewhere a literal, where a number over the limit on
+-- degrees, or on coefficients, counts as the one after it
 abbrev pub with_number : Operand → ℕ → Operand
 with_number (CaretRead t) n = ExponentRead t (min n (degree_limit + 1))
 with_number Wanted n = BaseRead (Literal (pos (min n (coefficient_limit + 1))))
@@ -141,7 +141,7 @@ abbrev pub is_empty : List Level → Bool
 is_empty [] = true
 is_empty (l ∷ levels) = false
 
--- whether a piece goes on behind a factor, and from an operand
+-- whether a piece goes on after a factor, and from an operand
 abbrev pub goes_on_behind : List Level → Piece → Bool
 goes_on_behind outer Plus = true
 goes_on_behind outer Minus = true

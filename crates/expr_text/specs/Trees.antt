@@ -15,7 +15,7 @@ mutual
     Single : Factor → Product
     Multiplied : Product → Factor → Product
 
-  -- a base, a base with an exponent, or a factor behind a `-`
+  -- a base, a base with an exponent, or a factor after a `-`
   pub data Factor : Type 0 where
     Plain : Base → Factor
     Raised : Base → List ℕ → Factor
@@ -30,7 +30,7 @@ mutual
 -- an expression among the pieces of a larger text: `into` maps each of its pieces to one of the larger text
 module _ {P : Type 0} (into : Piece → P) where
   abbrev mutual
-    -- the pieces of an expression behind those that come before it, the last one first
+    -- the pieces of an expression after those that come before it, the last one first
     pub sum_behind : Sum → List P → List P
     sum_behind (Alone p) before = product_behind p before
     sum_behind (Added s p) before = product_behind p (into Plus ∷ sum_behind s before)

@@ -1,4 +1,4 @@
--- The next token leads the code where it leads the written front, whatever state the reader is in; and the reason why a
+-- The next token leads the code where it leads the written state, whatever state the reader is in; and the reason why a
 -- text breaks off is the same.
 use Rattle.std.specs.Prelude.{◌≡◌, Bool, true, false, ◌||◌, is_some, List, [], ◌∷◌, ◌++◌, reverse, Option, Some, None}
 use Rattle.std.specs.Prelude.{refl}
@@ -76,7 +76,7 @@ none_named : (names : List Name) (o : Option Name) → names ≡ [] → IsNew na
 none_named names None e = tt
 none_named names (Some name) e = subst (λ ns. is_among name ns ≡ false) (sym e) refl
 
--- what leads nowhere in what is written leads nowhere
+-- what is rejected in what is written is rejected
 nowhere : (ts : Tokens) (behind : Option Piece) (o : Option Front) (result : Option ParserState) (new : Draft) → o ≡ None → GoTogether o result → LeadsTo ts behind o result new
 nowhere ts behind o result new e g = subst (λ o. LeadsTo ts behind o result new) (sym e) (go result (subst (λ o. GoTogether o result) e g))
   where
@@ -84,7 +84,7 @@ nowhere ts behind o result new e g = subst (λ o. LeadsTo ts behind o result new
     go None g = tt
     go (Some state) g = g
 
--- behind a left argument and behind a left term a name leads nowhere
+-- after a left argument and after a left term a name is rejected
 read_stops : (f : Front) (p : Piece) (name : Name) (ts : Tokens) (d : Draft) → InLeft ts (Some p) lefts.LeftRead d f → tests.word p ≡ Some name → step f p ≡ None
 read_stops f p name ts d k w = ap (λ f. step f p) k.1.1.1.1.0 ∙ go p w
   where
@@ -140,7 +140,7 @@ right_advances state old new t behind result h = record {
   each = λ ts f k at allows modest. h.each ts behind f k modest;
 }
 
--- and so it does behind the target
+-- and so it does after the target
 pub tail_advances : (state : TailState) (old new : Draft) (t : Token Piece) (behind : Option Piece) (result : Option ParserState) → TailLeads state old t.piece behind result new → Advances (places.InTail state) old t behind result new
 tail_advances state old new t behind result h = record {
   together = λ ts f k at. h.together ts f k;
@@ -216,6 +216,6 @@ off_alike f Disjoining = refl
 off_alike f Strange = refl
 off_alike f _ = refl
 
--- the refusal for a text that breaks off at a piece is decided by the reader's state exactly as by the written front
+-- the refusal for a text that breaks off at a piece is decided by the reader's state exactly as by the written state
 pub off_is : (ts : Tokens) (state : ParserState) (d : Draft) (f : Front) (p : Piece) → PartEndedAt ts (Some p) state d f → break_kind_in (wants_left state) p ≡ break_kind_at f (Some p)
 off_is ts state d f p k = ap (λ v. break_kind_in v p) (sym (is_wanted ts (Some p) d f state k)) ∙ off_alike f p

@@ -36,7 +36,7 @@ abbrev reading : ParserState
 reading = places.InCost costs.Costing
 
 module _ (r : Ruling) (t : LeftTerm) (e : expression.Front) (p : inner.Piece) (old new : Draft) (result : Option ParserState) where
-  -- a piece goes on with a cost, and what is known beside it stays
+  -- a piece continues a cost, and what is known beside it stays
   cost_goes_on : (ts : Tokens) (more : expression.Front) → IsCosting ts r t e old → expression_steps.step e p ≡ Some more → IsModest p → GoesOn old p new → IsCosting ts r t more new
   cost_goes_on ts more k led modest g = record {
     led = led_kept ts (without_cost r t) old new k.led g.sections g.rules g.stays.source g.stays.left g.stays.cost;
@@ -81,7 +81,7 @@ costing_promise p old new result h = record {
     each ts next CostClose h modest r t e k stops = rw (stops refl, h.0) tt
     each ts next _ h modest r t e k stops = rw h.0 tt
 
--- behind a cost that has ended only `}>` leads on
+-- after a cost that has ended only `}>` leads on
 costed_leads : (ts : Tokens) (next : Option Piece) (p : Piece) (f : Front) (d : Draft) → CostPartEnded ts (Some p) costs.Costed d f
     → LeadsTo ts next (step f p) (if tests.closes_cost p then Some (places.InRight rights.Arrowed) else None) d
 costed_leads ts next p f d k = rw k.1.1.1.1.0 (go p known.ends)

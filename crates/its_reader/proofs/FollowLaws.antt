@@ -1,4 +1,4 @@
--- What holds behind a token that can follow, where the refusal so far isn't final there; and where it is, it is the answer.
+-- What holds after a token that can follow, where the refusal so far isn't final there; and where it is, it is the answer.
 use Rattle.std.specs.Prelude.{◌≡◌, ℕ, ◌-◌, ◌≤◌, ◌<◌, ◌⊎◌, Bool, true, false, ◌&&◌, ◌||◌, ◌==◌, nat_lt, nat_le, List}
 use Rattle.std.specs.Prelude.{◌∷◌, ◌++◌, length, Option, Some, None, refl}
 use Rattle.std.proofs.Common.{sym, ap, subst, ◌∙◌, arith, inl, inr}
@@ -54,7 +54,7 @@ final_split x t false true true a b c e = inr ((grind (arith, nat_tests)), (grin
 final_split x t false true false a b c e = cc
 final_split x t false false u a b c e = cc
 
--- a refusal that passes the test is final behind the token
+-- a refusal that passes the test is final after the token
 pub final_is : (x : Fault Kind) (t : Token Piece) → is_final x t ≡ true → IsFinal (least_of t.piece) t x
 final_is x t e = final_split x t (nat_lt x.at (t.upto - 1)) (x.at == t.upto - 1) (nat_le (kind_number x.kind) (least_of t.piece)) refl refl refl e
 
@@ -65,11 +65,11 @@ unfinal_split x t false w u a b c e (inl h) = absurd (grind (arith, nat_tests))
 unfinal_split x t false false u a b c e (inr h) = let p = h.0 in absurd (grind (arith, nat_tests))
 unfinal_split x t false true false a b c e (inr h) = let p = h.1 in absurd (grind (arith, nat_tests))
 
--- a refusal that fails the test isn't final behind the token
+-- a refusal that fails the test isn't final after the token
 pub unfinal_is : (x : Fault Kind) (t : Token Piece) → is_final x t ≡ false → IsFinal (least_of t.piece) t x → ⊥
 unfinal_is x t e = unfinal_split x t (nat_lt x.at (t.upto - 1)) (x.at == t.upto - 1) (nat_le (kind_number x.kind) (least_of t.piece)) refl refl refl e
 
--- digits that can follow go on with an expression
+-- digits that can follow continue an expression
 abbrev GoesOnAt : Front → Option Piece → inner.Piece → Type 0
 GoesOnAt f behind p = (x : OpenExpression) × ((open_expression f (Some (In p)) behind ≡ Some x) × (goes_on_with x.front p ≡ true))
 

@@ -31,7 +31,7 @@ state_next ts at next behind d f (places.InCost state) k digital = cost_next ts 
 state_next ts at next behind d f (places.InRight state) k digital = right_next ts at next behind d f state k digital
 state_next ts at next behind d f (places.InTail state) k digital = tail_next ts at next behind d digital state f k
 
--- what is shown together with the tokens before and behind
+-- what is shown together with the tokens before and after
 shown_is : (best : Option (Fault Kind)) (n last at : ℕ) (next behind : Option Piece) (done rest : Tokens) (f : Front) → next_piece rest ≡ next → piece_behind rest ≡ behind → next_at n rest ≡ at → last_byte done ≡ last
     → first_among programs best (last_faults last f next ++ next_faults at f next behind) ≡ first_among programs best (front_faults n done f rest)
 shown_is best n last at next behind done rest f a b c e =

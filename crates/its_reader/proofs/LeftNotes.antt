@@ -79,7 +79,7 @@ module _ (ts : Tokens) (at : ℕ) (next behind : Option Piece) (d : Draft) (f : 
       → left_of at (Some arguments) next behind ++ fault_if (long_name next) (Limit LongName) at ≡ left_argument_name_faults d.rule at (tests.word_of next) behind ++ fault_if (long_name next) (Limit LongName) at
   wanted_shows arguments e = ap (λ xs. xs ++ fault_if (long_name next) (Limit LongName) at) (argument_is at arguments d.rule next behind e)
 
-  -- what a front of a left term shows at the next token is what the code finds there
+  -- what a state of a left term shows at the next token is what the code finds there
   pub left_next : (state : SourceState) → InLeft ts next state d f → next_faults at f next behind ≡ left_faults state d at next behind
   left_next lefts.AfterRule k = rw k.1.0 (simp append-nil
       (ap (λ n. fault_if (is_word next && nat_le rule_limit n) (Limit TooManyRules) at ++ fault_if (long_name next) (Limit LongName) at) (sym (as_many_rules k.0.rules d k.1.1.0.rules.rules_are))))

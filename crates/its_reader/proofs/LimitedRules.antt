@@ -71,7 +71,7 @@ valid_limited p v = λ i. Some (record p { rules = rules_same p p.rules v.rules 
 pub stands_valid : (bytes : List ℕ) (p : Program) → verdict bytes ≡ Stands p → IsValid p
 stands_valid bytes p h = spelled_valid bytes p (verdict_spells bytes p h)
 
--- with its exponents limited a program that a text stands for is itself
+-- with its exponents limited a program that a text denotes is itself
 pub program_limited : (bytes : List ℕ) (p : Program) → verdict bytes ≡ Stands p → limited_program (Some p) ≡ Some p
 program_limited bytes p h = valid_limited p (stands_valid bytes p h)
 

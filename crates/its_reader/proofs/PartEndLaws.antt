@@ -175,7 +175,7 @@ right_ends_part (rights.TargetNamed w) old rule next now refusal h = still_ends_
 right_ends_part (rights.RightOpened w) old rule next now refusal h = still_ends_part (rights.RightOpened w) old rule next now refusal refl h.by
 right_ends_part rights.TargetClosed old rule next now refusal h = still_ends_part rights.TargetClosed old rule next now refusal refl h.by
 
--- behind a target, where no guard is read
+-- after a target, where no guard is read
 tail_still : (ts : Tokens) (next : Option Piece) (state : TailState) (d : Draft) (f : Front) → is_guarding state ≡ false → InTail ts next state d f → TailPartEnded ts next state d f
 tail_still ts next tails.Targeted d f e k = k
 tail_still ts next tails.GuardMarked d f e k = k
@@ -267,7 +267,7 @@ guard_ends_part fence old rule next now refusal h = record {
       ∙ guard_shows at next fence k.0 k.1.0 f (names_in old.rule.variables) old.rule.guard k.1.1.0 k.1.1.1.1.1);
 }
 
--- what ends behind a target ends in what is written, and what its last byte shows is found
+-- what ends after a target ends in what is written, and what its last byte shows is found
 pub tail_ends_part : (state : TailState) (old : Draft) (rule : RuleDraft) (next : Option Piece) (now : ParserState) (refusal : Option Kind) → TailEndsPart state old.rule next now refusal rule
     → EndsPart (places.InTail state) old next now (maybe_kind refusal) (record old { rule = rule })
 tail_ends_part tails.Targeted old rule next now refusal h = tail_stays tails.Targeted old rule next now refusal refl h.by
@@ -292,7 +292,7 @@ argument_over {w} {old} {new} {next} {refusal} e a = record { by = subst (λ v. 
 pub argument_on : {w : Wrap} {old : RuleDraft} {next : Option inner.Piece} → ends_in old.expression next ≡ false → ArgumentIsPartEnded w old next (places.InRight (rights.Arguing w)) None old
 argument_on {w} {old} {next} e = record { by = subst (λ v. ArgumentEndsPart v w old (places.InRight (rights.Arguing w)) None old) (sym e) (refl, (refl, refl)) }
 
--- in a right term, and behind a target
+-- in a right term, and after a target
 pub right_argued : {state : TargetState} {w : Wrap} {old new : RuleDraft} {n : Option inner.Piece} {next : Option Piece} {now : ParserState} {refusal : Option Kind} → wrap_of_argument state ≡ Some w → n ≡ inner_next next → ArgumentIsPartEnded w old n now refusal new
     → RightEndsPart state old next now refusal new
 right_argued {state} {w} {old} {new} {n} {next} {now} {refusal} e same a = record {
@@ -304,7 +304,7 @@ pub right_holds : {state : TargetState} {old new : RuleDraft} {next : Option Pie
     → IsStill (places.InRight state) (λ at. fault_if (closes_right state && old.differs) ArityDiffers at) old now refusal new → RightEndsPart state old next now refusal new
 right_holds {state} {old} {new} {next} {now} {refusal} e a = record { by = subst (λ o. RightEndsPartBy o state old next now refusal new) (sym e) a }
 
--- behind a target what settles is the guard, where one is read
+-- after a target what settles is the guard, where one is read
 pub tail_guarding : {state : TailState} {old new : RuleDraft} {next : Option Piece} {now : ParserState} {refusal : Option Kind} → is_guarding state ≡ true → GuardStands state old next now refusal new → TailEndsPart state old next now refusal new
 tail_guarding {state} {old} {new} {next} {now} {refusal} e a = record { by = subst (λ v. TailEndsPartBy v state old next now refusal new) (sym e) a }
 

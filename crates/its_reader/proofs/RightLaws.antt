@@ -49,7 +49,7 @@ use Rattle.its_reader.specs.declared.parser_state.ParserState.{ParserState}
 use Rattle.its_reader.specs.declared.parser_state.ParserState.TheVariants as places
 
 module _ (ts : Tokens) (next : Option Piece) where
-  -- behind `Com_1` only an opening bracket leads on
+  -- after `Com_1` only an opening bracket leads on
   pub com_named_leads : (p : Piece) (f : Front) (d : Draft) → InRight ts (Some p) rights.ComNamed d f → LeadsTo ts next (step f p) (if tests.opens p then Some (places.InRight rights.ComOpened) else None) d
   com_named_leads p f d k = rw k.1.0 (go p)
     where
@@ -58,7 +58,7 @@ module _ (ts : Tokens) (next : Option Piece) where
       go (In _) = tt
       go _ = tt
 
-  -- behind the target's name only an opening bracket leads on
+  -- after the target's name only an opening bracket leads on
   pub target_named_leads : (w : Wrap) (p : Piece) (f : Front) (d : Draft) → InRight ts (Some p) (rights.TargetNamed w) d f → LeadsTo ts next (step f p) (if tests.opens p then Some (places.InRight (rights.RightOpened w)) else None) d
   target_named_leads w p f d k = rw k.1.0 (go p)
     where
@@ -67,7 +67,7 @@ module _ (ts : Tokens) (next : Option Piece) where
       go (In _) = tt
       go _ = tt
 
-  -- behind the arrow `Com_1` leads on to its bracket
+  -- after the arrow `Com_1` leads on to its bracket
   pub com_leads : (p : Piece) (f : Front) (d : Draft) → InRight ts (Some p) rights.Arrowed d f → tests.says (codes "Com_1") p ≡ true → LeadsTo ts next (step f p) (Some (places.InRight rights.ComNamed)) d
   com_leads p f d k h = rw k.1.0 (go p h)
     where
@@ -90,7 +90,7 @@ module _ (ts : Tokens) (next : Option Piece) where
     expression = subst (λ e. IsFresh e) (sym s.expression) k.expression;
   }
 
-  -- behind the arrow any other name leads on as that of the target
+  -- after the arrow any other name leads on as that of the target
   pub bare_leads : (p : Piece) (f : Front) (old new : Draft) (name : Name) → InRight ts (Some p) rights.Arrowed old f → tests.says (codes "Com_1") p ≡ false → tests.word p ≡ Some name → StaysBut old new → new.rule.name.now ≡ name
       → LeadsTo ts next (step f p) (Some (places.InRight (rights.TargetNamed wraps.Alone))) new
   bare_leads p f old new name k h w s n = rw k.1.0 (go p h w)
@@ -100,7 +100,7 @@ module _ (ts : Tokens) (next : Option Piece) where
       go (In _) h w = cc
       go _ h w = cc
 
-  -- behind the arrow nothing but a name leads on
+  -- after the arrow nothing but a name leads on
   pub arrowed_stops : (p : Piece) (f : Front) (d : Draft) → InRight ts (Some p) rights.Arrowed d f → tests.word p ≡ None → LeadsTo ts next (step f p) None d
   arrowed_stops p f d k w = rw k.1.0 (go p w)
     where
@@ -219,7 +219,7 @@ module _ (ts : Tokens) (next : Option Piece) where
       let headed = headed_known a arguments (Bare (record { name = a.name; arguments = arguments })) old new refl k names fresh h in
       rw e (record { led = a.led; target = Bare (record { name = a.name; arguments = arguments }) }, (refl, (headed, right_differs a arguments (Bare (record { name = a.name; arguments = arguments })) old new refl k h headed)))
 
-  -- a closing bracket right behind the opening one ends a right term without arguments
+  -- a closing bracket right after the opening one ends a right term without arguments
   pub opened_right_ends : (w : Wrap) (p : Piece) (f : Front) (old new : Draft) → RightPartEnded ts (Some p) (rights.RightOpened w) old f → tests.closes p ≡ true → AfterRight old new → LeadsTo ts next (step f p) (Some (behind_wrap w)) new
   opened_right_ends w p f old new k c h = rw k.1.0 (go p c)
     where
@@ -228,7 +228,7 @@ module _ (ts : Tokens) (next : Option Piece) where
       go (In _) c = cc
       go _ c = cc
 
-  -- a closing bracket behind an argument that has ended ends the right term
+  -- a closing bracket after an argument that has ended ends the right term
   pub argued_ends : (w : Wrap) (p : Piece) (f : Front) (old new : Draft) → RightPartEnded ts (Some p) (rights.Argued w) old f → tests.closes p ≡ true → AfterRight old new → LeadsTo ts next (step f p) (Some (behind_wrap w)) new
   argued_ends w p f old new k c h = rw k.1.1.1.1.0 (go p c k.1.1.1.1.1.ends)
     where
@@ -244,7 +244,7 @@ module _ (ts : Tokens) (next : Option Piece) where
       go (In _) c ends = cc
       go _ c ends = cc
 
-  -- the comma behind an argument
+  -- the comma after an argument
   pub argued_parts : (w : Wrap) (p : Piece) (f : Front) (d : Draft) → RightPartEnded ts (Some p) (rights.Argued w) d f → tests.closes p ≡ false → LeadsTo ts next (step f p) (if tests.parts p then Some (places.InRight (rights.Arguing w)) else None) d
   argued_parts w p f d k c = rw k.1.1.1.1.0 (go p c k.1.1.1.1.1.ends)
     where
@@ -308,7 +308,7 @@ module _ (ts : Tokens) (next : Option Piece) where
       go (In _) c = cc
       go _ c = cc
 
-  -- behind the right term in `Com_1` nothing but the closing bracket leads on
+  -- after the right term in `Com_1` nothing but the closing bracket leads on
   pub com_stops : (p : Piece) (f : Front) (d : Draft) → RightPartEnded ts (Some p) rights.TargetClosed d f → tests.closes p ≡ false → LeadsTo ts next (step f p) None d
   com_stops p f d k c = rw k.1.1.0 (go p c)
     where

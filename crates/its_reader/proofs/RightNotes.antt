@@ -75,7 +75,7 @@ module _ (ts : Tokens) (at : ℕ) (next behind : Option Piece) (d : Draft) (f : 
       count : length d.rule.updates.items ≡ length arguments
       count = sym (length-terms term_of d.rule.updates.items) ∙ (ap length k.aimed.updates_are ∙ updates_count (arrow_names a.led.left a.led.cost) arguments)
 
-  -- what a front of a right term shows at the next token is what the code finds there
+  -- what a state of a right term shows at the next token is what the code finds there
   pub right_next : (state : TargetState) → RightPartEnded ts next state d f → IsDigital next → next_faults at f next behind ≡ right_faults state d.rule at next behind
   right_next rights.Arrowed k digital = rw k.1.0 (simp append-nil (ap (λ v. fault_if v ManyTargets at ++ fault_if (long_name next) (Limit LongName) at) (many_is k.0 next)))
   right_next rights.ComNamed k digital = rw k.1.0 (simp append-nil)

@@ -49,19 +49,19 @@ always_right state p old new result h = record {
 pub in_right_state : (state known : TargetState) (old new : Draft) (p : Piece) (result : Option ParserState) → state ≡ known → RightLeads known old p result new → RightLeads state old p result new
 in_right_state state known old new p result e h = subst (λ (q : TargetState). RightLeads q old p result new) (sym e) h
 
--- behind `Com_1` the code leads where what is written does
+-- after `Com_1` the code leads where what is written does
 pub com_named_promise : (p : Piece) (old : Draft) (result : Option ParserState) (v : Bool) → v ≡ tests.opens p → result ≡ (if v then Some (places.InRight rights.ComOpened) else None) → RightLeads rights.ComNamed old p result old
 com_named_promise p old result v e h = always_right rights.ComNamed p old old result (λ ts next f k. rw (h, e) (com_named_leads ts next p f old k))
 
--- so it does behind the target's name
+-- so it does after the target's name
 pub target_named_promise : (w : Wrap) (p : Piece) (old : Draft) (result : Option ParserState) (v : Bool) → v ≡ tests.opens p → result ≡ (if v then Some (places.InRight (rights.RightOpened w)) else None) → RightLeads (rights.TargetNamed w) old p result old
 target_named_promise w p old result v e h = always_right (rights.TargetNamed w) p old old result (λ ts next f k. rw (h, e) (target_named_leads ts next w p f old k))
 
--- so it does behind an argument that has ended, where no bracket closes
+-- so it does after an argument that has ended, where no bracket closes
 pub argued_promise : (w : Wrap) (p : Piece) (old : Draft) (result : Option ParserState) (v : Bool) → tests.closes p ≡ false → v ≡ tests.parts p → result ≡ (if v then Some (places.InRight (rights.Arguing w)) else None) → RightLeads (rights.Argued w) old p result old
 argued_promise w p old result v c e h = always_right (rights.Argued w) p old old result (λ ts next f k. rw (h, e) (argued_parts ts next w p f old k c))
 
--- so it does behind the arrow, at any piece but `Com_1`
+-- so it does after the arrow, at any piece but `Com_1`
 pub arrowed_promise : (p : Piece) (old new : Draft) (result : Option ParserState) → tests.says (codes "Com_1") p ≡ false → Targets (tests.word p) wraps.Alone result old new → RightLeads rights.Arrowed old p result new
 arrowed_promise p old new result c t = go (tests.word p) refl t
   where
@@ -88,7 +88,7 @@ argument_together w a arguments e p old new result stops t = go (expression_step
         let none : expression_steps.finish e ≡ None = stops (ap (λ (o : Option expression.Front). not (is_front o)) h) in
         rw (none, t.0) tt
 
--- what the code takes is what goes on with the written expression
+-- what the code takes is what continues the written expression
 pub takes_written : (within : ParserState) (before : List Name) (e : expression.Front) (p : inner.Piece) (old new : Draft) (result : Option ParserState) → Stands before e (names_in old.rule.variables) old.rule.expression
     → Takes (goes_on_from (front_of old.rule.expression).outer (front_of old.rule.expression).operand p) within old p result new → Takes (goes_on_with e p) within old p result new
 takes_written within before e p old new result s t = subst (λ (v : Bool). Takes v within old p result new) (goes_on_is before e (names_in old.rule.variables) old.rule.expression p s) t
@@ -117,7 +117,7 @@ arguing_promise w p old new result t = record {
 pub first_stands : (ts : Tokens) (w : Wrap) (a : Aimed) (d : Draft) → IsAimed ts w a d → Stands (names_with a.led []) expression.beginning (names_in d.rule.variables) d.rule.expression
 first_stands ts w a d k = subst (λ (b : List Name). Stands b expression.beginning (names_in d.rule.variables) d.rule.expression) k.names_are (fresh_stands (names_in d.rule.variables) d.rule.expression k.expression)
 
--- so it does behind the opening bracket of the target, where none closes it at once
+-- so it does after the opening bracket of the target, where none closes it at once
 pub opened_right_promise : (w : Wrap) (p : Piece) (old new : Draft) (result : Option ParserState) → tests.closes p ≡ false → TakesPiece (places.InRight (rights.Arguing w)) old p result new → RightLeads (rights.RightOpened w) old p result new
 opened_right_promise w p old new result c t = record {
   together = λ ts f k. rw k.1.0 (together p c t k.0 (first_stands ts w k.0 old k.1.1));
@@ -135,10 +135,10 @@ opened_right_promise w p old new result c t = record {
         argument_leads ts next w a [] expression.beginning q old new result k.wrap_is k.aimed (first_stands ts w a old k) (λ h. refl) modest (takes_written (places.InRight (rights.Arguing w)) (names_with a.led []) expression.beginning q old new result (first_stands ts w a old k) t)
     each ts next _ c t modest a k = rw t.0 tt
 
--- so it does behind that bracket, where one closes it at once
+-- so it does after that bracket, where one closes it at once
 pub opened_right_closes : (w : Wrap) (p : Piece) (old new : Draft) (state : ParserState) → state ≡ behind_wrap w → tests.closes p ≡ true → AfterRight old new → RightLeads (rights.RightOpened w) old p (Some state) new
 opened_right_closes w p old new state e c h = rw e (always_right (rights.RightOpened w) p old new (Some (behind_wrap w)) (λ ts next f k. opened_right_ends ts next w p f old new k c h))
 
--- and so it does behind an argument that has ended, where the bracket closes
+-- and so it does after an argument that has ended, where the bracket closes
 pub argued_closes : (w : Wrap) (p : Piece) (old new : Draft) (state : ParserState) → state ≡ behind_wrap w → tests.closes p ≡ true → AfterRight old new → RightLeads (rights.Argued w) old p (Some state) new
 argued_closes w p old new state e c h = rw e (always_right (rights.Argued w) p old new (Some (behind_wrap w)) (λ ts next f k. argued_ends ts next w p f old new k c h))

@@ -36,7 +36,7 @@ module _ (ts : Tokens) (next : Option Piece) where
       go (In _) = tt
       go _ = tt
 
-  -- behind `GOAL` only `COMPLEXITY` leads on
+  -- after `GOAL` only `COMPLEXITY` leads on
   pub goal_named_leads : (p : Piece) (f : Front) (d : Draft) → InSections ts sections.GoalNamed d f → LeadsTo ts next (step f p) (if tests.says (codes "COMPLEXITY") p then Some (places.InSections sections.GoalRead) else None) d
   goal_named_leads p f d k = rw k.1.0 (go p)
     where
@@ -49,7 +49,7 @@ module _ (ts : Tokens) (next : Option Piece) where
       go (In _) = tt
       go _ = tt
 
-  -- behind `STARTTERM` only an opening bracket leads on
+  -- after `STARTTERM` only an opening bracket leads on
   pub start_named_leads : (p : Piece) (f : Front) (d : Draft) → InSections ts sections.StartNamed d f → LeadsTo ts next (step f p) (if tests.opens p then Some (places.InSections sections.StartOpened) else None) d
   start_named_leads p f d k = rw k.1.0 (go p)
     where
@@ -58,7 +58,7 @@ module _ (ts : Tokens) (next : Option Piece) where
       go (In _) = tt
       go _ = tt
 
-  -- behind that bracket only `FUNCTIONSYMBOLS` leads on
+  -- after that bracket only `FUNCTIONSYMBOLS` leads on
   pub start_opened_leads : (p : Piece) (f : Front) (d : Draft) → InSections ts sections.StartOpened d f → LeadsTo ts next (step f p) (if tests.says (codes "FUNCTIONSYMBOLS") p then Some (places.InSections sections.StartListed) else None) d
   start_opened_leads p f d k = rw k.1.0 (go p)
     where
@@ -71,7 +71,7 @@ module _ (ts : Tokens) (next : Option Piece) where
       go (In _) = tt
       go _ = tt
 
-  -- behind the start symbol only a closing bracket leads on
+  -- after the start symbol only a closing bracket leads on
   pub start_said_leads : (p : Piece) (f : Front) (d : Draft) → InSections ts sections.StartRead d f → LeadsTo ts next (step f p) (if tests.closes p then Some (places.InSections sections.StartClosed) else None) d
   start_said_leads p f d k = rw k.1.1.0 (go p)
     where
@@ -80,7 +80,7 @@ module _ (ts : Tokens) (next : Option Piece) where
       go (In _) = tt
       go _ = tt
 
-  -- behind that one only the bracket that closes the section leads on
+  -- after that one only the bracket that closes the section leads on
   pub start_closed_leads : (p : Piece) (f : Front) (d : Draft) → InSections ts sections.StartClosed d f → LeadsTo ts next (step f p) (if tests.closes p then Some (places.InSections sections.Between) else None) d
   start_closed_leads p f d k = rw k.1.1.0 (go p)
     where
@@ -93,7 +93,7 @@ module _ (ts : Tokens) (next : Option Piece) where
   with_comment : (ss : List Section) (bytes : List ℕ) (d : Draft) → KnowsBetween ts ss d → KnowsBetween ts (Comment bytes ∷ ss) d
   with_comment ss bytes d k = record { sections = record { goal = k.sections.goal; variables = k.sections.variables; rules = k.sections.rules; start = k.sections.start }; last = k.last }
 
-  -- behind `COMMENT` only the remark leads on, which ends the section
+  -- after `COMMENT` only the remark leads on, which ends the section
   pub comment_leads : (p : Piece) (f : Front) (d : Draft) → InSections ts sections.CommentNamed d f → LeadsTo ts next (step f p) (if tests.remarks p then Some (places.InSections sections.Between) else None) d
   comment_leads p f d k = rw k.1.0 (go p)
     where
@@ -116,7 +116,7 @@ module _ (ts : Tokens) (next : Option Piece) where
       go (In _) h = cc
       go _ h = cc
 
-  -- behind `COMPLEXITY` nothing but a closing bracket leads on
+  -- after `COMPLEXITY` nothing but a closing bracket leads on
   pub goal_goes_on : (p : Piece) (f : Front) (d : Draft) → InSections ts sections.GoalRead d f → tests.closes p ≡ false → LeadsTo ts next (step f p) None d
   goal_goes_on p f d k h = rw k.1.0 (go p h)
     where
@@ -164,7 +164,7 @@ module _ (ts : Tokens) (next : Option Piece) where
       go (In _) h = cc
       go _ h = cc
 
-  -- behind `FUNCTIONSYMBOLS` nothing but a name leads on
+  -- after `FUNCTIONSYMBOLS` nothing but a name leads on
   pub start_goes_on : (p : Piece) (f : Front) (d : Draft) → InSections ts sections.StartListed d f → tests.word p ≡ None → LeadsTo ts next (step f p) None d
   start_goes_on p f d k h = rw k.1.0 (go p h)
     where
@@ -267,27 +267,27 @@ module _ (ts : Tokens) (next : Option Piece) where
 pub between_promise : (p : Piece) (d : Draft) (at : ℕ) (result : Option ParserState) (v : Bool) → v ≡ tests.opens p → result ≡ (if v then Some (places.InSections sections.Opened) else None) → StartLeads sections.Between d p at result d
 between_promise p d at result v e h = record { each = λ ts next f k a. rw (h, e) (between_leads ts next p f d k) }
 
--- behind `GOAL` the code leads where what is written does
+-- after `GOAL` the code leads where what is written does
 pub goal_promise : (p : Piece) (d : Draft) (at : ℕ) (result : Option ParserState) (v : Bool) → v ≡ tests.says (codes "COMPLEXITY") p → result ≡ (if v then Some (places.InSections sections.GoalRead) else None) → StartLeads sections.GoalNamed d p at result d
 goal_promise p d at result v e h = record { each = λ ts next f k a. rw (h, e) (goal_named_leads ts next p f d k) }
 
--- so it does behind `STARTTERM`
+-- so it does after `STARTTERM`
 pub start_promise : (p : Piece) (d : Draft) (at : ℕ) (result : Option ParserState) (v : Bool) → v ≡ tests.opens p → result ≡ (if v then Some (places.InSections sections.StartOpened) else None) → StartLeads sections.StartNamed d p at result d
 start_promise p d at result v e h = record { each = λ ts next f k a. rw (h, e) (start_named_leads ts next p f d k) }
 
--- so it does behind the bracket that opens there
+-- so it does after the bracket that opens there
 pub symbols_promise : (p : Piece) (d : Draft) (at : ℕ) (result : Option ParserState) (v : Bool) → v ≡ tests.says (codes "FUNCTIONSYMBOLS") p → result ≡ (if v then Some (places.InSections sections.StartListed) else None) → StartLeads sections.StartOpened d p at result d
 symbols_promise p d at result v e h = record { each = λ ts next f k a. rw (h, e) (start_opened_leads ts next p f d k) }
 
--- so it does behind the start symbol
+-- so it does after the start symbol
 pub said_promise : (p : Piece) (d : Draft) (at : ℕ) (result : Option ParserState) (v : Bool) → v ≡ tests.closes p → result ≡ (if v then Some (places.InSections sections.StartClosed) else None) → StartLeads sections.StartRead d p at result d
 said_promise p d at result v e h = record { each = λ ts next f k a. rw (h, e) (start_said_leads ts next p f d k) }
 
--- so it does behind the bracket that closes there
+-- so it does after the bracket that closes there
 pub closed_promise : (p : Piece) (d : Draft) (at : ℕ) (result : Option ParserState) (v : Bool) → v ≡ tests.closes p → result ≡ (if v then Some (places.InSections sections.Between) else None) → StartLeads sections.StartClosed d p at result d
 closed_promise p d at result v e h = record { each = λ ts next f k a. rw (h, e) (start_closed_leads ts next p f d k) }
 
--- and so it does behind `COMMENT`
+-- and so it does after `COMMENT`
 pub comment_promise : (p : Piece) (d : Draft) (at : ℕ) (result : Option ParserState) (v : Bool) → v ≡ tests.remarks p → result ≡ (if v then Some (places.InSections sections.Between) else None) → StartLeads sections.CommentNamed d p at result d
 comment_promise p d at result v e h = record { each = λ ts next f k a. rw (h, e) (comment_leads ts next p f d k) }
 

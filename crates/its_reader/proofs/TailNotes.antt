@@ -1,4 +1,4 @@
--- What the next token behind a target shows is what the code finds there.
+-- What the next token after a target shows is what the code finds there.
 use Rattle.std.specs.Prelude.{◌≡◌, ℕ, zero, suc, ◌+◌, ◌-◌, ◌<◌, Bool, true, false, not, ◌&&◌, ◌==◌, nat_le}
 use Rattle.std.specs.Prelude.{if◌then◌else◌, List}
 use Rattle.std.specs.Prelude.{[], ◌∷◌, ◌++◌, length, Option, Some, None, option_map, refl}
@@ -132,7 +132,7 @@ full_never others (LeftSide (JointAfter before joint) e) atoms h = go (truth_of 
     go None t h = cc
     go (Some a) t h = rw (truth_begun e a t) refl
 
--- behind atoms that have ended no piece goes on with an expression
+-- after atoms that have ended no piece continues an expression
 joining_stops : (e : expression.Front) (joint : inner.Joint) → goes_on_with e (inner.Joining joint) ≡ false
 joining_stops e joint = go e.outer e.level e.operand
   where
@@ -164,7 +164,7 @@ module _ (ts : Tokens) (at : ℕ) (next behind : Option Piece) (d : Draft) (digi
       (append-nil (fault_if (rules_shown fences.Mark h g next) (Limit TooManyRules) at))
   guarded_shows fences.Square h g = refl
 
-  -- a name behind `:|:` that begins an atom shows what the guard shows
+  -- a name after `:|:` that begins an atom shows what the guard shows
   word_shows : (h : Headed) (name : Name) (next : Option Piece) → next_faults at (fronts.WordRead h name) next behind ≡ next_faults at (fronts.MarkGuarding h (guard_named name)) next behind
   word_shows h name None = refl
   word_shows h name (Some (In (inner.Word n))) = refl
@@ -309,7 +309,7 @@ module _ (ts : Tokens) (at : ℕ) (next behind : Option Piece) (d : Draft) (digi
   part_ended_shows fence h g led rules (part_ended_right k) = right_shows fence h g k
   part_ended_shows fence h g led rules (part_ended_end k) = ended_shows fence h g rules k
 
-  -- the front is that of the guard
+  -- the state is that of the guard
   front_shows : (fence : GuardOpening) (h : Headed) (g : GuardFront) (f : Front) → IsGuard next fence h g f → next_faults at f next behind ≡ next_faults at (guarded fence h g) next behind
   front_shows fences.Square h g f e = ap (λ f. next_faults at f next behind) e
   front_shows fences.Mark h g f (inl e) = ap (λ f. next_faults at f next behind) e
@@ -332,7 +332,7 @@ module _ (ts : Tokens) (at : ℕ) (next behind : Option Piece) (d : Draft) (digi
   marked_shows h k rules true false a b = fresh_shows h k
   marked_shows h k rules false w a b = fresh_shows h k
 
-  -- what a front behind a target shows at the next token is what the code finds there
+  -- what a state after a target shows at the next token is what the code finds there
   pub tail_next : (state : TailState) (f : Front) → TailPartEnded ts next state d f → next_faults at f next behind ≡ tail_faults state d at next behind
   tail_next tails.Targeted f k = rw (k.1.0, as_many_rules k.0.led.ruling.rules d k.1.1.0.headed.led.rules_are) (simp append-nil)
   tail_next tails.GuardMarked f k = rw k.1.0 (marked_shows k.0 k.1.1 (as_many_rules k.0.led.ruling.rules d k.1.1.headed.led.rules_are) (is_word next) (is_open behind) refl refl)

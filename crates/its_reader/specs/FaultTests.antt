@@ -113,13 +113,13 @@ abbrev pub is_large_row : inner.Piece → Bool
 is_large_row (inner.Digits ds) = list_all is_ascii_digit ds && nat_lt coefficient_limit (number_of ds)
 is_large_row _ = false
 
--- a name that isn't the atom that always holds is new behind as many variables as the limit
+-- a name that isn't the atom that always holds is new after as many variables as the limit
 abbrev pub passes : Bool → RuleDraft → inner.Piece → Bool
 passes truth r (inner.Word name) = not truth && not (is_among name (names_in r.variables)) && nat_le variable_limit
     (length (names_in r.variables))
 passes truth r _ = false
 
--- what a piece shows that goes on with an expression
+-- what a piece shows that continues an expression
 abbrev pub piece_faults : RuleDraft → ℕ → Bool → ℕ → inner.Piece → FaultList
 piece_faults r tokens truth at p =
     fault_if (is_large_row p) NumberTooLarge at
@@ -136,7 +136,7 @@ abbrev pub IsDigital : Option Piece → Type 0
 IsDigital (Some (In (inner.Digits ds))) = IsTrue (list_all is_ascii_digit ds)
 IsDigital _ = ⊤
 
--- the target's name is wanted: behind the arrow, or within `Com_1(`
+-- the target's name is wanted: after the arrow, or within `Com_1(`
 abbrev pub wants_target_name : TargetState → Bool
 wants_target_name rights.Arrowed = true
 wants_target_name rights.ComOpened = true
@@ -172,7 +172,7 @@ names_one next = is_one_named (tests.word_of next)
 abbrev pub names_many : Option Piece → Bool
 names_many next = is_many_named (tests.word_of next)
 
--- an argument begins with it behind as many as the limit
+-- an argument begins with it after as many as the limit
 abbrev pub begins_full : RuleDraft → Option Piece → Bool
 begins_full r next = (r.expression.tokens == 0) && nat_le place_limit (length r.updates.items) && begins next
 
@@ -198,7 +198,7 @@ right_faults state r at next behind =
     ++ fault_if (long_name next) (Limit LongName) at
     ++ going_if (can_read_argument state) r at next
 
--- a rule begins behind the one that is being read and as many as the limit
+-- a rule begins after the one that is being read and as many as the limit
 abbrev pub rule_faults : Draft → ℕ → Option Piece → FaultList
 rule_faults d at next =
     fault_if (is_word next && nat_le rule_limit (suc (length d.rules.items))) (Limit TooManyRules) at
@@ -227,7 +227,7 @@ mark_faults false d at next behind = atom_faults d.rule at next behind
 abbrev pub atoms_fill : RuleDraft → Bool
 atoms_fill r = nat_le atom_limit (length r.guard.atoms.items + cost_atoms (option_map term_of r.cost))
 
--- an atom begins behind them
+-- an atom begins after them
 abbrev pub atoms_full : RuleDraft → Option Piece → Bool
 atoms_full r next = is_wanting r.guard.state && atoms_fill r && begins next
 
@@ -235,7 +235,7 @@ abbrev pub another_atom_faults : RuleDraft → ℕ → Option Piece → Option P
 another_atom_faults r at next behind = fault_if (atoms_full r next) (Limit TooManyAtoms) at
     ++ atom_faults r at next behind
 
--- the faults behind atoms that have ended
+-- the faults after atoms that have ended
 abbrev pub behind_atoms_faults : GuardOpening → Draft → ℕ → Option Piece → FaultList
 behind_atoms_faults fences.Mark d at next = next_rule_faults d at next
 behind_atoms_faults fences.Square d at next = fault_if (long_name next) (Limit LongName) at
@@ -244,7 +244,7 @@ abbrev pub guard_faults : Bool → GuardOpening → Draft → ℕ → Option Pie
 guard_faults true fence d at next behind = behind_atoms_faults fence d at next
 guard_faults false fence d at next behind = another_atom_faults d.rule at next behind
 
--- what the next token behind a target shows
+-- what the next token after a target shows
 abbrev pub tail_faults : TailState → Draft → ℕ → Option Piece → Option Piece → FaultList
 tail_faults tails.Targeted d at next behind = next_rule_faults d at next
 tail_faults tails.GuardMarked d at next behind = mark_faults (is_word next && is_open behind) d at next behind

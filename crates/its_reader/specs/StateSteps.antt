@@ -79,7 +79,7 @@ pub record StaysAround (old new : Draft) : Type 0 where
   pub guard : new.rule.guard ≡ old.rule.guard
   pub cost : new.rule.cost ≡ old.rule.cost
 
--- a piece names a left argument, or leads nowhere
+-- a piece names a left argument, or is rejected
 abbrev pub Named : Option Name → Option ParserState → Draft → Draft → Type 0
 Named None result old new = (result ≡ None) × (new ≡ old)
 Named (Some name) result old new = (result ≡ Some (places.InLeft lefts.LeftRead)) × (StaysAround old new
@@ -150,14 +150,14 @@ pub record RightLeads (state : TargetState) (old : Draft) (p : Piece) (result : 
   pub each : (ts : Tokens) (next : Option Piece) (f : Front) → RightPartEnded ts (Some p) state old f
       → IsModestPiece p → LeadsTo ts next (step f p) result new
 
--- behind the target
+-- after the target
 pub record TailLeads (state : TailState) (old : Draft) (p : Piece) (behind : Option Piece) (result : Option ParserState)
     (new : Draft) : Type 0 where
   pub together : (ts : Tokens) (f : Front) → TailPartEnded ts (Some p) state old f → GoTogether (step f p) result
   pub each : (ts : Tokens) (f : Front) → TailPartEnded ts (Some p) state old f → IsModestPiece p
       → LeadsTo ts behind (step f p) result new
 
--- a piece names the target, or leads nowhere
+-- a piece names the target, or is rejected
 abbrev pub Targets : Option Name → Wrap → Option ParserState → Draft → Draft → Type 0
 Targets None w result old new = (result ≡ None) × (new ≡ old)
 Targets (Some name) w result old new = (result ≡ Some (places.InRight (rights.TargetNamed w))) × (StaysBut old new
@@ -176,7 +176,7 @@ pub record StaysInRule (old new : RuleDraft) : Type 0 where
   pub guard : new.guard ≡ old.guard
   pub cost : new.cost ≡ old.cost
 
--- an inner piece goes on with the argument or the cost, or leads nowhere
+-- an inner piece continues the argument or the cost, or is rejected
 pub record GoesOn (old : Draft) (p : inner.Piece) (new : Draft) : Type 0 where
   pub leads : Leads (names_in old.rule.variables) old.rule.expression p
       (names_in new.rule.variables) new.rule.expression

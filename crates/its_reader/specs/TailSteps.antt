@@ -1,4 +1,4 @@
--- The contracts of the code's parts behind a target: a whole rule ends, and a piece leads where it leads in a guard.
+-- The contracts of the code's parts after a target: a whole rule ends, and a piece leads where it leads in a guard.
 use Rattle.std.specs.Prelude.{◌≡◌, ◌-◌, Bool, true, false, not, ◌&&◌, nat_lt, if◌then◌else◌, [], ◌∷◌, ◌++◌, map}
 use Rattle.std.specs.Prelude.{length, Option, Some, None, option_map}
 use Rattle.std.specs.List.{list_all}
@@ -80,7 +80,7 @@ is_modest inner.Caret = true
 is_modest (inner.Related sign) = true
 is_modest (inner.Joining joint) = true
 
--- a piece goes on with the expression of an atom
+-- a piece continues the expression of an atom
 abbrev pub goes_on_in : GuardReader → inner.Piece → Bool
 goes_on_in r p = not (is_read r.state) && goes_on_from (front_of r.expression).outer (front_of r.expression).operand p
 
@@ -88,7 +88,7 @@ goes_on_in r p = not (is_read r.state) && goes_on_from (front_of r.expression).o
 abbrev pub guarding_if : Bool → GuardOpening → Option ParserState
 guarding_if test fence = if test then Some (places.InTail (tails.Guarding fence)) else None
 
--- a modest piece leads where it leads in the guard; one that isn't leads on where it goes on with an expression
+-- a modest piece leads where it leads in the guard; one that isn't leads on where it continues an expression
 abbrev pub TakesInner : Bool → GuardOpening → RuleDraft → inner.Piece → Option inner.Piece → Option ParserState → RuleDraft → Type 0
 TakesInner true fence old p behind result new =
     (taken : Bool) × ((result ≡ guarding_if taken fence)
@@ -127,7 +127,7 @@ pub record AtomTakes (fence : GuardOpening) (old : Draft) (p : Piece) (behind : 
   pub rules : new.rules ≡ old.rules
   pub symbols : new.symbols ≡ old.symbols
 
--- the brackets of a guard close behind an atom
+-- the brackets of a guard close after an atom
 abbrev pub ClosesIf : Bool → Draft → Option ParserState → Draft → Type 0
 ClosesIf true old result new = (result ≡ Some (places.InLeft lefts.AfterRule)) × RuleEnds old new
 ClosesIf false old result new = (result ≡ None) × (new ≡ old)
@@ -135,7 +135,7 @@ ClosesIf false old result new = (result ≡ None) × (new ≡ old)
 pub record SquareEnds (old : Draft) (p : Piece) (result : Option ParserState) (new : Draft) : Type 0 where
   pub has_closed : ClosesIf (tests.closes_square p) old result new
 
--- what follows a guard: behind `:|:` what follows a rule, and in square brackets the closing one
+-- what follows a guard: after `:|:` what follows a rule, and in square brackets the closing one
 abbrev pub GuardEnds : GuardOpening → Draft → Piece → Option ParserState → Draft → Type 0
 GuardEnds fences.Mark old p result new = WholeLeads old p result new
 GuardEnds fences.Square old p result new = SquareEnds old p result new

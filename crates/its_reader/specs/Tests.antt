@@ -37,7 +37,7 @@ abbrev pub remarks : Piece → Bool
 remarks (Remark bytes) = true
 remarks _ = false
 
--- a piece is a name, what joins atoms, `:|:`, `[`, `]`
+-- a piece is a name, a conjunction sign, `:|:`, `[`, `]`
 abbrev pub names : Piece → Bool
 names (In (inner.Word name)) = true
 names _ = false

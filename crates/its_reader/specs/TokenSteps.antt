@@ -64,12 +64,12 @@ pub record Advances (state : ParserState) (old : Draft) (t : Token Piece) (behin
       → IsModestPiece t.piece
       → LeadsTo ts behind (step f t.piece) result new
 
--- nothing behind a token comes before a refusal of this number at the token's last byte
+-- nothing after a token comes before a refusal of this number at the token's last byte
 abbrev pub least_of : Piece → ℕ
 least_of (In (inner.Digits ds)) = 9
 least_of _ = 8
 
--- a refusal so far is the answer behind a token
+-- a refusal so far is the answer after a token
 abbrev pub is_final : Fault Kind → Token Piece → Bool
 is_final x t = nat_lt x.at (t.upto - 1) || ((x.at == t.upto - 1) && nat_le (kind_number x.kind) (least_of t.piece))
 
@@ -82,7 +82,7 @@ abbrev pub on_or_over : Bool → ParserState → Token Piece → Fault Kind → 
 on_or_over true reached t x = Over x
 on_or_over false reached t x = On reached (t.upto - 1) (Some x)
 
--- behind a token that can follow
+-- after a token that can follow
 abbrev pub behind_token : Option (Fault Kind) → ParserState → Token Piece → TokenResult
 behind_token None reached t = On reached (t.upto - 1) None
 behind_token (Some x) reached t = on_or_over (is_final x t) reached t x

@@ -2,7 +2,7 @@
 //!
 //! Builds on `its_text` (what a text spells, and its faults) and `expr_reader` (expressions and guards). Tokens are
 //! read one after the other with one token of lookahead: a `Place` is the parser's state, a `Draft` is what has been
-//! read, and together they represent the written front of `its_text`. Main guarantee: `read` gives the verdict on a
+//! read, and together they represent the written state of `its_text`. Main guarantee: `read` gives the verdict on a
 //! text, which is its one program where it spells one within the limits, and else its first fault; and the program is
 //! valid.
 #![tactic(auto)]

@@ -97,7 +97,7 @@ pub(crate) enum TargetState {
     TargetClosed,
 }
 
-/// A state behind the target.
+/// A state after the target.
 #[derive(Clone, Copy)]
 pub(crate) enum TailState {
     /// The target; `:|:`, `[`, a rule's source, or `)`

@@ -46,7 +46,7 @@ fn last_of(token: Token<'_>) -> usize
     token.upto.saturating_sub(1)
 }
 
-// No refusal behind a token comes before one of this number at the token's last byte.
+// No refusal after a token comes before one of this number at the token's last byte.
 fn least_behind(piece: Piece<'_>) -> u8
     ensures { result ≡ least_of (plain_of piece.entry) }
 {
@@ -56,7 +56,7 @@ fn least_behind(piece: Piece<'_>) -> u8
     }
 }
 
-// Whether a refusal so far is the answer behind a token that could follow: no later one can come before it.
+// Whether a refusal so far is the answer after a token that could follow: no later one can come before it.
 fn is_final(fault: Fault, token: Token<'_>) -> bool
     ensures { result ≡ plain_final (fault_of fault) (token_of token.entry) }
 {

@@ -1,4 +1,4 @@
--- What holds of each step that leads somewhere holds of every step, and a text ends between sections alone.
+-- What holds of each accepting step holds of every step, and a text ends between sections alone.
 use Rattle.std.proofs.Common.{◌≡◌, List, Option, Some, ap}
 use Rattle.its_text.specs.Pieces.{Piece}
 use Rattle.its_text.specs.Fronts.{Front, Between, Opened, GoalNamed, GoalRead, StartNamed, StartOpened, StartListed}
@@ -20,7 +20,7 @@ use Rattle.its_text.proofs.RuleCases.{guard_marked_case, word_read_case, mark_gu
 use Rattle.its_text.proofs.RuleCases.{square_guarding_case}
 
 module _ (P : Front → Piece → Option Front → Type 0) (each : HoldsOfSteps P) where
-  -- by the front before the step
+  -- by the state before the step
   pub of_step : (f : Front) (p : Piece) → P f p (step f p)
   of_step (Between ss) p = between_case P each ss p
   of_step (Opened ss) p = opened_case P each ss p

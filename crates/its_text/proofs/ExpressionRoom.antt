@@ -18,11 +18,11 @@ use Rattle.its_text.specs.FrontFaults.{OpenExpression, is_operating}
 use Rattle.its_text.proofs.RoomLaws.{below, not_at, is_zero, not_zero, and_true}
 use Rattle.its_text.proofs.KeptFronts.{begun}
 
--- a piece goes on with an expression exactly where its step leads somewhere
+-- a piece continues an expression exactly where its step accepts it
 pub goes_on : (e f : expression.Front) (p : inner.Piece) → expression_steps.step e p ≡ Some f → goes_on_with e p ≡ true
 goes_on e f p same = ap is_front same
 
--- where its step leads nowhere a piece doesn't go on with an expression
+-- where its step rejects it a piece doesn't continue an expression
 pub goes_off : (e : expression.Front) (p : inner.Piece) → expression_steps.step e p ≡ None → goes_on_with e p ≡ false
 goes_off e p same = ap is_front same
 

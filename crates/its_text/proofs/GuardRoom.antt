@@ -31,7 +31,7 @@ pub chosen_first : {X : Type 0} (v : Bool) (x y : X) → v ≡ true → (if v th
 chosen_first true x y e = refl
 chosen_first false x y e = cc
 
--- the variables that count in behind one more piece
+-- the variables that count in after one more piece
 counted_more : (names : List Name) (c : Conjoined) (e f : expression.Front) (p : inner.Piece) (behind : Option Piece)
     → expression_steps.step e p ≡ Some f
     → counted names c f behind

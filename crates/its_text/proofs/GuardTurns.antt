@@ -29,7 +29,7 @@ use Rattle.its_text.proofs.KeptFronts.{IsGuardKept, IsRightExpanded, IsAtomExpan
 use Rattle.its_text.proofs.ExpressionRoom.{goes_on, goes_off, room_for_token, room_for_piece, some_begun}
 use Rattle.its_text.proofs.GuardRoom.{chosen_second, chosen_first, room_in_left, room_for_atom}
 
--- a piece leads nowhere, or to a guard that keeps the limits exactly where the one before does and is quiet
+-- a piece is rejected, or to a guard that keeps the limits exactly where the one before does and is quiet
 abbrev GuardTurns : ℕ → List Name → GuardFront → inner.Piece → Option Piece → Option GuardFront → Type 0
 GuardTurns others names g p behind None = ⊤
 GuardTurns others names g p behind (Some k) =
@@ -133,7 +133,7 @@ module _ (cost : Option Sum) (names : List Name) where
     pub within : AreAtomsWithin (with_atoms names atoms) atoms
     pub variables : length (with_atoms names atoms) ≤ variable_limit
 
-  -- the atom that always holds, behind others
+  -- the atom that always holds, after others
   always_count : (c : Conjoined) (a : Atom) → count_of (atoms_with c a) ≡ suc (conjoined_count c)
   always_count NoAtoms a = refl
   always_count (JointAfter atoms joint) a = refl
@@ -178,7 +178,7 @@ module _ (cost : Option Sum) (names : List Name) where
             },
       )
 
-  -- two expressions and a relation, behind others
+  -- two expressions and a relation, after others
   compared_names : (c : Conjoined) (l : Sum) (sign : inner.Sign) (r : Sum)
       → with_atoms names (atoms_with c (Compared l sign r)) ≡ with_sum (with_sum (with_conjoined names c) l) r
   compared_names NoAtoms l sign r = refl

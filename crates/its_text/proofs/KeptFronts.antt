@@ -1,4 +1,4 @@
--- What has been read is within the limits, front by front, and what a front has to find next so that it shows nothing.
+-- What has been read is within the limits, state by state, and what a state has to find next so that it shows nothing.
 use Rattle.std.proofs.Common.{◌≡◌, ℕ, suc, ◌+◌, ◌≤◌, min, true, false, not, if◌then◌else◌, ◌&&◌, is_some, nat_le, List}
 use Rattle.std.proofs.Common.{[], ◌∷◌, length, Option, Some, None}
 use Rattle.std.specs.Prelude.{⊤}
@@ -107,7 +107,7 @@ IsTargetKept l (Bare t) = HasRight l t
 abbrev pub IsHeadedKept : Headed → Type 0
 IsHeadedKept h = HasRight h.led (term_in h.target) × HasTargetArity h.led (term_in h.target)
 
--- some of an argument behind others
+-- some of an argument after others
 abbrev pub begun : expression.Front → ℕ
 begun e = min (token_count e) 1
 
@@ -133,7 +133,7 @@ counted names c e next =
     if is_some (truth_of e) && not (is_operating next) then with_conjoined names c else with_front
     (with_conjoined names c) e
 
--- some of an atom's left side, and of its right side, where the rule's cost counts as so many atoms
+-- some of an atom's left side, and of its right side, where the rule's cost counts as this many atoms
 pub record IsLeftKept (others : ℕ) (names : List Name) (c : Conjoined) (e : expression.Front) (next : Option Piece)
     : Type 0 where
   pub atoms : AreConjoined (with_conjoined names c) c
@@ -156,7 +156,7 @@ IsGuardKept others names (RightSide c l sign e) next = IsRightKept others names 
 abbrev pub HasGuardKept : Headed → GuardFront → Option Piece → Type 0
 HasGuardKept h g next = IsGuardKept (atoms_of_cost h.led.cost) (headed_names h) g next
 
--- a name behind `:|:` begins another rule before a bracket, and else an atom
+-- a name after `:|:` begins another rule before a bracket, and else an atom
 pub record IsWordKept (h : Headed) (name : Name) (next : Option Piece) : Type 0 where
   pub rule : is_open next ≡ true → suc (suc (length h.led.ruling.rules)) ≤ rule_limit
   pub atom : is_open next ≡ false → HasGuardKept h (guard_named name) next
@@ -250,7 +250,7 @@ pub record IsArgumentQuiet (a : Aimed) (arguments : List Sum) (e : expression.Fr
   pub few : shown.passes_arguments (Arguing a arguments e) next ≡ false
   pub going : IsGoingQuiet (shown.open_expression (Arguing a arguments e) next behind) next behind
 
--- a front shows nothing against the next piece and the one behind it, their length and size aside
+-- a state shows nothing against the next piece and the one after it, their length and size aside
 abbrev pub IsQuiet : Front → Option Piece → Option Piece → Type 0
 IsQuiet (Between ss) next behind = repeats ss next behind ≡ false
 IsQuiet (Opened ss) next behind = ⊤
@@ -291,6 +291,6 @@ IsQuiet (MarkGuarding h g) next behind =
 IsQuiet (SquareOpened h) next behind = IsGoingQuiet (shown.open_expression (SquareOpened h) next behind) next behind
 IsQuiet (SquareGuarding h g) next behind = HasGuardQuiet h g next behind
 
--- the next piece is within its limits as a word or, where an expression goes on with it, as a literal
+-- the next piece is within its limits as a word or, where an expression continues it, as a literal
 abbrev pub IsNextSmall : Front → Option Piece → Option Piece → Type 0
 IsNextSmall f next behind = (shown.long_name next ≡ false) × IsGoingSmall (shown.open_expression f next behind) next

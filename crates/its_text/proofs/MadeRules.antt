@@ -126,7 +126,7 @@ module _ (h : Headed) (guard : Guard) where
 pub no_guard : (h : Headed) → IsRulingKept (ruling_with h NoGuard) ↔ IsHeadedKept h
 no_guard h = empty_made h NoGuard (λ k. (k.0.variables, tt))
 
--- so is a rule with nothing behind `:|:`
+-- so is a rule with nothing after `:|:`
 pub no_marked : (h : Headed) → IsRulingKept (ruling_with h (BehindMark None)) ↔ IsHeadedKept h
 no_marked h = empty_made h (BehindMark None) (λ k. (k.0.variables, tt))
 

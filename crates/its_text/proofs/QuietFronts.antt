@@ -1,4 +1,4 @@
--- A front shows nothing exactly where it is quiet about the next piece, and that one is small.
+-- A state shows nothing exactly where it is quiet about the next piece, and that one is small.
 use Rattle.std.proofs.Common.{◌≡◌, ℕ, Bool, true, false, if◌then◌else◌, ◌↔◌, nat_le, List, [], ◌∷◌, ◌++◌, length}
 use Rattle.std.proofs.Common.{Option, Some, None, refl, ap, ◌∙◌}
 use Rattle.expr_text.specs.model.Programs.{Name}
@@ -152,7 +152,7 @@ token_quiet at (Some g) (Some (Remark bytes)) behind = (λ h. record { going = t
 token_quiet at (Some g) (Some Wrong) behind = (λ h. record { going = tt; small = tt }, λ h. refl)
 token_quiet at (Some g) (Some Strange) behind = (λ h. record { going = tt; small = tt }, λ h. refl)
 
--- what a front shows is nothing where each part is
+-- what a state shows is nothing where each part is
 record IsSilent (last at : ℕ) (f : Front) (next behind : Option Piece) : Type 0 where
   arity : shown.has_other_arity f ≡ false
   ended : ended_faults last f next ≡ []
@@ -211,7 +211,7 @@ shows_none last at f next behind s =
     ((if_quiet _ _ _).1 s.name))
     s.tokens)
 
--- front by front
+-- state by state
 module _ (last at : ℕ) (next behind : Option Piece) where
   -- a cost or an argument that has ended shows nothing exactly where it can be expanded
   ended_quiet : (names : List Name) (e : expression.Front)
@@ -286,7 +286,7 @@ module _ (last at : ℕ) (next behind : Option Piece) where
         going = going_of (SquareGuarding h g) s;
       }
 
-  -- all parts of what a front shows are nothing
+  -- all parts of what a state shows are nothing
   all_silent : (f : Front) → shown.has_other_arity f ≡ false → ended_faults last f next ≡ []
       → shown.targets_again f next behind ≡ false
       → shown.repeats_at f next behind ≡ false → shown.targets_many f next behind ≡ false
@@ -362,7 +362,7 @@ module _ (last at : ℕ) (next behind : Option Piece) where
       all_silent (SquareGuarding h g) refl ((atom_quiet last (headed_names h) g next).1 q.atom) refl refl refl refl
       refl refl q.few m.0 (token_of (SquareGuarding h g) q.going m)
 
--- a front shows nothing exactly where it is quiet, and the next piece is small
+-- a state shows nothing exactly where it is quiet, and the next piece is small
 pub shows_nothing : (last at : ℕ) (f : Front) (next behind : Option Piece)
     → (last_faults last f next ++ next_faults at f next behind ≡ []) ↔ (IsQuiet f next behind × IsNextSmall f next behind)
 shows_nothing last at f next behind = (

@@ -69,7 +69,7 @@ pub arity_same : (symbols : List Symbol) (name : Name) (arity : ℕ) → (other_
     ↔ (arity_of symbols name ≡ arity)
 arity_same symbols name arity = (same_number (arity_of symbols name) arity, number_same (arity_of symbols name) arity)
 
--- a symbol that is there keeps its places behind more symbols
+-- a symbol that is there keeps its places after more symbols
 arity_append : (symbols : List Symbol) (s : Symbol) (n : Name) → is_among n (names_of symbols) ≡ true
     → arity_of (symbols ++ s ∷ []) n ≡ arity_of symbols n
 arity_append [] s n h = cc

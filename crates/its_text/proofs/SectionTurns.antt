@@ -1,4 +1,4 @@
--- Along each step what is read is within the limits exactly where it was before, and the front is quiet: between
+-- Along each step what is read is within the limits exactly where it was before, and the state is quiet: between
 -- sections, and within all but those of rules.
 use Rattle.std.proofs.Common.{◌≡◌, ℕ, suc, ◌≤◌, Bool, true, false, if◌then◌else◌, ◌&&◌, ◌||◌, ◌↔◌, codes, List, [], ◌∷◌}
 use Rattle.std.proofs.Common.{Option, Some, None, refl, ap, sym, subst, ◌∙◌, arith}
@@ -17,7 +17,7 @@ use Rattle.its_text.specs.FrontFaults.{is_goal, is_start, is_variables, is_rules
 use Rattle.its_text.specs.Spelling.{times, HaveRules, HaveRulesWithin}
 use Rattle.its_text.proofs.KeptFronts.{first, AreDone, IsRulingKept, IsKept, IsQuiet}
 
--- a piece leads nowhere, or to a front that keeps the limits exactly where the one before does and is quiet
+-- a piece is rejected, or to a state that keeps the limits exactly where the one before does and is quiet
 abbrev pub Turns : Front → Piece → List Piece → Option Front → Type 0
 Turns f p ps None = ⊤
 Turns f p ps (Some g) = IsKept g ps ↔ (IsKept f (p ∷ ps) × IsQuiet f (Some p) (first ps))

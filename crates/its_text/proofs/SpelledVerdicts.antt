@@ -1,4 +1,4 @@
--- A text is read as a program exactly where it spells that one within the limits: along its fronts what has been read
+-- A text is read as a program exactly where it spells that one within the limits: along its states what has been read
 -- is within them exactly where nothing is shown.
 use Rattle.std.proofs.Common.{◌≡◌, ℕ, ◌≤◌, ◌↔◌, List, [], ◌∷◌, length, Option, Some, None, refl, ap, sym, subst, ◌∙◌}
 use Rattle.std.proofs.Common.{arith}
@@ -34,7 +34,7 @@ record IsFrontWithin (f : Front) (ps : List Piece) : Type 0 where
   small : AreSmall (front_pieces f)
   kept : IsKept f ps
 
--- a front shows nothing against the pieces behind it
+-- a state shows nothing against the pieces after it
 record IsSilent (f : Front) (p : Piece) (ps : List Piece) : Type 0 where
   quiet : IsQuiet f (Some p) (first ps)
   small : IsNextSmall f (Some p) (first ps)
@@ -111,7 +111,7 @@ pub answered_sections : (n : ℕ) (ts : Tokens) (ss : List Section) → answer p
     → AreSectionsWithin ss
 answered_sections = answered_within programs programs_laws AreSectionsWithin IsFrontWithin keeps_limits
 
--- a front behind which a text within the limits goes on, or ends
+-- a state after which a text within the limits goes on, or ends
 abbrev LeadsWithin : Front → List Piece → Type 0
 LeadsWithin f [] = IsFrontWithin f [] × ((ss : List Section) × (finish f ≡ Some ss))
 LeadsWithin f (p ∷ ps) = IsFrontWithin f (p ∷ ps) × IsSilent f p ps

@@ -1,4 +1,4 @@
--- What is written within the limits stands for valid expressions and atoms, over the variables of its rule.
+-- What is written within the limits denotes valid expressions and atoms, over the variables of its rule.
 use Rattle.std.proofs.Common.{◌≡◌, ◌+◌, ◌<◌, ◌≤◌, Bool, true, false, cond, not, ◌||◌, List, [], ◌∷◌, length}
 use Rattle.std.proofs.Common.{length-append, Option, Some, None, refl, ap, ◌∙◌, arith}
 use Rattle.std.specs.Prelude.{⊤}

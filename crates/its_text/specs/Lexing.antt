@@ -16,7 +16,7 @@ use Rattle.its_text.specs.Pieces.{Disjoining, Remark, Wrong, Strange, word, digi
 abbrev pub lexeme : Piece → ℕ → Lexeme (Option Piece)
 lexeme p len = record { piece = Some p; len = len }
 
--- what `-` begins, with the bytes behind
+-- what `-` begins, with the bytes after
 abbrev pub minus_at : List ℕ → Lexeme (Option Piece)
 minus_at bytes =
     if begins_with 62 bytes then lexeme Arrow 2
@@ -98,19 +98,19 @@ abbrev pub closing_at : List ℕ → ℕ → Option ℕ
 closing_at [] depth = None
 closing_at (b ∷ bytes) depth = closing_by (bend_of b) (closing_at bytes) depth
 
--- the mode of the lexer: between sections, behind the bracket that opens one, inside one with this many open brackets,
--- or behind the keyword of a comment
+-- the mode of the lexer: between sections, after the bracket that opens one, inside one with this many open brackets,
+-- or after the keyword of a comment
 pub data Mode : Type 0 where
   Outside : Mode
   AtKeyword : Mode
   Within : ℕ → Mode
   InComment : Mode
 
--- behind a keyword
+-- after a keyword
 abbrev pub behind_keyword : Name → Mode
 behind_keyword name = if is_same name (codes "COMMENT") then InComment else Within 0
 
--- the mode behind a piece
+-- the mode after a piece
 abbrev pub mode_behind : Mode → Option Piece → Mode
 mode_behind mode None = mode
 mode_behind Outside (Some (In inner.Open)) = AtKeyword

@@ -79,7 +79,7 @@ abbrev pub atoms_of_cost : Option Sum → ℕ
 atoms_of_cost None = 0
 atoms_of_cost (Some c) = 1
 
--- the variables once an arrow is read, behind a left term
+-- the variables once an arrow is read, after a left term
 abbrev pub arrow_names : LeftTerm → Option Sum → List Name
 arrow_names t cost = with_cost (left_names t) cost
 

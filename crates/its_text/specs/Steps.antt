@@ -34,7 +34,7 @@ section_named ss name =
 abbrev pub left_shut : Ruling → Name → List Name → Front
 left_shut r name arguments = SourceClosed r (record { name = name; arguments = arguments })
 
--- the arrow is read behind a left term, with a cost or none
+-- the arrow is read after a left term, with a cost or none
 abbrev pub behind_left : Ruling → LeftTerm → Option Sum → Front
 behind_left r t cost = Arrowed (record { ruling = r; left = t; cost = cost })
 
@@ -48,11 +48,11 @@ abbrev pub cost_ended : Ruling → LeftTerm → Option Sum → Option Front
 cost_ended r t None = None
 cost_ended r t (Some c) = Some (behind_left r t (Some c))
 
--- the front behind a right term's name, inside `Com_1(..)` or alone
+-- the state after a right term's name, inside `Com_1(..)` or alone
 abbrev pub behind_target_name : Led → Wrap → Name → Front
 behind_target_name l wrap name = TargetNamed (record { led = l; wrap = wrap; name = name })
 
--- `Com_1` behind an arrow, or the name of a term
+-- `Com_1` after an arrow, or the name of a term
 abbrev pub behind_arrow : Led → Name → Front
 behind_arrow l name = if is_same name (codes "Com_1") then ComNamed l else behind_target_name l Alone name
 
@@ -60,7 +60,7 @@ behind_arrow l name = if is_same name (codes "Com_1") then ComNamed l else behin
 abbrev pub behind_target : Led → Target → Front
 behind_target l target = Targeted (record { led = l; target = target })
 
--- the front behind the end of a right term, inside `Com_1(..)` or alone
+-- the state after the end of a right term, inside `Com_1(..)` or alone
 abbrev pub shut_by : Led → Wrap → RightTerm → Front
 shut_by l InCom t = TargetClosed l t
 shut_by l Alone t = behind_target l (Bare t)
@@ -88,12 +88,12 @@ abbrev pub argument_step : Aimed → List Sum → expression.Front → Option ex
 argument_step a arguments e (Some more) p = Some (Arguing a arguments more)
 argument_step a arguments e None p = behind_argument a arguments (expression_steps.finish e) p
 
--- atoms behind `:|:` end, where they can, before what follows a rule
+-- atoms after `:|:` end, where they can, before what follows a rule
 abbrev pub guard_ended : Headed → Option Atoms → inner.Piece → Option Front
 guard_ended h None p = None
 guard_ended h (Some atoms) p = behind_rule (ruling_with h (BehindMark (Some atoms))) p
 
--- atoms behind `:|:` go on, where they can, or else end
+-- atoms after `:|:` go on, where they can, or else end
 abbrev pub mark_guard_step : Headed → guards.GuardFront → Option guards.GuardFront → inner.Piece → Option Front
 mark_guard_step h g (Some more) p = Some (MarkGuarding h more)
 mark_guard_step h g None p = guard_ended h (guards.finish g) p
@@ -118,7 +118,7 @@ behind_mark h (inner.Word name) = Some (WordRead h name)
 behind_mark h inner.Close = Some (Between (section_of (ruling_with h (BehindMark None))))
 behind_mark h p = mark_guard_step h guards.no_atoms (guards.step guards.no_atoms p) p
 
--- what follows a name behind `:|:`: before a bracket it begins the next rule, else an atom
+-- what follows a name after `:|:`: before a bracket it begins the next rule, else an atom
 abbrev pub behind_word : Headed → Name → inner.Piece → Option Front
 behind_word h name inner.Open = Some (LeftOpened (ruling_with h (BehindMark None)) name)
 behind_word h name p = mark_guard_step h (guard_named name) (guards.step (guard_named name) p) p
@@ -128,7 +128,7 @@ abbrev pub behind_open : Aimed → inner.Piece → Option Front
 behind_open a inner.Close = Some (right_shut a [])
 behind_open a p = argument_step a [] expression.beginning (expression_steps.step expression.beginning p) p
 
--- where a piece leads
+-- the state after a piece
 abbrev pub step : Front → Piece → Option Front
 step (Between ss) (In inner.Open) = Some (Opened ss)
 step (Opened ss) (In (inner.Word name)) = section_named ss name

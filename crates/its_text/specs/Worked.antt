@@ -15,7 +15,7 @@ use Rattle.its_text.specs.Answers.{verdict}
 abbrev pub RefusedAt : List ℕ → ℕ → Kind → Type 0
 RefusedAt bytes at kind = verdict bytes ≡ Refused (record { kind = kind; at = at })
 
--- rules behind a start symbol
+-- rules after a start symbol
 abbrev pub with_rules : List ℕ → List ℕ
 with_rules rules = codes "(STARTTERM (FUNCTIONSYMBOLS l0))(RULES " ++ rules ++ codes ")"
 
@@ -38,7 +38,7 @@ pub record FirstFaults : Type 0 where
   -- a literal over 2^63 - 1
   pub large_literal : RefusedAt
       (with_rules (codes "l0(A) -> Com_1(l1(A)) :|: A*A <= 9223372036854775808")) 72 NumberTooLarge
-  -- a literal that is too large directly behind `:|:`, before a bracket that can't follow
+  -- a literal that is too large directly after `:|:`, before a bracket that can't follow
   pub literal_before_bracket : RefusedAt (with_rules
       (codes "l0(A) -> Com_1(l1(A)) :|: 9223372036854775808 (")) 65 NumberTooLarge
   -- an argument ends where the next token can't follow, and its fault comes before that token
@@ -61,7 +61,7 @@ pub record FirstFaults : Type 0 where
   pub two_names : RefusedAt (with_rules (codes "l0(A B) -> Com_1(l0(A))")) 44 Syntax
   -- nor is a symbol: at its bracket
   pub left_call : RefusedAt (with_rules (codes "l0(f(A)) -> Com_1(l0(A))")) 43 Syntax
-  -- a name before a bracket begins a rule directly behind `:|:` alone
+  -- a name before a bracket begins a rule directly after `:|:` alone
   pub bracket_in_atom : RefusedAt (with_rules (codes "l0(A) -> Com_1(l1(A)) :|: A >= l0(A)")) 72 Syntax
   -- 2^9 comes before 2^63, and its exponent is over 8
   pub lower_powers : RefusedAt (with_rules (codes "l0(A) -> Com_1(l1(2^63))")) 60 (Limit HighDegree)
@@ -167,7 +167,7 @@ from_l0 free updates guard = from_l0_costing None free updates guard
 abbrev pub IsReadAs : List ℕ → Program → Type 0
 IsReadAs bytes p = verdict bytes ≡ Stands p
 
--- what texts stand for
+-- what texts denote
 pub record Programs : Type 0 where
   -- a target within `Com_1(` and one alone
   pub marked : IsReadAs (with_rules (codes "l0(A) -> Com_1(l1(A))"))

@@ -21,7 +21,7 @@ pub data Target : Type 0 where
   Marked : RightTerm → Target
   Bare : RightTerm → Target
 
--- a rule's guard: none, atoms behind `:|:`, or atoms in square brackets; both may have no atoms
+-- a rule's guard: none, atoms after `:|:`, or atoms in square brackets; both may have no atoms
 pub data Guard : Type 0 where
   NoGuard : Guard
   BehindMark : Option Atoms → Guard
@@ -42,7 +42,7 @@ pub data Section : Type 0 where
   Rules : List WrittenRule → Section
   Comment : List ℕ → Section
 
--- the pieces of each part behind those that come before it, the last one first
+-- the pieces of each part after those that come before it, the last one first
 abbrev pub names_behind : List Name → List Piece → List Piece
 names_behind [] before = before
 names_behind (a ∷ []) before = word a ∷ before

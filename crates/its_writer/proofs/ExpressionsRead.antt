@@ -18,7 +18,7 @@ use Rattle.its_writer.proofs.CanonicalSections.{operand_written, expression_writ
 use Rattle.its_writer.specs.Spellable.{IsNatural}
 use Rattle.its_writer.proofs.Lexed.{lexed, moved, word_lexed, numeral_lexed, IsApart, minus_lexed, name_apart, numeral_apart}
 
--- a text is read as pieces: behind any pieces, and before bytes that don't go on with a name
+-- a text is read as pieces: after any pieces, and before bytes that don't continue a name
 pub record IsRead (d : ℕ) (text : List ℕ → List ℕ) (behind : List Piece → List Piece) : Type 0 where
   pub each : (before : List Piece) (rest : List ℕ) → Stops continues_name rest
       → onto before (lexed (Within d) (text rest)) ≡ onto (behind before) (lexed (Within d) rest)

@@ -23,7 +23,7 @@ use Rattle.its_writer.proofs.Numerals.{numeral_is}
 use Rattle.its_writer.proofs.NamesAt.{names_count}
 use Rattle.its_writer.proofs.TermsOrdered.{known_below, known_next}
 
--- digits go on with a name
+-- digits continue a name
 digit_continues : (b : ℕ) → is_ascii_digit b ≡ true → continues_name b ≡ true
 digit_continues b h = grind (arith, nat_tests)
 
@@ -88,7 +88,7 @@ places_at [] i is h = absurd (omega (arith, h))
 places_at (s ∷ symbols) zero is h = is.0
 places_at (s ∷ symbols) (suc i) is h = places_at symbols i is.1 (omega (arith, h))
 
--- rules in order, and others behind them
+-- rules in order, and others after them
 order_joined : (xs ys : List Rule) (n : ℕ) → AreInOrder n xs → AreInOrder (symbols_behind n xs) ys → AreInOrder n (xs ++ ys)
 order_joined [] ys n a b = b
 order_joined (x ∷ xs) ys n a b = (a.0, a.1, order_joined xs ys (known_with (known_with n x.source) x.target) a.2 b)

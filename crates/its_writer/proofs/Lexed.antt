@@ -26,7 +26,7 @@ lexed mode bytes = pieces (tokens_in lexer mode 0 0 bytes)
 pub moved : (mode : Mode) (at : ℕ) (bytes : List ℕ) → pieces (tokens_in lexer mode at 0 bytes) ≡ lexed mode bytes
 moved mode at bytes = pieces_in lexer bytes mode 0 at 0
 
--- a piece, and those behind its bytes
+-- a piece, and those after its bytes
 piece_first : (d : ℕ) (b : ℕ) (bytes behind : List ℕ) (p : Piece) (len : ℕ) → lexeme p (suc len) ≡ lexeme_at b bytes → behind ≡ drop len bytes
     → lexed (Within d) (b ∷ bytes) ≡ p ∷ lexed (mode_behind (Within d) (Some p)) behind
 piece_first d b bytes behind p len is rests =
@@ -49,7 +49,7 @@ digit_not_white b h = grind (arith, nat_tests)
 digit_no_name : (b : ℕ) → is_ascii_digit b ≡ true → begins_name b ≡ false
 digit_no_name b h = grind (arith, nat_tests)
 
--- what doesn't go on with a name is no digit
+-- what doesn't continue a name is no digit
 no_digit : (b : ℕ) → continues_name b ≡ false → is_ascii_digit b ≡ false
 no_digit b h = grind (arith, nat_tests)
 
@@ -60,7 +60,7 @@ stops_digits (b ∷ rest) h = no_digit b h
 one_more : (n : ℕ) → suc n ≡ 1 + n
 one_more n = omega arith
 
--- a name before bytes that don't go on with it
+-- a name before bytes that don't continue it
 word_at : (b : ℕ) (bytes rest : List ℕ) → begins_name b ≡ true → list_all continues_name bytes ≡ true → Stops continues_name rest
     → lexeme (word (b ∷ bytes)) (suc (length bytes)) ≡ lexeme_at b (bytes ++ rest)
 word_at b bytes rest h all stop =

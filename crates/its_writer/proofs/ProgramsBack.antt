@@ -1,4 +1,4 @@
--- The written sections of a program that a text spells stand for it.
+-- The written sections of a program that a text spells denote it.
 use Rattle.std.proofs.Common.{◌≡◌, ℕ, zero, suc, ◌+◌, ◌-◌, ◌<◌, ◌≤◌, nat_eq, Bool, true, false, if◌then◌else◌, List, []}
 use Rattle.std.proofs.Common.{◌∷◌, ◌++◌, length, take, reverse, Some, None, refl, ap, sym, subst, ◌∙◌}
 use Rattle.std.proofs.Common.{arith, append_assoc, append-nil}
@@ -81,7 +81,7 @@ spellable_parts (e ∷ es) fs n s = let x = spellable_parts es fs (known_behind 
 abbrev left_of : List Name → Rule → LeftTerm
 left_of symbols r = record { name = name_at symbols r.source; arguments = onto (left_names r) [] }
 
--- a written rule stands for its rule
+-- a written rule denotes its rule
 record IsRuleBack (p : Program) (r : Rule) : Type 0 where
   numbered : rule_numbered p.symbols (rule_written (symbol_names p) r) ≡ r
   rule : IsRule p.symbols (rule_written (symbol_names p) r)
@@ -159,7 +159,7 @@ symbols_grow (r ∷ rules) n =
     let c = symbols_grow rules (known_with (known_with n r.source) r.target) in
     omega (arith, a, b, c)
 
--- written rules behind others stand for the rules
+-- written rules after others denote the rules
 record AreRulesBack (p : Program) (n : ℕ) (done : List WrittenRule) (rules : List Rule) : Type 0 where
   known : symbols_of done ≡ take n p.symbols → symbols_of (rules_written (symbol_names p) done rules) ≡ take (symbols_behind n rules) p.symbols
   numbered : rules_numbered p.symbols (rules_written (symbol_names p) done rules) ≡ rules_numbered p.symbols done ++ rules

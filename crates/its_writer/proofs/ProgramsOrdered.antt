@@ -78,7 +78,7 @@ places_at (s ∷ symbols) n h = go (is_same n s.name) refl h (λ k. places_at sy
         ∙ ih k
         ∙ sym (ap (λ (v : Bool). if v then s.arity else numbered.arity_of symbols n) e)
 
--- the first of names that others were put behind
+-- the first of names that others were put after
 taken_back : (xs ys zs : List Name) → zs ≡ xs ++ ys → take (length xs) zs ≡ xs
 taken_back xs ys zs e = ap (take (length xs)) e ∙ go xs
   where

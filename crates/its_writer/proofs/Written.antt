@@ -1,4 +1,4 @@
--- What is written behind a text, part by part.
+-- What is written after a text, part by part.
 use Rattle.std.proofs.Common.{◌≡◌, ℕ, zero, suc, ◌+◌, ◌<◌, ◌≤◌, min, List, [], ◌∷◌, ◌++◌, length, map, drop, take, get_or}
 use Rattle.std.proofs.Common.{Some, None, refl, ap, sym, ◌∙◌, arith, append-nil}
 use Rattle.std.specs.Prelude.{codes, Result, Ok, Err, OnOk, slice_get}
@@ -66,7 +66,7 @@ symbol_missing [] i h = refl
 symbol_missing (s ∷ symbols) zero h = absurd (omega (arith, h))
 symbol_missing (s ∷ symbols) (suc i) h = symbol_missing symbols i (omega (arith, h))
 
--- the text of each is that of one of them, and of those behind it
+-- the text of each is that of one of them, and of those after it
 pub one_then : (text : Name → List ℕ → List ℕ) (names : List Name) (i : ℕ) (rest : List ℕ) → each_then text (take 1 (drop i names)) (each_then text (drop (i + 1) names) rest) ≡ each_then text (drop i names) rest
 one_then text [] zero rest = refl
 one_then text [] (suc i) rest = ap (λ k. each_then text (drop k []) rest) (let e : suc i + 1 ≡ suc (i + 1) = omega arith in e)
@@ -123,7 +123,7 @@ program_written p known t0 t1 t2 t3 t4 t5 t6 t7 (Ok u) same a b c d f g h = reco
 pub whole_text : (old new : List ℕ) (text : List ℕ → List ℕ) → old ≡ [] → WritesAll old new text → new ≡ text []
 whole_text old new text empty a = sym (append-nil new) ∙ a.each [] ∙ ap (λ (bs : List ℕ). bs ++ text []) empty
 
--- a name is written behind a blank, where there is one
+-- a name is written after a blank, where there is one
 pub name_led : (one : List Name) (name : Name) (old mid new : List ℕ) (r : Result (Unit {0}) AllocError) → one ≡ name ∷ [] → WritesAll old mid (λ rest. codes " " ++ rest)
     → OnOk r (WritesAll mid new (λ rest. name ++ rest)) → OnOk r (WritesAll old new (each_then (led_by (codes " ") name_then) one))
 name_led one name old mid new (Err e) same a b = tt

@@ -23,7 +23,7 @@ module _ {X : Type 0} where
   each_then text [] rest = rest
   each_then text (x ∷ xs) rest = text x (each_then text xs rest)
 
-  -- a text behind bytes
+  -- a text after bytes
   abbrev pub led_by : List ℕ → (X → List ℕ → List ℕ) → X → List ℕ → List ℕ
   led_by before text x rest = before ++ text x rest
 

@@ -1,10 +1,10 @@
 -- What was appended to a text.
 use Rattle.std.specs.Prelude.{◌≡◌, ℕ, List, ◌++◌}
 
--- from the old bytes to the new ones that was written which, with `left` behind it, is `text`
+-- from the old bytes to the new ones that was written which, with `left` after it, is `text`
 pub record Writes (old new : List ℕ) (text left : List ℕ → List ℕ) : Type 0 where
   pub each : (rest : List ℕ) → new ++ left rest ≡ old ++ text rest
 
--- behind the old bytes the text was written
+-- after the old bytes the text was written
 abbrev pub WritesAll : List ℕ → List ℕ → (List ℕ → List ℕ) → Type 0
 WritesAll old new text = Writes old new text (λ rest. rest)

@@ -10,7 +10,7 @@ use Rattle.its_text.specs.Numbering.{is_com}
 use Rattle.its_writer.specs.Expressions.{name_at}
 use Rattle.its_writer.specs.Texts.{symbol_names, left_names}
 
--- how many things are known behind one, where so many are before it
+-- how many things are known after one, where this many are before it
 abbrev pub known_with : ℕ → ℕ → ℕ
 known_with n i = if nat_lt i n then n else suc i
 
@@ -19,7 +19,7 @@ abbrev pub IsNatural : ℤ → Type 0
 IsNatural (pos n) = ⊤
 IsNatural (negsuc n) = ⊥
 
--- how many variables are known behind an expression, where so many are before it
+-- how many variables are known after an expression, where this many are before it
 abbrev pub known_behind : ℕ → Term → ℕ
 known_behind n (Literal z) = n
 known_behind n (Variable i) = known_with n i
@@ -39,7 +39,7 @@ IsSpellableTerm n (Subtraction d e) = IsSpellableTerm n d × IsSpellableTerm (kn
 IsSpellableTerm n (Multiplication d e) = IsSpellableTerm n d × IsSpellableTerm (known_behind n d) e
 IsSpellableTerm n (Exponentiation e m) = IsSpellableTerm n e
 
--- how many variables are known behind expressions, where so many are before them
+-- how many variables are known after expressions, where this many are before them
 abbrev pub known_behind_all : ℕ → List Term → ℕ
 known_behind_all n [] = n
 known_behind_all n (e ∷ es) = known_behind_all (known_behind n e) es
@@ -80,7 +80,7 @@ pub record IsSpellableRule (p : Program) (r : Rule) : Type 0 where
   pub terms : AreSpellable r.left (terms_of r)
   pub known : known_behind_all r.left (terms_of r) ≡ r.left + r.free
 
--- how many symbols are known behind rules, where so many are before them
+-- how many symbols are known after rules, where this many are before them
 abbrev pub symbols_behind : ℕ → List Rule → ℕ
 symbols_behind n [] = n
 symbols_behind n (r ∷ rules) = symbols_behind (known_with (known_with n r.source) r.target) rules

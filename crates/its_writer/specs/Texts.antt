@@ -19,7 +19,7 @@ abbrev pub arrow_then : List Name → Option Term → List ℕ → List ℕ
 arrow_then names None rest = codes "->" ++ rest
 arrow_then names (Some c) rest = codes "-{" ++ expression_then names c (codes "}>" ++ rest)
 
--- a rule in a line of its own, behind two blanks
+-- a rule in a line of its own, after two blanks
 abbrev pub rule_then : List Name → Rule → List ℕ → List ℕ
 rule_then symbols r rest =
     codes "  " ++ (name_at symbols r.source ++ (codes "(" ++ joined_then (codes ",") name_then (left_names r)

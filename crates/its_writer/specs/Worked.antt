@@ -155,7 +155,7 @@ pub record WorkedTexts : Type 0 where
 
 -- which expressions and rules a text spells, where one variable is known, or no symbol
 pub record WorkedSpelling : Type 0 where
-  -- the next variable, and the one behind it
+  -- the next variable, and the one after it
   pub next : IsSpellableTerm 1 (Addition (Variable 1) (Multiplication (Variable 0) (Variable 2)))
   pub known : known_behind 1 (Addition (Variable 1) (Multiplication (Variable 0) (Variable 2))) ≡ 3
   -- but not the other way round

@@ -1,4 +1,4 @@
--- A power with an exponent over the limit fails at the one behind it.
+-- A power with an exponent over the limit fails at the one after it.
 use Rattle.expr_text.proofs.LimitedFaults.{limited_alike}
 use Rattle.expr_text.proofs.law.limited_alike.Goals as goal
 
