@@ -1,4 +1,4 @@
--- An atom ends in the code where it ends in the written state.
+-- An atom ends in the code where the written one ends.
 use Rattle.std.proofs.Common.{◌≡◌, ℕ, zero, suc, Bool, true, false, not, ◌&&◌, if◌then◌else◌, List, [], ◌∷◌, ◌++◌, refl}
 use Rattle.std.proofs.Common.{ap, sym, subst, ◌∙◌, Option, Some, None, is_some, codes}
 use Rattle.std.proofs.lemmas.List.{map-append}
@@ -87,7 +87,7 @@ ended_terms : (names : List Name) (c : Conjoined) (a : guards.Atom) → atoms_of
 ended_terms names NoAtoms a = refl
 ended_terms names (JointAfter atoms joint) a = map-append limited_atom (guards.atoms_terms names atoms) (atom_term names a ∷ [])
 
--- after the word of the atom that always holds only an operator and a relation lead on within the atom
+-- after the word of the atom that always holds, only an operator or a relation continues the atom
 word_joins : (c : Conjoined) (n : Name) (p : Piece) → operates p ≡ false → step (LeftSide c (word_front n)) p ≡ joined_only (finish (LeftSide c (word_front n))) p
 word_joins c n (Word m) h = refl
 word_joins c n (Digits ds) h = refl
@@ -100,7 +100,7 @@ word_joins c n Caret h = cc
 word_joins c n (Related sign) h = cc
 word_joins c n (Joining joint) h = refl
 
--- after a right side that ends only a conjunction sign leads on
+-- after a right side that ends only a conjunction sign can follow
 right_joins : (c : Conjoined) (l : Sum) (sign : Sign) (e : Front) (p : Piece) → inner.step e p ≡ None → step (RightSide c l sign e) p ≡ joined_only (finish (RightSide c l sign e)) p
 right_joins c l sign e p h = ap (λ o. within (RightSide c l sign e) o p) h ∙ only p
   where
@@ -206,7 +206,7 @@ no_step (Some f) h = absurd cc
 before_step : (e : Front) (next : Option Piece) (p : Piece) → ends_before e next ≡ true → next ≡ Some p → inner.step e p ≡ None
 before_step e next p h same = no_step (inner.step e p) (sym (ap (ends_before e) same) ∙ h)
 
--- what `Related` says of a left side
+-- the left side and the relation of a pending atom
 left_is : (names : List Name) (l : Sum) (sign : Sign) (rel : code.Related) → Some (relating_of rel) ≡ Some (record { left = limited (sum_term names l); relation = guards.relation_of sign })
     → relating_of rel ≡ record { left = limited (sum_term names l); relation = guards.relation_of sign }
 left_is names l sign rel e = cc

@@ -1,4 +1,4 @@
--- An exponent over the limit may count as the one after it: the first fault is the same.
+-- An exponent over the limit may be replaced by the limit plus one: the first fault is the same.
 use Rattle.std.proofs.Common.{◌≡◌, ℕ, zero, suc, ◌+◌, ◌≤◌, ◌<◌, min, Bool, true, false, ◌||◌, List, [], ◌∷◌, ◌++◌, refl}
 use Rattle.std.proofs.Common.{ap, sym, subst, ◌∙◌, arith, Option, Some, None, nat_lt, if◌then◌else◌, length, pos}
 use Rattle.std.proofs.lemmas.Bool.{ltb-false}

@@ -1,4 +1,4 @@
--- The terms of what is made of a state are made of the state's terms.
+-- The terms built from the parts of a state are those built from the state's terms.
 use Rattle.std.proofs.Common.{◌≡◌, ℕ, zero, suc, List, [], ◌∷◌, ◌++◌, refl, ap, sym, ◌∙◌, reverse}
 use Rattle.std.proofs.lemmas.List.{reverse-append, reverse-reverse}
 use Rattle.model.specs.Programs.{Name}
@@ -32,7 +32,7 @@ sum_of names l f = go l.sum
     go (PlusAfter s) = ap (λ t. Addition (limited (sum_term names s)) t) (product_of names l.product l.minuses f)
     go (MinusAfter s) = ap (λ t. Subtraction (limited (sum_term names s)) t) (product_of names l.product l.minuses f)
 
--- the last of a list, and what comes before it
+-- the last element of a list, and the elements before it
 pub last_is : {X : Type 0} (xs ys : List X) (x y : X) → xs ++ x ∷ [] ≡ ys ++ y ∷ [] → (x ≡ y) × (xs ≡ ys)
 last_is xs ys x y e = (firsts.0, sym (reverse-reverse xs) ∙ (ap reverse firsts.1 ∙ reverse-reverse ys))
   where

@@ -1,9 +1,4 @@
-//! Parses expressions and guards piece by piece, without recursion, while a reader of a larger text goes through its
-//! tokens.
-//!
-//! Builds on `expr_text`, which says what is written, and on `poly_terms` and `its_model`, whose expressions and atoms
-//! are made. Main guarantee: the state of parsing always represents the written state of `expr_text`, so what is made
-//! is the term of the pieces that were read.
+//! Parses expressions and guards piece by piece, without recursion, for a reader of a larger text.
 #![tactic(auto)]
 
 mod expansion;

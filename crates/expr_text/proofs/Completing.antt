@@ -11,8 +11,8 @@ use Rattle.expr_text.specs.GuardFronts as guards
 use Rattle.expr_text.proofs.Ending.{related_step}
 use Rattle.expr_text.specs.GuardFronts.{Conjoined, GuardFront, LeftSide, RightSide, atoms_with}
 
--- a text is at an expression's state after some pieces; it can be completed where it can be completed after one piece
--- more, and where the expression has ended
+-- a text is in an expression's state after some pieces; it can be completed, if it can be completed after one more
+-- piece of the expression, and if it can be completed where the expression ends
 module _ {P : Type 0} (into : Piece → P) (At : List P → Front → Type 0) (Goes : List P → Type 0)
     (steps : (done : List P) (e g : Front) (p : Piece) → At done e → step e p ≡ Some g → At (into p ∷ done) g)
     (back : (p : P) (done : List P) → Goes (p ∷ done) → Goes done)
@@ -43,7 +43,7 @@ module _ {P : Type 0} (into : Piece → P) (At : List P → Front → Type 0) (G
   pub expression_completed : (e : Front) (done : List P) → At done e → Goes done
   expression_completed e done h = from_operand e.outer e.level e.operand done h
 
--- a text is at a guard's state after some pieces
+-- a text is in a guard's state after some pieces
 module _ {P : Type 0} (into : Piece → P) (At : List P → GuardFront → Type 0) (Goes : List P → Type 0)
     (steps : (done : List P) (g h : GuardFront) (p : Piece) → At done g → guards.step g p ≡ Some h → At (into p ∷ done) h)
     (back : (p : P) (done : List P) → Goes (p ∷ done) → Goes done)

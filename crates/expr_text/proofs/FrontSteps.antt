@@ -1,4 +1,4 @@
--- What each piece adds to an expression's state: a token, and a variable where it is a new name.
+-- How each piece changes an expression's state: by a token, and by a variable if it is a new name.
 use Rattle.std.proofs.Common.{◌≡◌, ℕ, zero, suc, Bool, true, false, not, if◌then◌else◌, ◌&&◌, ◌||◌, ◌==◌, is_some, List}
 use Rattle.std.proofs.Common.{[], ◌∷◌, length, codes, Option, Some, None, refl, ap, sym, subst, arith}
 use Rattle.std.specs.Prelude.{⊤}
@@ -59,7 +59,7 @@ ended_there e s same h = none (subst (λ f. finish f ≡ Some s) (nothing_read e
     none : None ≡ Some s → ⊥
     none k = cc
 
--- what continues nothing begins an expression
+-- a piece that can come first begins an expression
 begins_from : (p : Piece) (f : Front) → step beginning p ≡ Some f → begins_expression p ≡ true
 begins_from (Word n) f same = refl
 begins_from (Digits ds) f same = refl
@@ -76,7 +76,7 @@ begins_from (Joining joint) f same = cc
 pub first_begins : (e f : Front) (p : Piece) → token_count e ≡ 0 → step e p ≡ Some f → begins_expression p ≡ true
 first_begins e f p h same = begins_from p f (subst (λ g. step g p ≡ Some f) (nothing_read e h) same)
 
--- the variables once a factor is read after this many `-`, in its product, and in its sum
+-- the variables after a factor with this many `-` before it, after its product, and after its sum
 negated_names : (names : List Name) (n : ℕ) (f : Factor) → with_factor names (negated n f) ≡ with_factor names f
 negated_names names zero f = refl
 negated_names names (suc n) f = negated_names names n (Negated f)
@@ -225,7 +225,7 @@ named_truth name = go (is_same name (codes "TRUE")) (is_same name (codes "true")
     go false true = refl
     go false false = refl
 
--- a name that comes first can be that atom
+-- a name that comes first can be the atom that always holds
 abbrev pub begins_truth : Front → Piece → Bool
 begins_truth e (Word name) = (token_count e == 0) && truth_worded name
 begins_truth e (Digits ds) = false
@@ -325,11 +325,11 @@ truth_from outer level (CaretRead b) (Joining joint) = tt
 truth_from outer level (ExponentRead b ds) p =
     behind_truth (record { outer = outer; level = level; operand = ExponentRead b ds }) outer level (Raised b ds) p
 
--- a state is that atom's exactly where a name came first that is its word
+-- a state is the atom that always holds exactly if its only piece is the word of that atom
 pub truth_more : (e f : Front) (p : Piece) → step e p ≡ Some f → is_some (truth_of f) ≡ begins_truth e p
 truth_more e f p same = subst (λ o. TellsTruth e p o) same (truth_from e.outer e.level e.operand p)
 
--- what continues that atom's word is an operator
+-- only an operator continues the word of that atom
 and_false : (v : Bool) → (v && false) ≡ false
 and_false true = refl
 and_false false = refl

@@ -26,12 +26,12 @@ atom_finish c (Always Capitals) = refl
 atom_finish c (Always Smalls) = refl
 atom_finish c (Compared l sign r) = ap (λ o. ended c (compared l sign o)) (sum_finish r)
 
--- the guard can end after them
+-- the guard can end after its atoms
 pub atoms_finish : (atoms : Atoms) → finish (behind_atoms atoms) ≡ Some atoms
 atoms_finish (First a) = atom_finish NoAtoms a
 atoms_finish (Joined atoms joint a) = atom_finish (JointAfter atoms joint) a
 
--- a text is at a guard's state after some pieces, and each piece that continues the guard leads to such a state
+-- a text is in a guard's state after some pieces, and each piece that continues the guard leads to such a state
 module _ {P : Type 0} (into : Piece → P) (At : List P → GuardFront → Type 0)
     (steps : (done : List P) (g h : GuardFront) (p : Piece) → At done g → step g p ≡ Some h → At (into p ∷ done) h) where
   atom_from : (c : Conjoined) (a : Atom) (done : List P) → At done (LeftSide c beginning) → At (atom_behind into a done) (behind_atom c a)

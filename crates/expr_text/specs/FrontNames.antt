@@ -1,4 +1,4 @@
--- The variables of what has been read, and the number of its tokens.
+-- The variables among the pieces read so far, and the number of their tokens.
 use Rattle.std.specs.Prelude.{ℕ, Bool, true, false, ◌||◌, codes, List, [], ◌∷◌, length, Option, Some, None}
 use Rattle.its_model.specs.model.Programs.{Name}
 use Rattle.its_model.specs.text_core.Names.{is_same}
@@ -65,7 +65,7 @@ is_front (Some f) = true
 abbrev pub goes_on_with : Front → Piece → Bool
 goes_on_with f p = is_front (inner.step f p)
 
--- whether a piece denotes an operator or a relation, so that the word before it is a name
+-- whether a piece is an operator or a relation, so that the word before it is a name
 abbrev pub operates : Piece → Bool
 operates Plus = true
 operates Minus = true

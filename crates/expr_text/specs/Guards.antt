@@ -17,7 +17,7 @@ pub data Atom : Type 0 where
   Always : Truth → Atom
   Compared : Sum → Sign → Sum → Atom
 
--- one atom or more, with a conjunction sign them, from the left
+-- one atom or more, with conjunction signs between them, from the left
 pub data Atoms : Type 0 where
   First : Atom → Atoms
   Joined : Atoms → Joint → Atom → Atoms
@@ -43,7 +43,7 @@ abbrev pub count_of : Atoms → ℕ
 count_of (First a) = 1
 count_of (Joined atoms joint a) = suc (count_of atoms)
 
--- what a sign says
+-- the relation that a sign denotes
 abbrev pub relation_of : Sign → Relation
 relation_of AtLeastSign = AtLeast
 relation_of MoreThanSign = MoreThan

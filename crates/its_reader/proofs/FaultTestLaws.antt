@@ -48,7 +48,7 @@ four_first_fault best one two three four xs ys zs ws a b c d = one_more best thr
 pub one_more_behind : (best one two : Option (Fault Kind)) (xs ys zs ws vs : FaultList) → one ≡ first_among programs best (xs ++ ys ++ zs ++ ws) → two ≡ first_among programs one vs → two ≡ first_among programs best (xs ++ ys ++ zs ++ ws ++ vs)
 one_more_behind best one two xs ys zs ws vs a b = one_more best one two (xs ++ ys ++ zs ++ ws) vs a b
 
--- whether a name is too long is tested as in what is written
+-- the code's test for a name that is too long agrees with the written one
 pub long_is : (o : Option Piece) → long_name o ≡ is_long (tests.word_of o)
 long_is None = refl
 long_is (Some (In (inner.Word name))) = refl
@@ -82,7 +82,7 @@ repeats_is ts ss s k (Some (In inner.Open)) (Some _) = refl
 repeats_is ts ss s k (Some (In _)) behind = refl
 repeats_is ts ss s k (Some _) behind = refl
 
--- what a state outside rules shows at the next token
+-- the faults of a state outside rules at the next token
 module _ (ts : Tokens) (at : ℕ) (next behind : Option Piece) where
   between_shows : (ss : List Section) (s : Sections) → KnowsSections ts ss s → next_faults at (fronts.Between ss) next behind ≡ fault_if (repeats_in sections.Between s next behind) RepeatedSection at ++ fault_if (long_name next) (Limit LongName) at
   between_shows ss s k = simp append-nil (ap (λ v. fault_if v RepeatedSection at ++ fault_if (long_name next) (Limit LongName) at) (repeats_is ts ss s k next behind))
@@ -101,7 +101,7 @@ module _ (ts : Tokens) (at : ℕ) (next behind : Option Piece) where
   section_shows sections.Listing d f k = rw k.1.1.0 (simp append-nil)
   section_shows sections.CommentNamed d f k = rw k.1.0 (simp append-nil)
 
--- what a state outside rules shows at the last byte that was read: nothing
+-- a state outside rules shows no fault at the last byte that was read
 pub section_silent : (ts : Tokens) (at : ℕ) (next : Option Piece) (state : SectionState) (d : Draft) (f : Front) → InSections ts state d f → last_faults at f next ≡ []
 section_silent ts at next sections.Between d f k = rw k.1.0 refl
 section_silent ts at next sections.Opened d f k = rw k.1.0 refl

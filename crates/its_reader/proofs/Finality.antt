@@ -1,4 +1,4 @@
--- When the fault so far is final after a token, and what else would have been shown.
+-- When the fault so far is final after a token, and which other faults could still be shown.
 use Rattle.std.specs.Prelude.{◌≡◌, ℕ, ◌-◌, ◌≤◌, ◌<◌, ◌⊎◌, nat_lt, Bool, true, false, List, [], ◌∷◌, ◌++◌, Option, Some}
 use Rattle.std.specs.Prelude.{None, refl}
 use Rattle.std.proofs.Common.{sym, ap, subst, arith, inl, inr}
@@ -33,7 +33,7 @@ abbrev pub IsFinalIn : ℕ → Token Piece → Option (Fault Kind) → Type 0
 IsFinalIn k t None = ⊥
 IsFinalIn k t (Some x) = IsFinal k t x
 
--- what is found at a token's first byte, of a number up to k, makes the first fault final
+-- a fault found at a token's first byte, with a number up to k, makes the first fault final
 pub found_final : (k : ℕ) (t : Token Piece) (best : Option (Fault Kind)) (xs : FaultList) (y : Fault Kind) → Among y xs → y.at ≡ t.at → t.at < t.upto → kind_number y.kind ≤ k → IsFinalIn k t (first_among programs best xs)
 found_final k t best xs y a at some n = go (first_among programs best xs) (first_among_is programs xs best)
   where
@@ -52,13 +52,13 @@ found_final k t best xs y a at some n = go (first_among programs best xs) (first
     go None h = h.1 y a
     go (Some x) h = split x (h.1 y (inr a))
 
--- what is among some faults is among them with others after
+-- a fault among some is among these followed by others
 pub among_left : (y : Fault Kind) (xs ys : FaultList) → Among y xs → Among y (xs ++ ys)
 among_left y [] ys a = absurd a
 among_left y (x ∷ xs) ys (inl e) = inl e
 among_left y (x ∷ xs) ys (inr a) = inr (among_left y xs ys a)
 
--- what is among some faults is among others with them after
+-- a fault among some is among others followed by these
 pub among_right : (y : Fault Kind) (xs ys : FaultList) → Among y ys → Among y (xs ++ ys)
 among_right y [] ys a = a
 among_right y (x ∷ xs) ys a = inr (among_right y xs ys a)

@@ -121,7 +121,7 @@ digits_follow (fronts.SquareOpened h) ds behind g e = (_, (refl, refl))
 digits_follow (fronts.SquareGuarding h k) ds behind g e = (_, (refl, squared_goes h k ds g e))
 digits_follow _ ds behind g e = cc
 
--- what a left argument shows is shown
+-- the faults of a left argument are among those shown
 left_shown : (at : ℕ) (f : Front) (next behind : Option Piece) (y : Fault Kind) → Among y (left_of at (left_wanted f) next behind) → Among y (next_faults at f next behind)
 left_shown at f next behind y a =
     among_left y (fault_if (targets_again f next behind) Syntax at ++ fault_if (repeats_at f next behind) RepeatedSection at ++ fault_if (targets_many f next behind) ManyTargets at ++ left_of at (left_wanted f) next behind ++ fault_if (too_many_rules f next behind) (Limit TooManyRules) at ++ fault_if (passes_arguments f next) (Limit TooManyArguments) at ++ fault_if (another_atom f next) (Limit TooManyAtoms) at ++ fault_if (long_name next) (Limit LongName) at)
@@ -138,7 +138,7 @@ left_shown at f next behind y a =
 
 module _ (bytes : List ℕ) (state : ParserState) (last : ℕ) (best first : Option (Fault Kind)) (old : Draft) (t : Token Piece) (rest : Tokens) (r : IsReading bytes state last best old (t ∷ rest))
     (first_fault_ahead : first ≡ first_among programs best (front_faults (length bytes) r.done r.front (t ∷ rest))) where
-  -- what the next token shows makes the refusal so far final there, where its number is low
+  -- a fault of the next token with a low number makes the refusal so far final there
   shown_final : (k : ℕ) (y : Fault Kind) → Among y (next_faults t.at r.front (Some t.piece) (next_piece rest)) → y.at ≡ t.at → kind_number y.kind ≤ k → IsFinalIn k t first
   shown_final k y a at n =
       subst (IsFinalIn k t) (sym first_fault_ahead)

@@ -1,4 +1,4 @@
--- The state of a list.
+-- The prefix of a list.
 use Rattle.std.specs.Prelude.{◌≡◌, ℕ, zero, suc, ◌+◌, List, [], ◌∷◌, length, refl}
 use Rattle.std.proofs.Common.{ap, ◌∙◌, take, arith}
 use Rattle.text_core.specs.Prefixes.{prefix}
@@ -11,7 +11,7 @@ use Rattle.text_core.specs.Bytes.{is_white_space}
 use Rattle.its_text.specs.Pieces.{word, digits}
 use Rattle.its_text.specs.Lexing.{take_front, lexeme, lexeme_at}
 
--- what is taken of a list is its state
+-- the two definitions of a prefix agree
 pub front-take : (n : ℕ) (xs : List ℕ) → take n xs ≡ take_front n xs
 front-take zero [] = refl
 front-take zero (x ∷ xs) = refl

@@ -19,7 +19,7 @@ use Rattle.its_reader.proofs.SymbolTables.{names_with}
 abbrev pub GoesOn : List Name → List Name → Type 0
 GoesOn names more = (new : List Name) × (more ≡ names ++ new)
 
--- what is made of a list with one more element after it is what is made of both, one after the other
+-- a mapped list with one more element
 pub map-push : {X Y : Type 0} (f : X → Y) (xs : List X) (x : X) → map f (xs ++ x ∷ []) ≡ map f xs ++ f x ∷ []
 map-push f [] x = refl
 map-push f (y ∷ xs) x = ap (λ ys. f y ∷ ys) (map-push f xs x)

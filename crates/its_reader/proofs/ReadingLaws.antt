@@ -1,4 +1,4 @@
--- One token further in a text: where it leads, where the text breaks off, where reading can stop, and the end.
+-- One more token of a text: the state after it, where the text breaks off, where reading can stop, and the end.
 use Rattle.std.specs.Prelude.{◌≡◌, ℕ, suc, ◌+◌, ◌-◌, ◌≤◌, ◌<◌, ◌⊎◌, List, [], ◌∷◌, length, Option, Some, None, refl}
 use Rattle.std.proofs.Common.{sym, ap, ◌∙◌, arith, inl, inr}
 use Rattle.text_core.specs.Tokens.{Token, pieces, AreInOrder}
@@ -40,7 +40,7 @@ reading_begins bytes d k = record {
   stands = ([], (refl, k));
 }
 
--- the token after this many
+-- the position of the token after this many
 at_onto : (done : Tokens) (t : Token Piece) (rest : Tokens) → at_index (onto done (t ∷ rest)) (length done) ≡ t.at
 at_onto done t rest = ap (at_index (onto done (t ∷ rest))) (let e : length done ≡ length done + 0 = omega arith in e) ∙ go done 0 (t ∷ rest) t refl
   where
@@ -77,7 +77,7 @@ module _ (bytes : List ℕ) (state : ParserState) (last : ℕ) (best : Option (F
     stands = k;
   }
 
-  -- the text breaks off
+  -- the text is refused where it breaks off
   pub reading_breaks : (now : Option (Fault Kind)) → now ≡ first_among programs best (front_faults (length bytes) r.done r.front (t ∷ rest)) → step r.front t.piece ≡ None
       → verdict bytes ≡ Refused (first_of programs now (record { kind = break_kind r.front (t ∷ rest); at = t.at }))
   reading_breaks now b e =

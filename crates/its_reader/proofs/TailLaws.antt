@@ -80,10 +80,10 @@ module _ (ts : Tokens) (h : Headed) (d : Draft) (k : IsHeaded ts h d) where
   pub whole_bare : KnowsWhole ts h NoGuard d
   whole_bare = record { headed = k.headed; names_are = k.names_are; atoms_are = no_guard_known }
 
-  -- the same with nothing after `:|:`
+  -- a whole rule with nothing after `:|:`
   pub whole_marked : KnowsWhole ts h (BehindMark None) d
   whole_marked = record { headed = k.headed; names_are = k.names_are; atoms_are = no_guard_known }
 
-  -- the same with nothing between `[` and `]`
+  -- a whole rule with nothing between `[` and `]`
   pub whole_squared : KnowsWhole ts h (InSquares None) d
   whole_squared = record { headed = k.headed; names_are = k.names_are; atoms_are = no_guard_known }

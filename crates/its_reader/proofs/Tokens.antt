@@ -30,12 +30,12 @@ taken_first mode behind at b others text rest l e is mode_is rests =
     tokens_in-first lexer mode at text others rest b l e is (taken_within mode b others text l e is).0 rests
     ∙ ap (λ (m : Mode). token_then at l.len l.piece (tokens_in lexer m (at + l.len) 0 rest)) (sym mode_is)
 
--- as many elements as there are, are all
+-- taking as many elements as a list has gives the list
 whole : (xs : List ℕ) → take (length xs) xs ≡ xs
 whole [] = refl
 whole (x ∷ xs) = ap (λ ys. x ∷ ys) (whole xs)
 
--- all that is left after this many elements
+-- the rest of a list after this many elements
 pub all_left : (n : ℕ) (xs : List ℕ) → take (length xs - n) (drop n xs) ≡ drop n xs
 all_left n xs = ap (λ k. take k (drop n xs)) (sym (length-drop n xs)) ∙ whole (drop n xs)
 

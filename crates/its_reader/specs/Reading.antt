@@ -23,7 +23,7 @@ abbrev pub AreDigital : Tokens → Type 0
 AreDigital [] = ⊤
 AreDigital (t ∷ rest) = IsDigital (Some t.piece) × AreDigital rest
 
--- the code denotes a state that the text leads to, and the answer is that of what is left
+-- the code's state represents one that the text leads to, and the answer is that for the remaining tokens
 pub record IsReading (bytes : List ℕ) (state : ParserState) (last : ℕ) (best : Option (Fault Kind)) (d : Draft)
     (rest : Tokens) : Type 0 where
   pub done : Tokens

@@ -167,7 +167,7 @@ impl<'a> Sections<'a> {
 }
 
 impl<'a> RuleDraft<'a> {
-    // Those of a left argument, where one is wanted.
+    // Those of a left argument, where one must follow.
     fn first_fault_of_wanted(
         &self,
         best: Option<Fault>,

@@ -162,7 +162,7 @@ impl<'a> RuleDraft<'a> {
         self.wants_atom() && self.has_atoms() && begins_expression(next)
     }
 
-    // An atom is wanted.
+    // An atom must follow.
     fn wants_atom(&self) -> bool
         ensures { result ≡ is_wanting self.now.guard.state }
     {

@@ -15,7 +15,7 @@ pub(crate) enum Mode {
     Outside,
     /// After the bracket that opens a section.
     AtKeyword,
-    /// Within a section, with this many brackets open in it.
+    /// Within a section, with this many open brackets.
     Within(usize),
     /// After the keyword of a comment.
     InComment,

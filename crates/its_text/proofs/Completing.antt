@@ -1,4 +1,4 @@
--- A text goes on from each state that pieces lead to.
+-- A text can be completed from each state that pieces lead to.
 use Rattle.std.specs.Prelude.{◌≡◌, List, [], ◌∷◌, codes, Some, None, refl}
 use Rattle.std.proofs.Common.{◌∙◌, ap}
 use Rattle.expr_text.specs.model.Programs.{Name}
@@ -30,7 +30,7 @@ use Rattle.its_text.proofs.Ends.{ends}
 abbrev pub At : List Piece → Front → Type 0
 At done f = reached programs done ≡ Some f
 
--- where one piece more can go on, so can what is before it
+-- if pieces with one more can be completed, so can they without it
 back : (p : Piece) (done : List Piece) → IsBeginning programs (p ∷ done) → IsBeginning programs done
 back p done b = (b.0, p ∷ b.1, b.2)
 
@@ -189,7 +189,7 @@ square_goes : (h : Headed) (g : guards.GuardFront) (done : List Piece) → At do
 square_goes h g done at =
     guard_completed In (λ behind k. At behind (SquareGuarding h k)) (λ behind. IsBeginning programs behind) (square_steps h) back (square_ends h) g done at
 
--- a text goes on from each state that pieces lead to
+-- a text can be completed from each state that pieces lead to
 pub goes_on : (done : List Piece) (f : Front) → reached programs done ≡ Some f → IsBeginning programs done
 goes_on done (Between ss) at = between_goes ss done at
 goes_on done (Opened ss) at = opened_goes ss done at

@@ -62,7 +62,7 @@ pub distinct_reverse : (names : List Name) → AreDistinct names → AreDistinct
 distinct_reverse [] h = tt
 distinct_reverse (n ∷ names) h = subst AreDistinct (sym (reverse-cons n names)) (distinct_one_more (reverse names) n (distinct_reverse names h.1) (none_in_reverse n names h.0))
 
--- what holds of each element of a list does so in the other order
+-- a property of each element of a list holds in the reversed list
 pub all_reverse : {X : Type 0} (P : X → Type 0) (xs : List X) → AllByRecursion P xs → AllByRecursion P (reverse xs)
 all_reverse P [] h = tt
 all_reverse P (x ∷ xs) h = subst (AllByRecursion P) (sym (reverse-cons x xs)) (all_one_more P (reverse xs) x (all_reverse P xs h.1) h.0)
@@ -80,7 +80,7 @@ good_with names n g is = go (is_among n names) refl
     go false e = (all_one_more IsName names n g.0 is, distinct_one_more names n g.1 e)
 
 mutual
-  -- what comes before an expression has names for words
+  -- if the words of an expression after pieces are names, so are those of the pieces
   sum_peel : (s : Sum) (before : List Piece) → AreNamed (sum_behind In s before) → AreNamed before
   sum_peel (Alone p) before h = product_peel p before h
   sum_peel (Added s p) before h = sum_peel s before (product_peel p (In inner.Plus ∷ sum_behind In s before) h).1
@@ -160,7 +160,7 @@ names_named [] before h = (tt, h)
 names_named (a ∷ []) before h = ((h.0, tt), h.1)
 names_named (a ∷ b ∷ names) before h = let x = names_named (b ∷ names) before h.1.1 in ((h.0, x.0), x.1)
 
--- what a left term, a right one and a target have for names
+-- the words of a left term, of a right one and of a target are names
 pub record LeftNamed (t : LeftTerm) (before : List Piece) : Type 0 where
   pub name : IsName t.name
   pub arguments : AllByRecursion IsName t.arguments

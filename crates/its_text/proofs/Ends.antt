@@ -11,7 +11,7 @@ use Rattle.its_text.proofs.EveryStep.{ended}
 use Rattle.its_text.proofs.StepLaws.{Leads, step_leads}
 use Rattle.its_text.proofs.Shapes.{IsFront, Keeps, step_keeps}
 
--- what is known of a state that pieces lead to: it is written as they are, and its targets are as they are to be
+-- a state that pieces lead to is written as they are, and its targets have the right form
 abbrev pub Known : List Piece → Option Front → Type 0
 Known done None = ⊤
 Known done (Some f) = (front_pieces f ≡ done) × IsFront f

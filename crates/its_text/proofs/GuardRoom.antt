@@ -51,7 +51,7 @@ counted_before names c e f p same =
     chosen_second (is_some (truth_of e) && not (operates p)) (with_conjoined names c)
     (with_front (with_conjoined names c) e) (truth_goes_on e f p same)
 
--- a name more in a left side counts in exactly where there is room for it
+-- a name more in a left side counts in exactly if there is room for it
 pub room_in_left : (names : List Name) (c : Conjoined) (e f : expression.Front) (p : inner.Piece)
     (behind : Option Piece)
     → expression_steps.step e p ≡ Some f
@@ -68,7 +68,7 @@ room_in_left names c e f p behind same =
       λ h. subst (λ n. n ≤ variable_limit) (sym more) (room.1 (subst (λ n. n ≤ variable_limit) before h.0, h.1)),
     )
 
--- an atom more, beside the rule's cost, keeps the limit exactly where there is room for it
+-- an atom more, beside the rule's cost, keeps the limit exactly if there is room for it
 pub room_for_atom : (cost : Option Sum) (c : Conjoined) (e f : expression.Front) (p : inner.Piece)
     → expression_steps.step e p ≡ Some f
     → ((conjoined_count c + atoms_of_cost cost) + begun f ≤ atom_limit)

@@ -1,4 +1,4 @@
--- A state shows faults at the last byte that was read or at the next token only.
+-- A state shows faults only at the last byte that was read, or at the next token.
 use Rattle.std.specs.Prelude.{◌≡◌, ℕ, ◌≤◌, Bool, true, false, nat_le, length, if◌then◌else◌, List, [], ◌∷◌, ◌++◌}
 use Rattle.std.specs.Prelude.{Option, Some, None, ◌⊎◌, ⊤, refl}
 use Rattle.std.proofs.Common.{◌∙◌, ap, inl, inr, arith}

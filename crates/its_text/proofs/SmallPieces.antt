@@ -1,4 +1,4 @@
--- The next piece is within its limits exactly where the state shows nothing against its length and its size.
+-- The next piece is within its limits exactly if the state shows no fault in its length or its size.
 use Rattle.std.proofs.Common.{◌≡◌, ℕ, true, false, List, length, Option, Some, None, refl}
 use Rattle.expr_text.specs.model.Limits.{name_limit, coefficient_limit}
 use Rattle.expr_text.specs.Pieces as inner

@@ -243,7 +243,7 @@ parts_valid None (Some rules) p e n w is = absurd (none_is_some e)
 parts_valid (Some start) None p e n w is = absurd (none_is_some e)
 parts_valid (Some start) (Some rules) p e n w is = program_valid start rules (first_leaving start rules) p refl e n w is
 
--- what a text spells within the limits
+-- a program that a text spells within the limits is valid
 pub spelled_valid : (bytes : List ℕ) (p : Program) → SpellsWithin bytes p → IsValid p
 spelled_valid bytes p s =
     let written = s.spells.written in

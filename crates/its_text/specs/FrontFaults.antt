@@ -50,7 +50,7 @@ abbrev pub last_byte : Tokens → ℕ
 last_byte [] = 0
 last_byte (t ∷ done) = t.upto - 1
 
--- what a token says that is a name, and after it a token that is tested
+-- the piece of a token that is a name, and of the token after it that is tested
 abbrev pub next_piece : Tokens → Option Piece
 next_piece [] = None
 next_piece (t ∷ rest) = Some t.piece
@@ -153,7 +153,7 @@ abbrev pub targets_again : Front → Option Piece → Option Piece → Bool
 targets_again (ComOpened l) (Some (In (inner.Word name))) behind = is_same name (codes "Com_1") && is_open behind
 targets_again _ _ behind = false
 
--- the left arguments so far, where another is wanted
+-- the left arguments so far, where another must follow
 abbrev pub left_wanted : Front → Option (List Name)
 left_wanted (LeftOpened r name) = Some []
 left_wanted (LeftParted r name a earlier) = Some (a ∷ earlier)
@@ -188,8 +188,8 @@ has_other_arity (TargetClosed l t) = other_arity (with_right (symbols_behind l) 
 has_other_arity (Targeted h) = bare_differs h.led h.target
 has_other_arity _ = false
 
--- the expression that the next token can continue: the variables before it, what of it has been read, and whether it
--- is the left side of an atom
+-- the expression that the next token can continue: the variables before it, the pieces of it read so far, and whether
+-- it is the left side of an atom
 pub record OpenExpression : Type 0 where
   pub names : List Name
   pub front : expression.Front
@@ -238,7 +238,7 @@ passes_variables g (inner.Word name) behind =
     && nat_le variable_limit (length (with_front g.names g.front))
 passes_variables g _ behind = false
 
--- what the next token of an expression shows: the literal, the variable or the token is one too many
+-- the faults of the next token of an expression: the literal, the variable or the token is one too many
 abbrev pub expression_faults : ℕ → OpenExpression → inner.Piece → Option Piece → FaultList
 expression_faults at g p behind =
     fault_if (is_large p) NumberTooLarge at
@@ -254,13 +254,14 @@ abbrev pub begins : Option Piece → Bool
 begins (Some (In p)) = begins_expression p
 begins _ = false
 
--- an argument begins with it after as many as the limit
+-- an argument begins with the next token after as many arguments as the limit
 abbrev pub passes_arguments : Front → Option Piece → Bool
 passes_arguments (Arguing a arguments e) next =
     (token_count e == 0) && nat_le place_limit (length arguments) && begins next
 passes_arguments _ next = false
 
--- an atom begins with it after as many as the limit, with this many others that the rule's cost counts as
+-- an atom begins with the next token after as many atoms as the limit, with this many others that the rule's cost
+-- counts as
 abbrev pub is_full : ℕ → GuardFront → Bool
 is_full others (LeftSide NoAtoms e) = false
 is_full others (LeftSide (JointAfter atoms joint) e) =
@@ -304,7 +305,7 @@ atom_faults at names (RightSide c l sign e) next =
     if ends_expression e next then right_side_faults at (before_expression names (RightSide c l sign e)) l sign
     (expression_steps.finish e) else []
 
--- what has ended after the last token, a cost, an argument or an atom, can't be expanded
+-- the fault of a cost, an argument or an atom that has ended and can't be expanded
 abbrev pub ended_faults : ℕ → Front → Option Piece → FaultList
 ended_faults at (Costing r t e) next =
     if ends_expression e next then argument_faults at (left_names t) (expression_steps.finish e) else []
@@ -332,7 +333,7 @@ next_faults at f next behind =
     ++ fault_if (long_name next) (Limit LongName) at
     ++ token_faults at (open_expression f next behind) next behind
 
--- what a state shows at the last byte of what has been read
+-- the faults that a state shows at the last byte read
 abbrev pub last_faults : ℕ → Front → Option Piece → FaultList
 last_faults at f next = fault_if (has_other_arity f) ArityDiffers at ++ ended_faults at f next
 
@@ -342,7 +343,7 @@ front_faults n done f rest =
     last_faults (last_byte done) f (next_piece rest)
     ++ next_faults (next_at n rest) f (next_piece rest) (piece_behind rest)
 
--- a left argument begins with what is no name
+-- a piece that is no name where a left argument must follow
 abbrev pub is_no_name : inner.Piece → Bool
 is_no_name (inner.Digits ds) = true
 is_no_name inner.Open = true
@@ -353,7 +354,7 @@ abbrev pub left_break_kind : Option (List Name) → inner.Piece → Kind
 left_break_kind None p = Syntax
 left_break_kind (Some arguments) p = if is_no_name p then LeftNotVariable else Syntax
 
--- why a text breaks off at the next token
+-- the kind of refusal where a text breaks off at the next token
 abbrev pub break_kind_at : Front → Option Piece → Kind
 break_kind_at f (Some (In p)) = left_break_kind (left_wanted f) p
 break_kind_at f (Some Disjoining) = Disjunction

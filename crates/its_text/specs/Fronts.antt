@@ -36,7 +36,7 @@ pub record Headed : Type 0 where
   pub led : Led
   pub target : Target
 
--- what was read last
+-- the parser state, by the part of the text that was read last
 pub data Front : Type 0 where
   -- nothing, or a whole section
   Between : List Section → Front

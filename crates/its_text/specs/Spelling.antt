@@ -149,6 +149,6 @@ pub record SpellsWithin (bytes : List ℕ) (p : Program) : Type 0 where
 pub record OneProgram : Type 0 where
   pub each : (bytes : List ℕ) (p q : Program) → Spells bytes p → Spells bytes q → p ≡ q
 
--- what a text spells within the limits is a valid program
+-- a program that a text spells within the limits is valid
 pub record SpelledIsValid : Type 0 where
   pub each : (bytes : List ℕ) (p : Program) → SpellsWithin bytes p → IsValid p

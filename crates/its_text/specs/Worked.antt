@@ -43,7 +43,7 @@ pub record FirstFaults : Type 0 where
       (codes "l0(A) -> Com_1(l1(A)) :|: 9223372036854775808 (")) 65 NumberTooLarge
   -- an argument ends where the next token can't follow, and its fault comes before that token
   pub ended_argument : RefusedAt (with_rules (codes "l0(A) -> Com_1(l1(A^9 l2")) 59 (Limit HighDegree)
-  -- one that goes on hasn't
+  -- an argument that continues has no such fault
   pub open_argument : RefusedAt (with_rules (codes "l0(A) -> Com_1(l1(A^9+))")) 61 Syntax
   -- `Com_2` before anything but a bracket: at the next token
   pub com_without_bracket : RefusedAt (with_rules (codes "l0(A) -> Com_2 l1(A)")) 54 Syntax
@@ -59,7 +59,7 @@ pub record FirstFaults : Type 0 where
   pub left_bracket : RefusedAt (with_rules (codes "l0((A)) -> Com_1(l0(A))")) 42 LeftNotVariable
   -- two names are none: at the second
   pub two_names : RefusedAt (with_rules (codes "l0(A B) -> Com_1(l0(A))")) 44 Syntax
-  -- nor is a symbol: at its bracket
+  -- a symbol is no left argument either: the fault is at its bracket
   pub left_call : RefusedAt (with_rules (codes "l0(f(A)) -> Com_1(l0(A))")) 43 Syntax
   -- a name before a bracket begins a rule directly after `:|:` alone
   pub bracket_in_atom : RefusedAt (with_rules (codes "l0(A) -> Com_1(l1(A)) :|: A >= l0(A)")) 72 Syntax
@@ -78,7 +78,7 @@ pub record FirstFaults : Type 0 where
   -- a cost is one expression: not two, nor none
   pub two_costs : RefusedAt (with_rules (codes "l0(A) -{A,1}> Com_1(l1(A))")) 48 Syntax
   pub no_cost : RefusedAt (with_rules (codes "l0(A) -{}> Com_1(l1(A))")) 47 Syntax
-  -- nor a comparison; `}>` doesn't come before the bracket that closes
+  -- a comparison is no cost either; `}>` can't follow an open bracket
   pub compared_cost : RefusedAt (with_rules (codes "l0(A) -{A>1}> Com_1(l1(A))")) 48 Syntax
   pub open_cost : RefusedAt (with_rules (codes "l0(A) -{(A}> Com_1(l1(A))")) 49 Syntax
   pub bars_in_cost : RefusedAt (with_rules (codes "l0(A) -{A||1}> Com_1(l1(A))")) 48 Disjunction
@@ -86,7 +86,7 @@ pub record FirstFaults : Type 0 where
   pub high_cost : RefusedAt (with_rules (codes "l0(A) -{A^9}> Com_1(l1(A))")) 49 (Limit HighDegree)
   pub large_cost : RefusedAt (with_rules (codes "l0(A) -{9223372036854775807*2}> Com_1(l1(A))")) 67 NumberTooLarge
   pub ended_cost : RefusedAt (with_rules (codes "l0(A) -{A^9 , 1}> Com_1(l1(A))")) 49 (Limit HighDegree)
-  -- one that goes on can be
+  -- a cost that continues has no such fault
   pub going_cost : RefusedAt (with_rules (codes "l0(A) -{A^9+}> Com_1(l1(A))")) 51 Syntax
   -- a literal that is too large in a cost
   pub literal_in_cost : RefusedAt (with_rules (codes "l0(A) -{9223372036854775808}> Com_1(l1(A))")) 47 NumberTooLarge
@@ -167,7 +167,7 @@ from_l0 free updates guard = from_l0_costing None free updates guard
 abbrev pub IsReadAs : List ℕ → Program → Type 0
 IsReadAs bytes p = verdict bytes ≡ Stands p
 
--- what texts denote
+-- the programs that texts denote
 pub record Programs : Type 0 where
   -- a target within `Com_1(` and one alone
   pub marked : IsReadAs (with_rules (codes "l0(A) -> Com_1(l1(A))"))
@@ -208,7 +208,7 @@ pub record Programs : Type 0 where
       (Multiplication (Multiplication (Literal (pos 2)) (Variable 0)) (Literal (pos 3)))
       ∷ Negation (Exponentiation (Variable 0) 2) ∷ Multiplication (Negation (Variable 0)) (Literal (pos 2)) ∷ []) []
       ∷ []))
-  -- sections in any order, comments raw to the bracket that closes them, a start symbol that rules lead to
+  -- sections in any order, comments with any bytes up to their closing bracket, a start symbol that rules lead to
   pub any_order : IsReadAs
       (codes "(COMMENT (|| !) )(RULES l1(B)->l0(0) l0(A) -> l1(007))(COMMENT)(GOAL COMPLEXITY)(VAR)(STARTTERM(FUNCTIONSYMBOLS l0))")
       (record {

@@ -105,7 +105,7 @@ leaving_small symbols i source target = record {
   };
 }
 
--- rules after others are so
+-- rules after others are small too
 rules_small : (symbols : List Name) (done : List WrittenRule) (rules : List Rule) (before : List Piece) → AllByRecursion (IsSmallRule symbols) rules → AreSmall (rules_behind done before) → AreSmall (rules_behind (rules_written symbols done rules) before)
 rules_small symbols done [] before s h = h
 rules_small symbols done (r ∷ rules) before s h = rules_small symbols (rule_written symbols r ∷ done) rules before s.1 (s.0.pieces (rules_behind done before) h)

@@ -40,7 +40,7 @@ with_rules known (r ∷ rules) = with_rules (with_names known r.names) rules
 abbrev pub variables_of : Program → List Name
 variables_of p = with_rules [] p.rules
 
--- the sections of a program: what is wanted, the start symbol, the variables and the rules
+-- the sections of a program: the goal, the start symbol, the variables and the rules
 abbrev pub program_then : Program → List ℕ → List ℕ
 program_then p rest =
     codes "(GOAL COMPLEXITY)\n(STARTTERM (FUNCTIONSYMBOLS " ++ (name_at (symbol_names p) p.start ++ (codes "))\n(VAR"
