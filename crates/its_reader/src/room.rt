@@ -6,7 +6,7 @@ ghost use Rattle.expr_reader.specs.Standing.{HasRoom};
 
 use expr_reader::{Expression, Variables};
 
-/// Whether one more token can be counted, and one more variable numbered. Memory never holds this many that this fails.
+/// Whether one more token can be counted, and one more variable numbered. Memory never holds so many that this fails.
 pub(crate) fn has_room(expression: &Expression, variables: &Variables<'_>) -> bool
     ensures { IsTrue result → HasRoom (names_in variables.now) expression.now }
 {
