@@ -12,7 +12,7 @@ use Rattle.its_graph.proofs.Routes.{path-map, mutual-turned, mutual-join, one_ed
 use Rattle.its_graph.proofs.Numbering.{edge-pair}
 
 module _ (Edge : ℕ → ℕ → Type 0) (n : ℕ) (cs : List (List ℕ)) (l : IsListing Edge n cs) where
-  -- a listed component is what comes next behind some
+  -- a listed component comes next after some components
   next-of : (c : List ℕ) → Contains cs c → (before : List (List ℕ)) × IsNext Edge n before c
   next-of c (k, low, e) =
       let rest : drop k cs ≡ c ∷ drop (k + 1) cs = drop_more cs k c low
@@ -27,7 +27,7 @@ module _ (Edge : ℕ → ℕ → Type 0) (n : ℕ) (cs : List (List ℕ)) (l : I
       let next = (next-of c h).1 in
       mutual-join Edge a next.least b (mutual-turned Edge next.least a ((next.members a).0 ha)) ((next.members b).0 hb)
 
-  -- it holds what is mutual with one of them
+  -- a component has all nodes that are mutual with one of its own
   mutual-inside : (c : List ℕ) → Contains cs c → (a b : ℕ) → Contains c a → IsMutual Edge a b → Contains c b
   mutual-inside c h a b ha m =
       let next = (next-of c h).1 in

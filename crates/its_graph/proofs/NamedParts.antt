@@ -19,7 +19,7 @@ use Rattle.its_graph.proofs.SharedLeaders.{HasLeader, has-leader, leader-shared,
 module _ (p : Program) (is_untimed : ℕ → Bool) (n : ℕ) (leaders : List ℕ)
     (l : AreLeaders (HasEdge p is_untimed) n leaders)
     (edges : (a b : ℕ) → HasEdge p is_untimed a b → b < n) where
-  -- what a component's nodes lead to has a leader
+  -- a node in one component with a node of the graph is one of the graph
   mutual-below : (a b : ℕ) → a < n → IsMutual (HasEdge p is_untimed) a b → b < n
   mutual-below a b low m = path-within (HasEdge p is_untimed) n edges a b low m.onward
 

@@ -1,4 +1,4 @@
--- The component of an unknown node: what leads to it, and to what it leads among that.
+-- The component of an unknown node: the nodes that lead to it, among those to which it leads.
 use Rattle.std.proofs.Common.{◌≡◌, ℕ, ◌<◌, List, [], length, Contains, refl, sym, ◌∙◌, subst, inl, inr, ◌⊎◌, arith}
 use Rattle.std.proofs.Common.{get_or, Vec}
 use Rattle.std.specs.declared.alloc.Global.{Global}
@@ -69,7 +69,7 @@ module _ (n : ℕ) (next previous : List (Vec ℕ Global)) (before first second 
   onward_path x (Onward {b = y} p edge) back =
       Onward (onward_path y p (edge_then Edge y x root edge back)) (edge, f.leading.are x (mutual-candidate x (record { onward = Onward p edge; back = back })))
 
-  -- what was found second is the component of the root
+  -- the nodes found second are the component of the root
   pub mutual-class : (b : ℕ) → IsMutual Edge root b → Contains class b
   mutual-class b m = (f.among.reached b).1 (onward_path b m.onward m.back)
 

@@ -7,7 +7,7 @@ use Rattle.its_graph.specs.Groups.{IsPair}
 use Rattle.its_graph.specs.Links.{ends_of}
 use Rattle.its_graph.specs.Components.{IsListing}
 
--- the links of a program: from where to where its rules lead, in their order
+-- the links of a program: source and target of each rule, in their order
 abbrev pub links_of : Program → List (ℕ × ℕ)
 links_of p = map ends_of p.rules
 

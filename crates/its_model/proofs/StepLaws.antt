@@ -94,7 +94,7 @@ atom-no_fault env n (Compare d r e) h f =
     ∙ (ap (λ (b : Bool). if b then (if is_related r (value d env) (value e env) then None else Some (AtomFails n)) else Some PastRange) f.1
     ∙ ap (λ (b : Bool). if b then None else Some (AtomFails n)) (related-answers r (value d env) (value e env) h))
 
--- the same for all atoms
+-- if no atom has a fault, all of them hold
 guard-holds : (env : List ℤ) (n : ℕ) (atoms : List Atom) → guard_fault env n atoms ≡ None → AllByRecursion (AtomHolds env) atoms × AllByRecursion (AtomFits env) atoms
 guard-holds env n [] h = (tt, tt)
 guard-holds env n (a ∷ atoms) h =
@@ -122,7 +122,7 @@ updates-no_fault : (env : List ℤ) (us : List Term) → AllByRecursion (λ u. v
 updates-no_fault env [] f = refl
 updates-no_fault env (u ∷ us) f = ap (λ (b : Bool). if b then updates_fault env us else Some PastRange) f.0 ∙ updates-no_fault env us f.1
 
--- what a rule without a fault fulfils
+-- the conditions that a rule without a fault meets
 record Sound (r : Rule) (c : Config) (free : List ℤ) : Type 0 where
   source : c.at ≡ r.source
   free_ones : length free ≡ r.free

@@ -26,7 +26,7 @@ grouped-requires c =
     subst (λ (xs : List Pair). All (λ (e : Pair). e.0 < n) xs) (sym links)
     (All-weaker (λ (e : Pair). (e.0 < n) × (e.1 < n)) (λ (e : Pair). e.0 < n) (λ e h. h.0) (map swap kept) (swap-within n kept (kept-within n c.args.untimed.now 1 g.links.items c.requires.graph.1.links_within)))
 
--- the same for the values of the table
+-- the values of the table are nodes
 pub flooded-requires-clause-edges_within : goal.flooded-requires-clause-edges_within
 flooded-requires-clause-edges_within c =
     let g = c.args.self.now in
