@@ -1,4 +1,4 @@
--- entries that lack no bound
+-- entries with all their bounds
 pub mod KnownEntries
 -- worked values of reports without and with costs
 pub mod WorkedReports

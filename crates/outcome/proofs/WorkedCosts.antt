@@ -14,7 +14,7 @@ use Rattle.outcome.specs.WorkedCosts.{SpendingsAreWorkedOut, two_costs, both_inp
 use Rattle.outcome.specs.WorkedCosts.{ReportsAreBounded, ReportsFit, CostReportsHold}
 use Rattle.outcome.proofs.WorkedReports.{times_of_two, right_sizes_hold, no_entry_cost, no_total, same_total}
 
--- what rules spend
+-- the costs of all steps by a rule
 pub spendings_worked_out : SpendingsAreWorkedOut
 spendings_worked_out = record {
   by_cost = refl;

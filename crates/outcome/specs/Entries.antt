@@ -1,4 +1,4 @@
--- Which entries lack no bound.
+-- Which entries have all their bounds.
 use Rattle.std.specs.Prelude.{Bool, true, false, Option, Some, None}
 use Rattle.outcome.specs.declared.entry.TimeEntry.{TimeEntry}
 use Rattle.outcome.specs.declared.entry.TimeEntry.TheVariants as times
@@ -12,7 +12,7 @@ is_known (times.Gap g) = false
 is_known (times.OutOfLimits t) = false
 is_known (times.Large nodes) = false
 
--- whether the entry of a rule lacks no bound on a cost: the rule has no cost, or a bound on it
+-- whether the entry of a rule has a bound on its cost, if the rule has a cost
 abbrev pub is_known_cost : Option CostEntry → Bool
 is_known_cost None = true
 is_known_cost (Some (costs.Known s)) = true

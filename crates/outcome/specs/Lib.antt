@@ -1,9 +1,9 @@
--- what an analysis says of a program, and when that holds on all runs
+-- the report of an analysis on a program, and when it holds on all runs
 pub mod Reports
 pub mod Holding
 pub mod WorkedReports
 pub mod WorkedCosts
--- an outcome as a report, which entries lack no bound, and which outcomes can be printed
+-- an outcome as a report, which entries have all their bounds, and which outcomes can be printed
 pub mod Views
 pub mod Entries
 pub mod Printing

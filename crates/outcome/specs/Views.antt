@@ -43,7 +43,7 @@ abbrev pub side_by : Bool → Side
 side_by true = Up
 side_by false = Low
 
--- why a loose place has no size, and a loose cost no bound
+-- the reason that a place is unbounded, which has no size, or a cost, which has no bound
 abbrev pub unbounded_of : UnboundedSide → NoSize
 unbounded_of l = SizeUnbounded (side_by l.up) l.ray.items (scaled_of l.kept)
 

@@ -1,5 +1,5 @@
--- Worked values of what rules spend, and of reports on small programs with costs: which are reports on them, and which
--- hold on all of their runs.
+-- Worked values of the costs of all steps by a rule, and of reports on small programs with costs: which are reports on
+-- them, and which hold on all of their runs.
 use Rattle.std.specs.Prelude.{◌≡◌, ℕ, true, false, List, [], ◌∷◌, Option, Some, None}
 use Rattle.farkas_cert.specs.model.Terms.{Variable}
 use Rattle.farkas_cert.specs.model.Programs.{Program}
@@ -17,8 +17,8 @@ use Rattle.outcome.specs.WorkedReports.{two_times, right_times, no_times, right_
 abbrev pub two_costs : Bound → Bound → List (Option RuleCost)
 two_costs a b = Some (Costed a) ∷ Some (Costed b) ∷ []
 
--- a rule spends what its cost says, whatever its time; without a cost it spends its time; and where the one of the two
--- that counts is missing there is no bound. A rule without a cost lacks no bound on a cost
+-- all steps by a rule cost at most the bound on its cost, whatever its time; without a cost, at most its time; there
+-- is no bound if the relevant one is missing. A rule without a cost lacks no bound on a cost
 pub record SpendingsAreWorkedOut : Type 0 where
   pub by_cost : spent_in (Timed (Constant 9)) (Some (Costed (Input 0))) ≡ Some (Input 0)
   pub by_cost_alone : spent_in (Untimed (TimeLarge 5000)) (Some (Costed (Input 0))) ≡ Some (Input 0)

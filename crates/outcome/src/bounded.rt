@@ -29,7 +29,7 @@ fn all_timed(times: &[TimeEntry]) -> bool
         .all(|entry| matches!(entry, TimeEntry::Known(_)))
 }
 
-// Whether no entry lacks a bound on a cost.
+// Whether every entry has a bound on its cost.
 fn all_costed(costs: &[Option<CostEntry>]) -> bool
     ensures { result ≡ list_all is_known_cost costs.now }
 {

@@ -19,7 +19,7 @@ use Rattle.cert_types.specs.Views.{result_variable_of}
 use Rattle.rvg_components.specs.declared.component.Component.{Component}
 use Rattle.rvg_components.specs.Flows.{Locals, value_flows, live_result_variables, loops}
 
--- the spot at a position
+-- the result variable at a position
 abbrev pub result_variable_at : List ResultVariable → ℕ → ResultVariable
 result_variable_at result_variables i = slice_index_or result_variables i (record { rule = 0; place = 0 })
 

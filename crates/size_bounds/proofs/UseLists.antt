@@ -1,4 +1,4 @@
--- What nodes rest on, one more at a time.
+-- The premises of nodes, one more at a time.
 use Rattle.std.proofs.Common.{◌≡◌, ℕ, ◌==◌, ◌||◌, Bool, not, true, false, cond, List, [], ◌∷◌, ◌++◌, map, filter, refl}
 use Rattle.std.proofs.Common.{sym, ◌∙◌, ap}
 use Rattle.std.proofs.lemmas.List.{append-nil}
