@@ -54,7 +54,7 @@ module _ (s : Setting) (past : List (List Fact)) where
     first-complete (checks_of s past proof) (tests_of s past proof) (tests-decide proof) r,
   )
 
-  -- and none exactly where the node is accepted
+  -- there is no first reason exactly if the node is accepted
   none-decided : (proof : Proof) → (first_reason s past proof ≡ None) ↔ AcceptsNode s past proof
   none-decided proof = (
     (λ e. (first-reasons-in-line.none s past proof).1 (record {
@@ -70,7 +70,7 @@ module _ (s : Setting) (past : List (List Fact)) where
       go None e h = refl
       go (Some r) e h = absurd (h r ((reason-decided proof r).0 e))
 
--- what is accepted
+-- the tests decide which nodes are accepted
 module _ (s : Setting) where
   decides-node : (past : List (List Fact)) (proof : Proof) → Decides (accepts_node s past proof) (AcceptsNode s past proof)
   decides-node past proof = go (first_reason s past proof) refl (none-decided s past proof)

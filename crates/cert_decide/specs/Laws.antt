@@ -16,6 +16,6 @@ pub record FirstReasonsAreDecided : Type 0 where
   pub none : (s : Setting) (past : List (List Fact)) (proof : Proof)
       → (first_reason s past proof ≡ None) ↔ AcceptsNode s past proof
 
--- and of every list of lemmas it is computed whether all are accepted
+-- whether all lemmas of a list are accepted is computed
 pub record LemmasAreDecided : Type 0 where
   pub each : (s : Setting) (proofs : List Proof) → (accepts_lemmas s proofs ≡ true) ↔ AcceptsLemmas s proofs

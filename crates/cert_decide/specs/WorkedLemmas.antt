@@ -105,7 +105,7 @@ pub record DeadRulesAreJudged : Type 0 where
   pub unreached : AcceptsLemmas (setting_of apart) (dead_lemmas (Unreached 2 NoProof))
   pub unreached_stated : facts_of_lemmas (setting_of apart) (dead_lemmas (Unreached 2 NoProof)) ≡ dead_facts
 
--- what a place is squared to, once
+-- the lemmas on a place that is squared once
 abbrev pub squared_lemmas : List Proof
 squared_lemmas = once [] ∷ Spread (nonlinear 1 1) entered ∷ []
 

@@ -40,7 +40,7 @@ abbrev pub HasSize : Table → ResultVariable → Type 0
 HasSize table result_variable = IsKnown (table.size result_variable.rule result_variable.place)
 
 module _ (s : Setting) (table : Table) (node : RankNode) where
-  -- what a ranking function needs after an entry
+  -- the sizes that a ranking function needs after an entry are known
   abbrev Needs : ℕ → Type 0
   Needs e = (j : ℕ) → at (at_target s.program node e).coefs j ≢ pos 0 → IsKnown (table.size e (suc j))
 

@@ -46,7 +46,7 @@ module _ (s : Setting) where
       first-one (AcceptsNode s past) (IsFirstReason s past) (reasonless past)
       (λ node x y. first-reasons-in-line.one s past node x y) (nodes_of proof) i j q r
 
-  -- what lemmas before another one state is stated before it
+  -- the facts of the lemmas before, and those of one more
   abbrev after : List (List Fact) → Proof → List (List Fact)
   after past proof = past ++ facts_of s past proof ∷ []
 

@@ -1,4 +1,4 @@
--- What a gap that holds proves, and that its checks agree with its definition.
+-- The claim that a gap proves, and the agreement of its checks with its definition.
 use Rattle.std.specs.Prelude.{◌≡◌, ◌↔◌, ℕ}
 use Rattle.run_counting.specs.model.Programs.{Program, arity_of}
 use Rattle.rule_forms.specs.linear_forms.RuleQuestions.{RuleForms, RankedSet, symbols_of_set}

@@ -35,8 +35,8 @@ pub record RefusalsAreInLine : Type 0 where
 pub record HasNoGapRefusal (s : Setting) (rule : ℕ → RuleForms) (f : ProofFile) : Type 0 where
   pub none : (g : ℕ) (x : GapFault) → ¬ (IsRefusedAtGap s rule f g x)
 
--- a file is accepted exactly where there is neither a node nor a gap at which it is refused; it isn't refused at a node
--- and at a gap; and it is refused at one gap at most, for one fault
+-- a file is accepted exactly if it is refused neither at a node nor at a gap; it isn't refused at both; and it is
+-- refused at one gap at most, with one fault
 pub record FileRefusalsAreInLine : Type 0 where
   pub none : (s : Setting) (rule : ℕ → RuleForms) (f : ProofFile)
       → AcceptsFile s rule f ↔ (HasNoRefusal s f.lemmas × HasNoGapRefusal s rule f)

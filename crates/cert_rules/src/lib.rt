@@ -90,10 +90,10 @@ pub fn worked_gaps_hold()
     ensures shut { ShutPlacesAreJudged }
 {}
 
-/// A lemma is accepted exactly where each of its nodes is accepted by itself. Lemmas are accepted exactly where there
-/// is no node at which they are refused, and there is one such node at most, with one reason. A file is accepted
-/// exactly where there is neither such a node nor a gap at which it is refused; there aren't both; and there is one
-/// such gap at most, with one fault.
+/// A lemma is accepted exactly if each of its nodes is accepted by itself. Lemmas are accepted exactly if there is no
+/// node at which they are refused, and there is one such node at most, with one reason. A file is accepted exactly if
+/// there is neither such a node nor a gap at which it is refused; there aren't both; and there is one such gap at
+/// most, with one fault.
 pub fn refusals_are_in_line()
     ensures nodes { LemmasAreTheirNodes }
     ensures lemmas { RefusalsAreInLine }
