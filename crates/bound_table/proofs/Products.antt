@@ -41,7 +41,7 @@ pub val_maximum-list_of : (ps : Parts) (m : List ℕ) → val_maximum ps m ≡ m
 val_maximum-list_of NoParts m = refl
 val_maximum-list_of (Part p ps) m = ap (λ (v : ℕ). max (val p m) v) (val_maximum-list_of ps m)
 
--- and the other way round
+-- the sum of parts made from a list
 pub val_sum-parts_of : (ps : List Bound) (m : List ℕ) → val_sum (parts_of ps) m ≡ sum_at ps m
 val_sum-parts_of [] m = refl
 val_sum-parts_of (p ∷ ps) m = ap (λ (v : ℕ). val p m + v) (val_sum-parts_of ps m)

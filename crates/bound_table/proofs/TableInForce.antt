@@ -1,4 +1,4 @@
--- What the table in force keeps.
+-- The properties that the table in force keeps.
 use Rattle.std.proofs.Common.{[], ◌∷◌, refl}
 use Rattle.bound_expr.specs.model.Bounds.{Bound, IsBased}
 use Rattle.bound_expr.specs.Numbers.{HasTidyNumbers}
@@ -26,7 +26,7 @@ pub rewritten-value : (b : Bound) → IsBased b → HasValueOf (rewritten b) b
 unfolding rewritten
 rewritten-value b based = simplified-value cases_in_force b (rewritten b) refl based
 
--- and the properties of the numbers
+-- the table keeps the properties of the numbers
 pub rewritten-numbers : (b : Bound) → KeepsNumbers (rewritten b) b
 unfolding rewritten
 rewritten-numbers b = simplified-numbers cases_in_force b (rewritten b) refl
@@ -36,7 +36,7 @@ pub rewritten-reads : (b : Bound) → ReadsNoMore (rewritten b) b
 unfolding rewritten
 rewritten-reads b = simplified-reads cases_in_force b (rewritten b) refl
 
--- and its outcomes are tidy
+-- the results of the table are tidy
 pub rewritten-tidy : (b : Bound) → HasTidyNumbers b → IsTidy (rewritten b)
 unfolding rewritten
 rewritten-tidy b has = simplified-tidy cases_in_force b (rewritten b) refl in_force-tidying has

@@ -47,7 +47,7 @@ module _ (s : Setting) (past : List (List Fact)) where
       (refl, (decides-weaken_shape s.program b, (refl, (decides-weaker s (facts_of s past child) b, tt))))
   tests-decide (Charge node uses) = cost-decides s (table_of (joined_facts s past uses)) node
 
-  -- a reason is computed exactly where it is the first
+  -- a reason is computed exactly if it is the first
   reason-decided : (proof : Proof) (r : Reason) → (first_reason s past proof ≡ Some r) ↔ IsFirstReason s past proof r
   reason-decided proof r = (
     first-sound (checks_of s past proof) (tests_of s past proof) (tests-decide proof) r,
@@ -113,7 +113,7 @@ module _ (s : Setting) where
 pub first-reasons-decided : FirstReasonsAreDecided
 first-reasons-decided = record { some = reason-decided; none = none-decided }
 
--- the computed test of a list of lemmas says yes exactly where all are accepted
+-- the computed test of a list of lemmas says yes exactly if all are accepted
 pub lemmas-decided : LemmasAreDecided
 unfolding AcceptsLemmas
 lemmas-decided = record { each = λ s proofs. decides-from s [] proofs }

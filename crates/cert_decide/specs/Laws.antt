@@ -9,7 +9,7 @@ use Rattle.cert_program.specs.cert_rules.Checks.{IsFirstReason}
 use Rattle.cert_decide.specs.Deciding.{first_reason, accepts_lemmas}
 
 -- of every node, over every setting and after all earlier facts: the reason that is computed is its first reason, and
--- none is computed exactly where it is accepted
+-- none is computed exactly if it is accepted
 pub record FirstReasonsAreDecided : Type 0 where
   pub some : (s : Setting) (past : List (List Fact)) (proof : Proof) (r : Reason)
       → (first_reason s past proof ≡ Some r) ↔ IsFirstReason s past proof r

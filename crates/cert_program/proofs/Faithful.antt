@@ -165,7 +165,7 @@ is-nonlinear_at (p ∷ qs) zero q e l = go (is_nonlinear p) refl
         low m = grind (arith, nat_tests)
 is-nonlinear_at (p ∷ qs) (suc i) q e l = is-nonlinear_at qs i q e l
 
--- a place has a polynomial exactly where its expanded update has degree 2 or more
+-- a place has a polynomial exactly if its expanded update has degree 2 or more
 pub polynomials-nonlinear : PolynomialsAreNonlinear
 polynomials-nonlinear = record { each = both }
   where

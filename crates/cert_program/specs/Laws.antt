@@ -68,7 +68,7 @@ pub record IsNonlinearUpdate (r : Rule) (i : ℕ) (q : Polynomial) : Type 0 wher
   pub update : slice_get (polys_of r) i ≡ Some q
   pub degree : 2 ≤ degree_of q
 
--- a rule has a polynomial at a place exactly where the expanded update there has degree 2 or more, and it is that
+-- a rule has a polynomial at a place exactly if the expanded update there has degree 2 or more, and it is that
 -- update
 pub record PolynomialsAreNonlinear : Type 0 where
   pub each : (p : Program) (t : ℕ) (r : Rule) → rule_at p t ≡ Some r → (i : ℕ) (q : Polynomial)

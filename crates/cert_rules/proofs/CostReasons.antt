@@ -1,4 +1,4 @@
--- The checks of a node on a cost pass exactly where it is accepted, and none can fail without being false.
+-- The checks of a node on a cost pass exactly if it is accepted, and none can fail without being false.
 use Rattle.std.proofs.Common.{◌≡◌, ℕ, suc, List, [], ◌∷◌, Option, Some, None, refl, sym, ap, ◌∙◌}
 use Rattle.std.specs.List.{AllByRecursion}
 use Rattle.run_counting.specs.model.Terms.{Term}

@@ -1,4 +1,4 @@
--- The first element of a list that fails: there is one at most, and none exactly where all pass.
+-- The first element of a list that fails: there is one at most, and none exactly if all pass.
 use Rattle.std.proofs.Common.{◌≡◌, ℕ, suc, ◌+◌, List, [], ◌∷◌, ◌++◌, length, refl, sym, ◌∙◌, ap, subst, arith}
 use Rattle.std.specs.List.{AllByRecursion}
 use Rattle.std.proofs.lemmas.List.{append_assoc}

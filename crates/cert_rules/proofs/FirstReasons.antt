@@ -1,4 +1,4 @@
--- A node has no first reason exactly where it is accepted: its checks pass exactly then, and none can fail without being
+-- A node has no first reason exactly if it is accepted: its checks pass exactly then, and none can fail without being
 -- false.
 use Rattle.std.proofs.Common.{◌≡◌, ◌≢◌, ℕ, zero, suc, ◌<◌, not, Bool, true, false, List, [], ◌∷◌, length, refl, arith}
 use Rattle.std.specs.Prelude.{ℤ, pos}
@@ -69,7 +69,7 @@ module _ (s : Setting) (table : Table) (node : RankNode) where
       each-append (HasSize table) (needed_after s node e) (needed_after_each s node es) (known-needs e h.0)
       (known-each es h.1)
 
-  -- a ranking node's checks pass exactly where it is accepted
+  -- a ranking node's checks pass exactly if it is accepted
   pub rank-passes : AcceptsRank s table node → AllPass (rank_checks s table node)
   rank-passes h = (
     h.shape,

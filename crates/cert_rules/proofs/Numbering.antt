@@ -1,4 +1,4 @@
--- A lemma is accepted exactly where each of its nodes is accepted by itself.
+-- A lemma is accepted exactly if each of its nodes is accepted by itself.
 use Rattle.std.proofs.Common.{List, [], ◌∷◌, ◌++◌}
 use Rattle.std.specs.List.{AllByRecursion}
 use Rattle.std.proofs.lemmas.List.Elements.{All-from_recursion, recursion_from_All}

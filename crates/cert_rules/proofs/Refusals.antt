@@ -1,4 +1,4 @@
--- Lists of lemmas are accepted exactly where no node of theirs is refused, and one node at most is.
+-- Lists of lemmas are accepted exactly if no node of theirs is refused, and one node at most is.
 use Rattle.std.proofs.Common.{◌≡◌, ℕ, suc, List, [], ◌∷◌, ◌++◌, length, refl, sym, ◌∙◌, ap, subst}
 use Rattle.run_counting.specs.model.Facts.{Fact}
 use Rattle.cert_rules.specs.Nodes.{Proof}

@@ -1,4 +1,4 @@
--- The checks of spreads and loops pass exactly where they are accepted.
+-- The checks of spreads and loops pass exactly if they are accepted.
 use Rattle.std.proofs.Common.{◌≡◌, ℕ, suc, ◌<◌, ◌&&◌, ◌||◌, not, Bool, true, false, List, [], ◌∷◌, Option, refl, subst}
 use Rattle.std.proofs.Common.{All}
 use Rattle.std.specs.List.{AllByRecursion, list_any}
@@ -184,7 +184,7 @@ module _ (s : Setting) (table : Table) (members : List Member) where
   into-stable (m ∷ ms) rest h =
       from-stable m (pre s.program m.result_variable.rule) (straight_into s members ms rest) (into-stable ms rest h)
 
-  -- a loop's checks pass exactly where it is accepted
+  -- a loop's checks pass exactly if it is accepted
   abbrev needs_time : ℕ → Bool
   needs_time t = multiplies (flows s members table.size) t || adds s (flows s members table.size) t
 
@@ -234,7 +234,7 @@ module _ (s : Setting) (table : Table) (members : List Member) where
         (stable-small s.rewrite (cycle_size s table members), tt))))),
   )
 
--- a spread's checks pass exactly where it is accepted
+-- a spread's checks pass exactly if it is accepted
 module _ (s : Setting) (table : Table) (m : Member) where
   -- all checks of an accepted spread pass
   pub spread-passes : AcceptsSpread s table m → AllPass (spread_checks s table m)

@@ -63,7 +63,7 @@ pub fn worked_costs_hold()
     ensures reasons { CostReasonsComeInOrder }
 {}
 
-/// A node has no first reason exactly where it is accepted, and it has at most one.
+/// A node has no first reason exactly if it is accepted, and it has at most one.
 pub fn first_reasons_are_in_line()
     ensures { FirstReasonsAreInLine }
 {}
@@ -74,7 +74,7 @@ pub fn gaps_exclude_functions()
     ensures { GapsExcludeFunctions }
 {}
 
-/// The checks of a gap all pass exactly where it holds, and exactly there it has no first fault; it has at most one.
+/// The checks of a gap all pass exactly if it holds, and exactly there it has no first fault; it has at most one.
 pub fn gap_checks_are_in_line()
     ensures { GapChecksAreInLine }
 {}

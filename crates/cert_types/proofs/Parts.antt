@@ -123,7 +123,7 @@ not_pushed ps c den out b h = sym (ap (joined ps) (ap (λ (v : Bool). cond v NoP
 pub out_by_zero : (c : ℤ) (v : Bool) → c ≡ pos 0 → true ≡ is_zero c || v
 out_by_zero c v e = sym (ap (λ (z : ℤ). is_zero z || v) e)
 
--- a place whose coefficient isn't 0 is left out exactly where it is a member
+-- a place whose coefficient isn't 0 is left out exactly if it is a member
 pub out_by_member : (c : ℤ) (u v : Bool) → c ≢ pos 0 → u ≡ v → u ≡ is_zero c || v
 out_by_member c u v other e = go (is_zero c) refl
   where

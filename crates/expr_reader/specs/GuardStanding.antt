@@ -145,7 +145,7 @@ pub data IsPartEnded (next : Option Piece) (before : List Name) (g : GuardFront)
   part_ended_right : IsOpen next before g names r → IsPartEnded next before g names r
   part_ended_end : IsEnded next before g names r → IsPartEnded next before g names r
 
--- an atom ends exactly where the written one ends, and the fault is that of the atom
+-- an atom ends exactly if the written one ends, and the fault is that of the atom
 pub record EndsPart (next : Option Piece) (old : GuardReader) (fault : Option Fault) (new : GuardReader) : Type 0 where
   pub part_ended : (before : List Name) (g : GuardFront) (names : List Name) → Reads next before g names old
       → IsPartEnded next before g names new

@@ -1,4 +1,4 @@
--- Each expression can be read: its pieces lead from state to state, within any text whose states follow an expression's.
+-- Each expression can be read: its pieces lead from state to state, within any text whose states follow its states.
 use Rattle.std.specs.Prelude.{◌≡◌, ℕ, suc, List, [], ◌∷◌, Option, Some, refl}
 use Rattle.expr_text.specs.Pieces.{Piece, Word, Digits, Open, Close, Plus, Minus, Times, Caret}
 use Rattle.expr_text.specs.Trees.{Sum, Alone, Added, Subtracted, Product, Single, Multiplied, Factor, Plain, Raised}

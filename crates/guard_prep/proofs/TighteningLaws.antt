@@ -64,7 +64,7 @@ floor-rest (negsuc a) k = (k - a % suc k, omega arith, whole)
         down : (q r a k : ℕ) → q * suc k + r ≡ a → r ≤ k → negsuc a ≡ pos (suc k) *ℤ negsuc q +ℤ pos (k - r)
         down q r a k e l = omega (arith, ints, e, l)
 
--- a multiple of k + 1 with a rest of at most k is at least 0 exactly where the multiple is
+-- a multiple of k + 1 with a rest of at most k is at least 0 exactly if the multiple is
 least : (k r : ℕ) (m : ℤ) → r ≤ k → pos 0 ≤ℤ (pos (suc k) *ℤ m +ℤ pos r) → pos 0 ≤ℤ m
 least k r (pos m) l h = omega (arith, ints)
 least k r (negsuc m) l h = absurd (below (mul-le-mul_ℤ (pos (suc k)) (negsuc m) (negsuc 0) (omega (arith, ints)) (omega (arith, ints))))

@@ -1,4 +1,4 @@
--- A rule is in the part with a name exactly where it stays in the component with this least symbol.
+-- A rule is in the part with a name exactly if it stays in the component with this least symbol.
 use Rattle.std.proofs.Common.{◌≡◌, ℕ, zero, suc, ◌<◌, ◌≤◌, List, ◌∷◌, length, map, Option, Some, None, Bool, get_or}
 use Rattle.std.proofs.Common.{refl, sym, ◌∙◌, ap, subst, arith}
 use Rattle.std.specs.Prelude.{slice_get}

@@ -111,7 +111,7 @@ module _ (Edge : ℕ → ℕ → Type 0) (n : ℕ) (lists : List (Vec ℕ Global
               let in_lists : k < length lists = omega (arith, length-map lists items_of) in
               (k, subst (λ (c : List ℕ). Contains c a) (sym (sym (component-at lists k in_lists) ∙ (get_or_default (map items_of lists) k [] h.component inside ∙ e))) h.member)
 
-  -- nodes have the same number exactly where they are mutual
+  -- nodes have the same number exactly if they are mutual
   pub same-number : (numbers : List ℕ) → AreNumbers lists numbers → (a b : ℕ) → a < n → b < n → (get_or numbers a 0 ≡ get_or numbers b 0) ↔ IsMutual Edge a b
   same-number numbers h a b la lb = (λ e. back e, λ m. same m)
     where
@@ -181,7 +181,7 @@ edge-link p a b = subst (λ (es : List Pair). HasEdge (program_of p) any_rule a 
 pub links-within : (n : ℕ) (rules : List Rule) → LeadBelow n rules → All (λ (e : Pair). (e.0 < n) × (e.1 < n)) (map link_of rules)
 links-within n rules h = All-map (λ (e : Pair). (e.0 < n) × (e.1 < n)) link_of rules h
 
--- a program has a cycle exactly where some link leads to a node of the same component
+-- a program has a cycle exactly if some link leads to a node of the same component
 pub cycle-inside : (p : Program) (n : ℕ) (lists : List (Vec ℕ Global)) (numbers : List ℕ) → LeadBelow n p.rules.items
     → IsListing (IsPair (map link_of p.rules.items)) n (map items_of lists) → AreNumbers lists numbers
     → HasInside numbers (map link_of p.rules.items) ↔ HasCycle (program_of p)

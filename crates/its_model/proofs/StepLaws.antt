@@ -148,7 +148,7 @@ rule-sound r c free h = go (nat_eq c.at r.source) (nat_eq (length free) r.free) 
 found : (p : Program) (c : Config) (s : Step) (r : Rule) → rule_at p s.rule ≡ Some r → step_fault p c s ≡ rule_fault r c s.free
 found p c s r e = ap (λ (o : Option Rule). found_fault o c s.free) e
 
--- a use of a rule has no fault exactly where it is a step within 128 bits
+-- a use of a rule has no fault exactly if it is a step within 128 bits
 pub steps-have-no-fault : StepsHaveNoFault
 steps-have-no-fault = record { step = step; fits = fits; no_fault = no_fault }
   where

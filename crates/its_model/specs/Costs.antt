@@ -41,8 +41,8 @@ pub record HasFittingCost (p : Program) (c : Config) (s : Step) : Type 0 where
   pub free_ones : length s.free ≡ rule.free
   pub fits : CostFits (c.values ++ s.free) rule.cost
 
--- the cost of a use of a rule has no fault exactly where it is one of the rule whose cost fits, and it is no use of the
--- rule exactly where it would be none as a step
+-- the cost of a use of a rule has no fault exactly if it is one of the rule whose cost fits, and it is no use of the
+-- rule exactly if it would be none as a step
 pub record CostsHaveNoFault : Type 0 where
   pub no_fault : (p : Program) (c : Config) (s : Step) → (cost_fault p c s ≡ None) ↔ HasFittingCost p c s
   pub other_rule : (p : Program) (c : Config) (s : Step) → (cost_fault p c s ≡ Some OtherRule)

@@ -82,7 +82,7 @@ pub record RuleFits (r : Rule) (env : List ℤ) : Type 0 where
   pub guard : AllByRecursion (AtomFits env) r.guard
   pub updates : AllByRecursion (λ u. values_fit u env ≡ true) r.updates
 
--- from a configuration with a value for each left variable, a use of a rule has no fault exactly where it is a step and
+-- from a configuration with a value for each left variable, a use of a rule has no fault exactly if it is a step and
 -- no value exceeds 128 bits on the way
 pub record StepsHaveNoFault : Type 0 where
   pub step : (p : Program) (c : Config) (s : Step) (r : Rule) → rule_at p s.rule ≡ Some r → length c.values ≡ r.left

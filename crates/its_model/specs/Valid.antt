@@ -10,7 +10,7 @@ use Rattle.poly_terms.specs.Checked.{ReadsBelow}
 use Rattle.poly_terms.specs.Faults.{first_fault}
 use Rattle.text_core.specs.Names.{IsName, AreDistinct}
 
--- the difference of a comparison, which is at least 0 exactly where the comparison holds: over integers x > y is
+-- the difference of a comparison, which is at least 0 exactly if the comparison holds: over integers x > y is
 -- x - y - 1 >= 0; that of an equation is its left side less its right one, which has to be 0
 abbrev pub difference_of : Term → Relation → Term → Term
 difference_of d AtLeast e = Subtraction d e

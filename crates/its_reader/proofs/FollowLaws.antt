@@ -1,4 +1,5 @@
--- What holds after a token that can follow, where the refusal so far isn't final there; and where it is, it is the answer.
+-- The effect of a token that can follow: where the refusal so far isn't final there, and where it is and so is the
+-- answer.
 use Rattle.std.specs.Prelude.{◌≡◌, ℕ, ◌-◌, ◌≤◌, ◌<◌, ◌⊎◌, Bool, true, false, ◌&&◌, ◌||◌, ◌==◌, nat_lt, nat_le, List}
 use Rattle.std.specs.Prelude.{◌∷◌, ◌++◌, length, Option, Some, None, refl}
 use Rattle.std.proofs.Common.{sym, ap, subst, ◌∙◌, arith, inl, inr}

@@ -1,4 +1,4 @@
--- What holds of each mark, each word and each literal holds of every lexeme of a program's text.
+-- A property of each mark, each word and each literal holds of every lexeme of a program's text.
 use Rattle.std.proofs.Common.{◌≡◌, ℕ, ◌+◌, Bool, true, false, if◌then◌else◌, ◌&&◌, ◌==◌, nat_lt, List, [], ◌∷◌, length}
 use Rattle.std.proofs.Common.{Option, Some, None, refl}
 use Rattle.std.specs.Prelude.{⊤}

@@ -33,7 +33,7 @@ piece_first d b bytes behind p len is rests =
     ap pieces (tokens_in-first lexer (Within d) 0 (b ∷ bytes) bytes behind b (lexeme p (suc len)) refl is (omega arith) rests)
     ∙ ap (λ ps. p ∷ ps) (moved (mode_behind (Within d) (Some p)) (0 + suc len) behind)
 
--- dropping as many bytes as there are before others leaves the others
+-- dropping all the bytes before others leaves the others
 passed : (xs ys : List ℕ) → ys ≡ drop (length xs) (xs ++ ys)
 passed [] ys = refl
 passed (x ∷ xs) ys = passed xs ys

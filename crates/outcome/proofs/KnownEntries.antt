@@ -12,7 +12,7 @@ use Rattle.outcome.specs.Reports.{is_timed, is_costed, is_bounded}
 use Rattle.outcome.specs.Views.{time_of, cost_of, report_of}
 use Rattle.outcome.specs.Entries.{is_known, is_known_cost}
 
--- an entry is known exactly where its time is one
+-- an entry is known exactly if its time is one
 pub known_is_timed : (gaps : List Gap) (e : TimeEntry) → is_known e ≡ is_timed (time_of gaps e)
 known_is_timed gaps (times.Known s) = refl
 known_is_timed gaps (times.Gap g) = refl

@@ -60,7 +60,7 @@ pub record ReportsAreBounded : Type 0 where
       is_bounded (report_with (Timed (Constant 1) ∷ Untimed (TimeLarge 5000) ∷ []) None right_sizes) ≡ false
   pub uncosted : is_bounded (report_on_costs right_times second_cost_missing (Some (Constant 10))) ≡ false
 
--- a report on a program has a cost for exactly the rules that have one, and a total exactly where each rule with a cost
+-- a report on a program has a cost for exactly the rules that have one, and a total exactly if each rule with a cost
 -- has a bound on it and each other rule has a time: also where the time of a rule with a cost is missing
 pub record ReportsFit : Type 0 where
   pub plain : IsReportOn countdown (report_with right_times (Some (Constant 10)) right_sizes)

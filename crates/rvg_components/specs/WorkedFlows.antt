@@ -91,7 +91,7 @@ ring = record counting {
 
 -- the place after rule 1 doesn't loop; that after rule 2 of the program that counts down does, unless it has no side
 -- bounds; of two places in a ring neither loops alone, and both do together
--- arms; of those that go round none does alone, and both do together
+-- side bounds; of those that go round none does alone, and both do together
 pub record LoopsAreWorkedOut : Type 0 where
   pub none : loops counting all_read [] ≡ false
   pub first : loops counting all_read (result_variable 1 1 ∷ []) ≡ false

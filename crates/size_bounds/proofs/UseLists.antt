@@ -15,7 +15,7 @@ pub cites_seen : (ns : List ℕ) → uses_of (map (λ n. Cite n) ns) ≡ cites n
 cites_seen [] = refl
 cites_seen (n ∷ ns) = ap (λ (us : Proofs). AndProof (Cite n) us) (cites_seen ns)
 
--- one number more is kept exactly where it passes the test
+-- one number more is kept exactly if it passes the test
 pub filter-append : (test : ℕ → Bool) (xs : List ℕ) (x : ℕ) → filter test (xs ++ x ∷ []) ≡ filter test xs ++ cond (test x) (x ∷ []) []
 filter-append test [] x = go (test x) refl
   where

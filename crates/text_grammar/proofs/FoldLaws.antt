@@ -53,7 +53,7 @@ module _ {P S T K : Type 0} (f : Fold P S T K) where
   state_after before (Did m ∷ es) = state_after (Did m ∷ before) es
   state_after before (Read p ∷ es) = state_after (Read p ∷ before) es
 
-  -- events are silent exactly where they pass
+  -- events are silent exactly if they pass
   pub silent_passes : (g : Grammar P) (before es : List (Event P)) (ts : List (Token P)) → pieces_read es ≡ pieces ts
       → IsSilent (folded f g) before es ts → Passes f (state f before) es
   silent_passes g before [] ts e s = tt

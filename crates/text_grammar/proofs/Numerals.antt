@@ -120,7 +120,7 @@ room limit n h = grind (arith, nat_tests)
 pub has_room : (limit n : ℕ) → n + 1 ≤ limit → nat_le limit n ≡ false
 has_room limit n h = grind (arith, nat_tests)
 
--- a value is small exactly where it isn't too large
+-- a value is small exactly if it isn't too large
 pub small_value : (n : ℕ) → nat_lt line_value_limit n ≡ false → n ≤ line_value_limit
 small_value n h = grind (arith, nat_tests)
 

@@ -8,7 +8,7 @@ use Rattle.text_grammar.specs.declared.symbol.Symbol.TheVariants.{Made}
 use Rattle.text_grammar.specs.Grammars.{Event, Read, Did, Derives}
 use Rattle.text_grammar.specs.Texts.{Text, Front, reader, IsSilent}
 
--- a tree is answered exactly where the text derives events whose fold is the tree, and no token has a fault
+-- a tree is answered exactly if the text derives events whose fold is the tree, and no token has a fault
 pub record StandsWhereSilent {P T K : Type 0} (x : Text P T K) : Type 0 where
   pub stands : (n : ℕ) (ts : List (Token P)) (t : T) → answer (reader x) n ts ≡ Stands t
       → (es : List (Event P)) × Derives x.grammar (Made 0 ∷ []) es (pieces ts) × (x.value es ≡ t) × IsSilent x [] es ts
