@@ -61,7 +61,7 @@ abbrev pub IsUnderIfDue : ℕ → RuleForms → Option Bool → List LocFact →
 IsUnderIfDue pivots r due kept None = due ≡ Some false
 IsUnderIfDue pivots r due kept (Some u) = IsUnder pivots r kept u
 
--- the same for the rules of a program, in order
+-- each rule of a program, in order, is under the list, or it isn't due
 pub record AreUnder (p : Program) (pivots : ℕ) (due : List Bool) (kept : List LocFact) (us : List (Option RuleUnderFacts))
     : Type 0 where
   pub many : length us ≡ length p.rules

@@ -28,6 +28,6 @@ pub record IsElement (p : Program) (pivots : ℕ) (kept : List LocFact) (e : Ele
   pub not_empty : ¬ IsSolvedWithin pivots
       (goal_program (forms_at p e.rule).unknowns (combined (forms_at p e.rule) kept) minus_one)
 
--- the same for all of them
+-- each of these elements is such a point or ray
 abbrev pub AreElements : Program → ℕ → List LocFact → List Element → Type 0
 AreElements p pivots kept es = All (IsElement p pivots kept) es

@@ -1,5 +1,5 @@
 -- Readers: trees with the pieces that they are written as, and how the pieces of a text lead from one parser state
--- (front) to the next.
+-- to the next.
 use Rattle.std.specs.Prelude.{ℕ, List, [], ◌∷◌, Option, Some, None}
 use Rattle.text_core.specs.Tokens.{Token}
 
@@ -8,7 +8,7 @@ pub record Fault (K : Type 0) : Type 0 where
   pub kind : K
   pub at : ℕ
 
--- a reader of trees T that are written as pieces P: a front F (the parser's state) describes what has been read so far,
+-- a reader of trees T that are written as pieces P: a parser state F describes what has been read so far,
 -- and faults have kinds K
 pub record Reader (P T F K : Type 0) : Type 1 where
   -- the tree is written as these pieces

@@ -1,7 +1,7 @@
 //! What every reader of a text needs: bytes, names, digits, pieces (tokens without positions), and the first fault of a
 //! text.
 //!
-//! Builds on `model`. A reader is described by its parser states (fronts), by the trees that a state can complete, and
+//! Builds on `model`. A reader is described by its parser states, by the trees that a state can complete, and
 //! by the faults that a state shows. Main guarantee: a reader that keeps four laws on these answers exactly the tree
 //! or exactly the first fault (`specs/Laws`).
 #![tactic(auto)]

@@ -1,6 +1,6 @@
-//! Worked values of why bounds are missing: small programs and reports for which a trip of a question itself or of the
-//! one for a point, `missing`, `bent`, `untimed`, `large` and a loose place are right, and for which they aren't.
-//! Worked values of gaps are in `time_bounds`.
+//! Worked values of why bounds are missing: small programs and reports for which each reason is right, and for which it
+//! isn't: a limit hit by a question itself or by the one for a point, `missing`, `bent`, `untimed`, `large`, and an
+//! unbounded side. Worked values of gaps are in `time_bounds`.
 //!
 //! No crate depends on this one, so its proofs delay no other. Main guarantee: the values themselves.
 #![tactic(auto)]
@@ -20,10 +20,10 @@ ghost use Rattle.worked_reasons.specs.Trips.{TripsAreWorkedOut};
 
 /// Worked values, on small programs, of why rules have no time and places no size: linear programs that exceed a limit
 /// of pivots, of numbers, of a table's size or of a point's integers, which of several rules is reported, and the one
-/// for a point where no function and no form is found; places that are loose on a side; sizes that depend on others,
-/// that bend in a loop, that grow by a rule without a time, and that are too large, which of several such reasons is
-/// reported, and of several such rules the first; a time that is too large; and a cost that is unbounded, or whose linear
-/// program exceeds a limit. The function has no code: its contract is these values.
+/// for a point where no function and no form is found; unbounded sides; sizes that depend on others, that are nonlinear
+/// in a loop, that grow by a rule without a time, and that are too large, which of several such reasons is reported,
+/// and of several such rules the first; a time that is too large; and a cost that is unbounded, or whose linear program
+/// exceeds a limit. The function has no code: its contract is these values.
 pub fn missing_bounds_are_as_worked_out()
     ensures trips { TripsAreWorkedOut }
     ensures first_trips { FirstTripsAreWorkedOut }
