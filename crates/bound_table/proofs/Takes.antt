@@ -47,7 +47,7 @@ get_or-marked_one marks (ProductOf ps) i h = refl
 get_or-marked_one marks (MaximumOf ps) i h = refl
 get_or-marked_one marks (PowerOf c e) i h = refl
 
--- or with false changes nothing
+-- the disjunction with false changes nothing
 pub or-false : (b : Bool) → (b || false) ≡ b
 or-false true = refl
 or-false false = refl

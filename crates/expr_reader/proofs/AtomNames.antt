@@ -29,6 +29,6 @@ before_stay before names (JointAfter atoms joint) e = ap (map limited_atom) (ato
 pub before_kept : (before names more : List Name) (c : Conjoined) → Extends (with_conjoined before c) names → Extends (with_conjoined before c) more → atoms_before names c ≡ atoms_before more c
 before_kept before names more c a b = before_stay before names c a ∙ sym (before_stay before more c b)
 
--- and so is an expression
+-- an expression is the same over any two extensions of its variables
 pub sum_kept : (before names more : List Name) (s : Sum) → Extends (with_sum before s) names → Extends (with_sum before s) more → limited (sum_term names s) ≡ limited (sum_term more s)
 sum_kept before names more s a b = ap limited (term_along (with_sum before s) names s a (sum_is_read before s) ∙ sym (term_along (with_sum before s) more s b (sum_is_read before s)))

@@ -65,7 +65,7 @@ numbered-from positions i (l ∷ ls) k b h = go (pair-cases (get_or positions l 
         let next : b - i ≡ suc (b - suc i) = omega (arith, rest.0) in
         (omega (arith, rest.0), omega (arith, rest.1), ap (λ (x : ℕ). get_or positions (get_or (l ∷ ls) x 0) 0) next ∙ rest.2)
 
--- and is listed with it
+-- each leader is listed with its number
 numbered-listed : (positions : List ℕ) (i : ℕ) (ls : List ℕ) (j : ℕ) → j < length ls → Contains (numbered positions i ls) (get_or positions (get_or ls j 0) 0, i + j)
 numbered-listed positions i [] j low = absurd (omega arith)
 numbered-listed positions i (l ∷ ls) zero low = (zero, omega arith, same_pair (get_or positions l 0, i) (get_or positions l 0) (i + 0) refl (omega arith))

@@ -51,7 +51,7 @@ module _ (p : Program) (is_untimed : ℕ → Bool) (n : ℕ) (leaders : List ℕ
       own : (a : ℕ) → a < n → get_or leaders a 0 ≡ m → IsMutual (HasEdge p is_untimed) a m
       own a low e = subst (λ (x : ℕ). IsMutual (HasEdge p is_untimed) a x) e (l.own a low)
 
-  -- and a rule that stays in a component is in the part
+  -- a rule that stays in a component is in the part of that component
   stays-named : (links : List Pair) → links ≡ map ends_of p.rules → All (λ (e : Pair). (e.0 < n) × (e.1 < n)) links
       → (t m : ℕ) → StaysIn p is_untimed t m → get_or (None ∷ map (shared_leader leaders) links) t None ≡ Some m
   stays-named links same within t m s = go t s.leaves s.leads

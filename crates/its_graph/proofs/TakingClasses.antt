@@ -86,7 +86,7 @@ module _ (n : ℕ) (next previous : List (Vec ℕ Global)) (before first second 
   class-candidate : (b : ℕ) → Contains class b → Contains candidates b
   class-candidate b h = colored-candidate b (f.among.were b h).1
 
-  -- and it is mutual with the root
+  -- a node of the component is mutual with the root
   pub class-mutual : (b : ℕ) → Contains class b → IsMutual Edge root b
   class-mutual b h = record {
     onward = path-map (EdgeTo Edge first CANDIDATE) Edge (λ x y e. e.0) root b ((f.among.reached b).0 h);
@@ -105,7 +105,7 @@ module _ (n : ℕ) (next previous : List (Vec ℕ Global)) (before first second 
       go (inl none) = absurd (none_in_empty b none)
       go (inr (k, low, e)) = e
 
-  -- and they are unknown then
+  -- nodes that become unknown again are unknown in the third list
   again-unknown : (b : ℕ) → Contains again b → get_or third b 0 ≡ UNKNOWN
   again-unknown b h = go (f.rest.newly b h)
     where

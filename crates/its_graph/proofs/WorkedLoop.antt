@@ -26,7 +26,7 @@ ends a b (Onward {b = x} p edge) = inr (go (edge_of x b edge))
     go (inr (inl (s, t))) = (omega (arith, t), omega (arith, t))
     go (inr (inr (s, t))) = (omega (arith, t), omega (arith, t))
 
--- and begins at a node up to 2
+-- a path that isn't empty begins at a node up to 2
 begins : (a b : ℕ) → Path Loop a b → (a ≡ b) ⊎ (a ≤ 2)
 begins a b (Here e) = inl e
 begins a b (Onward {b = x} p edge) = inr (go (edge_of x b edge) (begins a x p))
@@ -126,7 +126,7 @@ first_next = record { least = 0; ready = first_ready; first = λ a r. omega arit
     from : (b : ℕ) → IsMutual Loop 0 b → Contains (0 ∷ []) b
     from b m = subst (Contains (0 ∷ [])) (sym (only_zero b m)) (0, omega arith, refl)
 
--- and then
+-- the second component
 pub then_next : IsNext Loop 3 zero_alone (1 ∷ 2 ∷ [])
 then_next = record { least = 1; ready = next_ready; first = least; members = λ b. (to b, from b); ascending = increasing-two 1 2 (omega arith) }
   where

@@ -46,7 +46,7 @@ abbrev pub EachIsNext : (ℕ → ℕ → Type 0) → List ℕ → List ℕ → T
 EachIsNext Need leaders order = (k : ℕ) → k < length order
     → IsNextLeader Need leaders (take k order) (slice_index order k)
 
--- and all leaders are listed
+-- each leader of the list comes next after those before it, and all leaders are listed
 pub record AreLeadersInOrder (Need : ℕ → ℕ → Type 0) (leaders order : List ℕ) : Type 0 where
   pub each : EachIsNext Need leaders order
   pub all : (c : ℕ) → IsLeader leaders c → Contains order c

@@ -16,7 +16,7 @@ both-hold : {X : Type 0} (P : X → Type 0) (xs ys : List X) → AllByRecursion 
 both-hold P [] ys h = (tt, h)
 both-hold P (x ∷ xs) ys h = let rest = both-hold P xs ys h.1 in ((h.0, rest.0), rest.1)
 
--- and the other way round
+-- a property that holds of two lists holds of the appended list
 pub joined-hold : {X : Type 0} (P : X → Type 0) (xs ys : List X) → AllByRecursion P xs → AllByRecursion P ys → AllByRecursion P (xs ++ ys)
 joined-hold P [] ys h k = k
 joined-hold P (x ∷ xs) ys h k = (h.0, joined-hold P xs ys h.1 k)

@@ -108,7 +108,7 @@ guard-no_fault env n [] h f = refl
 guard-no_fault env n (a ∷ atoms) h f =
     ap (λ (g : Option StepFault). first_of g (guard_fault env (suc n) atoms)) (atom-no_fault env n a h.0 f.0) ∙ guard-no_fault env (suc n) atoms h.1 f.1
 
--- and for updates
+-- updates have no fault exactly if their values are within 128 bits
 updates-fit : (env : List ℤ) (us : List Term) → updates_fault env us ≡ None → AllByRecursion (λ u. values_fit u env ≡ true) us
 updates-fit env [] h = tt
 updates-fit env (u ∷ us) h = go (values_fit u env) refl h (updates-fit env us)

@@ -40,7 +40,7 @@ each_digital = record {
   literals = digits_digital;
 }
 
--- and each of the tokens
+-- a token and the tokens after it hold digits if each of them does
 token_digital : (at len : ℕ) (o : Option Piece) (ts : Tokens) → IsDigital o → AreDigital ts → AreDigital (token_then at len o ts)
 token_digital at len None ts h k = k
 token_digital at len (Some p) ts h k = (h, k)

@@ -35,7 +35,7 @@ pub three_first_fault : (best one two three : Option (Fault Kind)) (xs ys zs : F
 three_first_fault best one two three xs ys zs a b c =
     c ∙ (ap (λ o. first_among programs o zs) (b ∙ (ap (λ o. first_among programs o ys) a ∙ sym (both_first_fault best xs ys))) ∙ sym (both_first_fault best (xs ++ ys) zs))
 
--- and one more
+-- two lists of faults one after the other
 pub one_more : (best one two : Option (Fault Kind)) (xs ys : FaultList) → one ≡ first_among programs best xs → two ≡ first_among programs one ys → two ≡ first_among programs best (xs ++ ys)
 one_more best one two xs ys a b = b ∙ (ap (λ o. first_among programs o ys) a ∙ sym (both_first_fault best xs ys))
 

@@ -334,7 +334,7 @@ pub closed_promise : (p : Piece) (old : Draft) (result : Option ParserState) →
     → LeftLeads lefts.SourceClosed old p result old
 closed_promise p old result h = always lefts.SourceClosed p old old result (λ ts next f k. rw h (shut_leads ts next p f old k))
 
--- and so it does between rules
+-- between rules the code steps as the written state does
 pub ruled_promise : (p : Piece) (old new : Draft) (result : Option ParserState) → RuleLeads old p result new → LeftLeads lefts.AfterRule old p result new
 ruled_promise p old new result h = always lefts.AfterRule p old new result (λ ts next f k. rw k.1.0 (h.each ts next k.0 k.1.1.0 k.1.1.1))
 

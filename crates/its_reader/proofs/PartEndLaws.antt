@@ -309,7 +309,7 @@ right_holds {state} {old} {new} {next} {now} {refusal} e a = record { by = subst
 pub tail_guarding : {state : TailState} {old new : RuleDraft} {next : Option Piece} {now : ParserState} {refusal : Option Kind} → is_guarding state ≡ true → GuardStands state old next now refusal new → TailEndsPart state old next now refusal new
 tail_guarding {state} {old} {new} {next} {now} {refusal} e a = record { by = subst (λ v. TailEndsPartBy v state old next now refusal new) (sym e) a }
 
--- and where none is read nothing ends
+-- after a target, where no guard is being read, nothing ends
 pub tail_holds : {state : TailState} {old new : RuleDraft} {next : Option Piece} {now : ParserState} {refusal : Option Kind} → is_guarding state ≡ false
     → IsStill (places.InTail state) (λ at. fault_if (closes_target state && old.differs) ArityDiffers at) old now refusal new → TailEndsPart state old next now refusal new
 tail_holds {state} {old} {new} {next} {now} {refusal} e a = record { by = subst (λ v. TailEndsPartBy v state old next now refusal new) (sym e) a }

@@ -29,7 +29,7 @@ places_kept r t =
     let same = arity_same (symbols_led r t) t.name (length t.arguments) in
     (λ h. (h.0, same.1 h.1), λ h. (h.0, same.0 h.1))
 
--- and its variables are fewer than may be in a rule
+-- the variables of a left term are fewer than may be in a rule
 few_left : (t : LeftTerm) → AreLeft t.arguments → length (left_names t) ≤ variable_limit
 few_left t left = let few = left.1 in let same = length-reverse t.arguments in omega (arith, few, same)
 

@@ -124,7 +124,7 @@ mutual
   base_good (Named n) before names g h = good_with names n g h.0
   base_good (Bracketed s) before names g h = sum_good s (In inner.Open ∷ before) names g h.1
 
--- and an atom, and atoms
+-- if the words of atoms after pieces are names, so are those of the pieces, and the variables stay names that differ
 atom_peel : (a : Atom) (before : List Piece) → AreNamed (atom_behind In a before) → AreNamed before
 atom_peel (Always t) before h = h.1
 atom_peel (Compared l sign r) before h = sum_peel l before (sum_peel r (In (inner.Related sign) ∷ sum_behind In l before) h).1
@@ -143,7 +143,7 @@ atoms_good (First a) before names g h = atom_good a before names g h
 atoms_good (Joined atoms joint a) before names g h =
     atom_good a (In (inner.Joining joint) ∷ atoms_behind In atoms before) (with_atoms names atoms) (atoms_good atoms before names g (atom_peel a (In (inner.Joining joint) ∷ atoms_behind In atoms before) h).1) h
 
--- arguments
+-- if the words of arguments after pieces are names, so are those of the pieces, and the variables stay such names
 sums_peel : (sums : List Sum) (before : List Piece) → AreNamed (sums_behind sums before) → AreNamed before
 sums_peel [] before h = h
 sums_peel (s ∷ []) before h = sum_peel s before h
@@ -194,7 +194,7 @@ arrow_good : (cost : Option Sum) (before : List Piece) (names : List Name) → A
 arrow_good None before names g h = g
 arrow_good (Some c) before names g h = sum_good c (CostOpen ∷ before) names g h.1
 
--- and a guard
+-- if the words of a guard after pieces are names, so are those of the pieces, and its variables are names that differ
 pub record GuardNamed (g : Guard) (before : List Piece) : Type 0 where
   pub good : (names : List Name) → AreGood names → AreGood (with_guard names g)
   pub earlier : AreNamed before

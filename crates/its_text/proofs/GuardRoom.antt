@@ -43,7 +43,7 @@ counted_more names c e f p behind same =
     ∙ ap (λ ns. if begins_truth e p && not (is_operating behind) then with_conjoined names c else ns)
     (names_more (with_conjoined names c) e f p same)
 
--- and before it
+-- the variables that count in before one more piece
 counted_before : (names : List Name) (c : Conjoined) (e f : expression.Front) (p : inner.Piece)
     → expression_steps.step e p ≡ Some f
     → counted names c e (Some (In p)) ≡ with_front (with_conjoined names c) e

@@ -58,7 +58,7 @@ pub record IsRulingKept (r : Ruling) : Type 0 where
   pub rules : AreRules (symbols_of r.rules) r.rules
   pub within : AreRulesWithin r.rules
 
--- and another rule may come
+-- a ruling is within the limits, and another rule may come
 abbrev pub IsOpenRuling : Ruling → Type 0
 IsOpenRuling r = IsRulingKept r × (suc (length r.rules) ≤ rule_limit)
 
@@ -208,7 +208,7 @@ IsGoingQuiet (Some g) (Some (In p)) behind =
     (nat_le token_limit (token_count g.front) ≡ false)
 IsGoingQuiet _ _ behind = ⊤
 
--- and no literal is too large
+-- if the next token continues an expression, it is no literal that is too large
 abbrev pub IsGoingSmall : Option OpenExpression → Option Piece → Type 0
 IsGoingSmall (Some g) (Some (In p)) = goes_on_with g.front p ≡ true → is_large p ≡ false
 IsGoingSmall _ _ = ⊤
@@ -218,7 +218,7 @@ abbrev pub IsArgumentExpanded : List Name → Option Sum → Type 0
 IsArgumentExpanded names None = ⊤
 IsArgumentExpanded names (Some s) = polynomials.first_fault (sum_term (with_sum names s) s) ≡ None
 
--- and so can an atom
+-- an atom that has ended can be expanded
 abbrev pub IsRightExpanded : List Name → Sum → inner.Sign → Option Sum → Type 0
 IsRightExpanded names l sign None = ⊤
 IsRightExpanded names l sign (Some r) =

@@ -130,11 +130,11 @@ no_guard h = empty_made h NoGuard (λ k. (k.0.variables, tt))
 pub no_marked : (h : Headed) → IsRulingKept (ruling_with h (BehindMark None)) ↔ IsHeadedKept h
 no_marked h = empty_made h (BehindMark None) (λ k. (k.0.variables, tt))
 
--- and one with nothing in square brackets
+-- a rule with nothing in square brackets is within the limits exactly if its head is
 pub no_squared : (h : Headed) → IsRulingKept (ruling_with h (InSquares None)) ↔ IsHeadedKept h
 no_squared h = empty_made h (InSquares None) (λ k. (k.0.variables, tt))
 
--- and one whose guard has some
+-- a rule whose guard has atoms is within the limits exactly if its head and its atoms are
 pub marked : (h : Headed) (atoms : Atoms) → IsRulingKept (ruling_with h (BehindMark (Some atoms)))
     ↔ (IsHeadedKept h × AreEnded h.led.cost (headed_names h) atoms)
 marked h atoms =

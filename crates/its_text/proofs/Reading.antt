@@ -207,7 +207,7 @@ opens_behind h (BehindMark (Some atoms)) name done at =
 opens_behind h (InSquares atoms) name done at =
     onward (word name ∷ done) (SourceNamed (ruling_with h (InSquares atoms)) name) _ open_bracket (onward done (AfterRule (ruling_with h (InSquares atoms))) (SourceNamed (ruling_with h (InSquares atoms)) name) (word name) at refl) refl
 
--- or the section ends
+-- after a rule the section can end
 closes_behind : (h : Headed) (guard : Guard) (done : List Piece) → Behind h guard done → At (close_bracket ∷ done) (Between (section_of (ruling_with h guard)))
 closes_behind h NoGuard done at = onward done (Targeted h) _ close_bracket at refl
 closes_behind h (BehindMark None) done at = onward done (GuardMarked h) _ close_bracket at refl

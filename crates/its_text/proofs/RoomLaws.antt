@@ -136,7 +136,7 @@ module _ (names last : List Name) (e : Extends names last) where
   cost_stays None h = (λ w. tt, λ w. tt)
   cost_stays (Some c) h = argument_stays c h
 
-  -- and atoms
+  -- atoms within the limits stay so over more names
   atom_stays : (a : Atom) → AtomReads names a → IsAtomWithin names a ↔ IsAtomWithin last a
   atom_stays (Always t) h = (λ w. tt, λ w. tt)
   atom_stays (Compared l sign r) h =

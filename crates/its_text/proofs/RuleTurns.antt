@@ -210,7 +210,7 @@ module _ (h : Headed) (g : GuardFront) (atoms : Atoms) (ends : guards.finish g â
   rule_ends (inner.Related sign) off = tt
   rule_ends (inner.Joining joint) off = tt
 
-  -- and one in square brackets
+  -- the closing square bracket ends a guard in square brackets
   square_ends : Turns (SquareGuarding h g) SquareClose ps (square_ended h (Some atoms))
   square_ends =
       let made = in_squares h atoms in

@@ -222,7 +222,7 @@ module _ (ss : List Section) (name : Name) (ps : List Piece) where
     λ h. kept.1 (h.0.0, sym named ∙ h.0.1),
   )
 
-  -- or a comment
+  -- the word `COMMENT` after an opening bracket begins a comment
   comment_turns : (v : Bool) → is_same name (codes "COMMENT") ≡ v
       → Turns (Opened ss) (word name) ps (if v then Some (CommentNamed ss) else None)
   comment_turns false e = tt

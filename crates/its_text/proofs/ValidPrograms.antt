@@ -99,7 +99,7 @@ names_count (s ∷ symbols) = let e = names_count symbols in omega (arith, e)
 number_below : (symbols : List Symbol) (n : Name) → is_among n (names_of symbols) ≡ true → number_of symbols n < length symbols
 number_below symbols n h = let b = position_below n (names_of symbols) h in let e = names_count symbols in omega (arith, b, e)
 
--- and its places
+-- a named symbol has as many places as the symbol at its number
 places_at : (symbols : List Symbol) (n : Name) → is_among n (names_of symbols) ≡ true → arity_of symbols n ≡ arity_in (slice_get symbols (number_of symbols n))
 places_at [] n h = cc
 places_at (s ∷ symbols) n h = go (is_same n s.name) refl h (λ k. places_at symbols n k)

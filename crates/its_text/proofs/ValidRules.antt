@@ -94,7 +94,7 @@ pub cost_along : (names last : List Name) (cost : Option Sum) → Extends names 
 cost_along names last None e h = tt
 cost_along names last (Some c) e h = sum_along names last c e h
 
--- and among the variables once it is read
+-- the names of a cost are among the variables once it is read
 pub cost_is_read : (names : List Name) (cost : Option Sum) → CostReads (with_cost names cost) cost
 cost_is_read names None = tt
 cost_is_read names (Some c) = sum_is_read names c

@@ -111,7 +111,7 @@ pub record FirstFaults : Type 0 where
   pub bracket_open : RefusedAt (with_rules (codes "l0(A) -> Com_1(l1((A)")) 61 Syntax
   -- a byte over 127
   pub not_ascii : RefusedAt (with_rules (codes "l0(A" ++ (200 ∷ codes ") -> Com_1(l1(A))"))) 43 NotAscii
-  -- but in a comment, which holds any bytes
+  -- in a comment, which holds any bytes, one is no fault
   pub ascii_in_comment : RefusedAt (codes "(COMMENT " ++ (200 ∷ codes ")")) 11 MissingSection
   -- a section twice
   pub repeated_section : RefusedAt (codes "(VAR A)(VAR A)") 7 RepeatedSection

@@ -5,7 +5,7 @@ use Rattle.std.specs.List.{range_with_len}
 use Rattle.poly_terms.specs.model.Programs.{Program, arity_of}
 use Rattle.location_facts.specs.declared.fact.LocFact.{LocFact}
 
--- the last place that facts of a symbol speak of: its last one, but at most the eighth
+-- the last place that facts of a symbol can use: its last one, but at most the eighth
 abbrev pub last_place : Program → ℕ → ℕ
 last_place p s = min (arity_of p s) 8
 

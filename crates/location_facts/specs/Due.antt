@@ -68,7 +68,7 @@ pub record AreUnder (p : Program) (pivots : ℕ) (due : List Bool) (kept : List 
   pub each : (i : ℕ) (o : Option RuleUnderFacts) (r : Rule) → slice_get us i ≡ Some o → slice_get p.rules i ≡ Some r
       → IsUnderIfDue pivots (forms_in (Some r)) (slice_get due i) kept o
 
--- and with some list
+-- each rule is under some list of facts, or it isn't due
 pub record AnyUnder (p : Program) (pivots : ℕ) (us : List (Option RuleUnderFacts)) : Type 0 where
   pub due : List Bool
   pub kept : List LocFact

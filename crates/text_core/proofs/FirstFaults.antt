@@ -107,7 +107,7 @@ module _ {P T F K : Type 0} (r : Reader P T F K) where
     breaks_end : (done : List P) (f : F) → reached r done ≡ Some f → r.finish f ≡ None → BreaksOff r done []
     breaks_end done f e none = (laws.goes_on done f e, whole_ends done f e none)
 
-    -- and not where it can
+    -- the text doesn't break off at its end in a state that can end
     pub ends_here : (done : List P) (f : F) (t : T) → reached r done ≡ Some f → r.finish f ≡ Some t → ¬ BreaksOff r done []
     ends_here done f t e some b = b.1 (t, laws.ends done f t e some)
 

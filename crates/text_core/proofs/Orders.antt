@@ -11,7 +11,7 @@ use Rattle.text_core.specs.Reading.{is_before, first_of, first_among}
 before_true : (a b i j : ℕ) → nat_lt a b || (nat_eq a b && nat_lt i j) ≡ true → (a ≤ b) × (a ≡ b → i ≤ j)
 before_true a b i j h = (grind (arith, nat_tests), λ e. grind (arith, nat_tests))
 
--- and where it doesn't
+-- if the test fails, the second pair isn't after the first one
 before_false : (a b i j : ℕ) → nat_lt a b || (nat_eq a b && nat_lt i j) ≡ false → (b ≤ a) × (b ≡ a → j ≤ i)
 before_false a b i j h = (grind (arith, nat_tests), λ e. grind (arith, nat_tests))
 

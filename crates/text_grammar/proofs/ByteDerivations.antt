@@ -516,7 +516,7 @@ module _ {S T K : Type 0} (x : ByteText S T K) (bounded : IsBounded x) (numbers 
         ap (λ (s : Spelling S). x.tree s.own) (d.1.comes ∙ sym (state_after (fold_of x) [] w.0)) ∙ w.2,
       )
 
-  -- and the other way round
+  -- if the bytes are the text of a value without faults, its tree is answered
   pub taken : IsLawful (texts_of x) → (w : W 0) → IsDerived 0 w → TextStands w → (bytes : List ℕ)
       → spelled (fold_of x) (numbers_of x) (own 0 w) ≡ bytes
       → answer (reader (texts_of x)) (length bytes) (tokens bytes) ≡ Stands (tree_of w)

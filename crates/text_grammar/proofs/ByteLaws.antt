@@ -46,7 +46,7 @@ placed (c ∷ cs) q p e = go (q == c) refl e (placed cs q p)
     go true k e ih = let same : c ≡ p = cc in eqb-true q c k ∙ same
     go false k e ih = ih e
 
--- and that position is at most their number
+-- the position of a byte among the letters is at most their number
 position_most : (cs : List ℕ) (b : ℕ) → position_of cs b ≤ length cs
 position_most [] b = omega arith
 position_most (c ∷ cs) b = go (b == c) (position_most cs b)

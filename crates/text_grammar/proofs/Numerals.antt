@@ -326,7 +326,7 @@ module _ {S T K : Type 0} (x : ByteText S T K) (h : IsBounded x) where
       let e = ended begun _ (put_number x (Value (negsuc n)) s) (decimal (suc n)) 1 w.1 w.2 refl in
       ((k.0, e.0), e.1)
 
-  -- and so is a signed number
+  -- the events of a signed number that stands pass, and put the number
   signed_put : (s : Spelling S) (z : ℤ) → NumberStands x s (Signed z) → Passes (fold_of x) s (number_events (Signed z))
       × (after (fold_of x) s (number_events (Signed z)) ≡ put_number x (Signed z) s)
   signed_put s (pos n) k =

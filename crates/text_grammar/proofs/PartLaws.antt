@@ -153,7 +153,7 @@ module _ {P S T K A : Type 0} (f : Fold P S T K) (a : Wholes P S A) where
         (alternatives g.rules m) (k.each m) body among r.0 t (after f t fs) qs r.1) d) s passes in
         (w.0.0, w.1)
 
-    -- and so are the symbols
+    -- the events of the parts of symbols' values are derived from the symbols
     body_derived : IsOnly g only → (ss : List Symbol) (vs : Values g only V parts ss) → AreDerived f a g only V parts ss vs
         → Derives g ss (events_of f a (body_parts g only V parts ss vs)) (spelled f a (body_parts g only V parts ss vs))
     body_derived h [] u d = nothing

@@ -38,7 +38,7 @@ module _ {T K Made E : Type 0} (x : Text ℕ T K) (tree_in : Made → T) (refusa
       go (Refused y) e i (Ok made) s = absurd s
       go (Refused y) e i (Err error) s = first y i (refusal_in error) s
 
-  -- and it is the tree that is answered
+  -- if a tree is answered, a result that agrees with the answer gives this tree
   pub tells_yields : (bytes : List ℕ) (t : T) → answer (reader x) (length bytes) (tokens bytes) ≡ Stands t
       → (result : Result Made E) → Tells tree_in refusal_in (answer (reader x) (length bytes) (tokens bytes)) result
       → Yields tree_in refusal_in t result

@@ -63,7 +63,7 @@ more_rules done rule left after items all ends behind is =
     ∙ ap (λ rs. done ++ rs) (sym (first_rule rule (ends ∙ ap has_end is)))
     ∙ all
 
--- and where none is left
+-- if no items are left, the rules read so far are all
 pub all_rules : (done : List (List (List Symbol))) (rule left items : List Item) → done ++ rules_of rule ≡ rules_of items → has_end rule ≡ has_end left → length left ≡ 0 → done ≡ rules_of items
 all_rules done rule left items all ends none = sym (append-nil done) ∙ ap (λ rs. done ++ rs) (sym (no_rule rule (ends ∙ ap has_end (empty left none)))) ∙ all
   where

@@ -20,7 +20,7 @@ pub record Plain : Type 0 where
   pub digits : AllDigits 10 others
   pub lead : first ≡ 48 → others ≡ []
 
--- and not 0
+-- such a number that isn't 0
 pub record Positive : Type 0 where
   pub plain : Plain
   pub some : 49 ≤ plain.first

@@ -87,7 +87,7 @@ abbrev pub AreNumbered : Rows → Type 0
 AreNumbered [] = ⊤
 AreNumbered (r ∷ rs) = IsNumbered r × AreNumbered rs
 
--- and there are at most three
+-- each row has an allowed number and as many values, and there are at most three rows
 pub record AreFew (rows : Rows) : Type 0 where
   pub each : AreNumbered rows
   pub few : length rows ≤ 3
