@@ -59,7 +59,7 @@ cut_off = record {
   size = all_trips.size;
 }
 
--- its time; that of rule 2, which no other rule reaches; and then the sizes after both
+-- the time of rule 1; that of rule 2, which no other rule reaches; and then the sizes after both
 abbrev pub four_derivations : List Derivation
 four_derivations =
     empty_derivation 1 [] ∷ unreached_derivation (time_key 1 ∷ []) 2 ∷

@@ -113,7 +113,7 @@ abbrev AllAmong : List Bound → List Bound → Type 0
 AllAmong us [] = Unit {0}
 AllAmong us (t ∷ ts) = (input_among us t ≡ true) × AllAmong us ts
 
--- they stay so with one more
+-- all of a list are among another with one more
 AllAmong-more : (us : List Bound) (u : Bound) (ts : List Bound) → AllAmong us ts → AllAmong (u ∷ us) ts
 AllAmong-more us u [] all = tt
 AllAmong-more us u (t ∷ ts) all = (input_among-more us u t all.0, AllAmong-more us u ts all.1)

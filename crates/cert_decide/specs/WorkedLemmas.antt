@@ -23,7 +23,7 @@ abbrev pub falling_by : ℕ → ℤ → ℤ → Proof
 falling_by den a c = rank 2 (1 ∷ 2 ∷ []) den (at_symbol 0 (one a) c ∷ at_symbol 1 (one a) c ∷ [])
     ([] ∷ (0 ∷ []) ∷ []) (1 ∷ []) entered
 
--- it falls from A
+-- the function A falls by the second rule
 abbrev pub down : Proof
 down = falling_by 1 (pos 1) (pos 0)
 

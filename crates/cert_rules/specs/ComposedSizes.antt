@@ -110,7 +110,7 @@ flows_into s members size (m ∷ ms) =
 abbrev pub flows : Setting → List Member → (ℕ → ℕ → Option Bound) → List Flow
 flows s members size = flows_into s members size members
 
--- it takes no member: the slope is 0
+-- the flow takes no member: its slope is 0
 abbrev pub is_outer : Flow → Bool
 is_outer f = f.slope == 0
 
@@ -123,7 +123,7 @@ offsets test (f ∷ fs) = cond (test f) (Part f.offset (offsets test fs)) (offse
 abbrev pub base_of : List Flow → Bound
 base_of fs = MaximumOf (offsets is_outer fs)
 
--- it takes members, by rule t
+-- the flow takes members, by rule t
 abbrev pub is_inner : ℕ → Flow → Bool
 is_inner t f = (f.rule == t) && not (is_outer f)
 

@@ -58,7 +58,7 @@ abbrev pub rank_head : RankNode → List ℕ
 rank_head n =
     codes "rank " ++ (decimal n.rule ++ (codes " set " ++ (numbers_text n.set ++ (codes " den " ++ decimal n.den))))
 
--- its forms and its multipliers
+-- the forms and the multipliers of a ranking node
 abbrev pub rank_rest : Program → RankNode → List ℕ
 rank_rest p n =
     codes " forms " ++ (listed (map (form_text p) n.forms) ++ (codes " moves " ++ (listed (map numbers_text n.moves)
@@ -141,7 +141,7 @@ gap_head p g =
     decimal g.rule ++ (codes " set " ++ (numbers_text g.set
     ++ (codes " shut " ++ bracketed (joined (codes " ") (map (symbol_place_text p) g.shut)))))
 
--- its points
+-- the points of a gap
 abbrev pub gap_points : Gap → List ℕ
 gap_points g =
     codes " moves " ++ (listed (map point_text g.moves) ++ (codes " floor " ++ (point_text g.floor

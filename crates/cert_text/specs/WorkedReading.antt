@@ -35,7 +35,7 @@ IsCutInto bytes ps = pieces (tokens counting bytes) ≡ ps
 abbrev pub ComesTo : List ℕ → Answer ⊤ ℕ → Type 0
 ComesTo bytes a = answer (reader bare) (length bytes) (tokens counting bytes) ≡ a
 
--- they are a whole text, or break off at a position
+-- the bytes are a whole text, or break off at a position
 abbrev pub IsRead : List ℕ → Type 0
 IsRead bytes = ComesTo bytes (Stands tt)
 

@@ -32,7 +32,7 @@ limited_atom (plain.Compare l relation r) = plain.Compare (limited l) relation (
 abbrev pub atoms_of : List Name → Atoms → List plain.Atom
 atoms_of names atoms = map limited_atom (atoms_terms names atoms)
 
--- those before an atom
+-- the atoms before an atom, over variables with these names
 abbrev pub atoms_before : List Name → Conjoined → List plain.Atom
 atoms_before names NoAtoms = []
 atoms_before names (JointAfter atoms joint) = atoms_of names atoms

@@ -36,18 +36,18 @@ module _ {P : Type 0} (into : Piece → P) where
     sum_behind (Added s p) before = product_behind p (into Plus ∷ sum_behind s before)
     sum_behind (Subtracted s p) before = product_behind p (into Minus ∷ sum_behind s before)
 
-    -- those of a product
+    -- the pieces of a product, put before others
     pub product_behind : Product → List P → List P
     product_behind (Single f) before = factor_behind f before
     product_behind (Multiplied p f) before = factor_behind f (into Times ∷ product_behind p before)
 
-    -- those of a factor
+    -- the pieces of a factor, put before others
     pub factor_behind : Factor → List P → List P
     factor_behind (Plain b) before = base_behind b before
     factor_behind (Raised b digits) before = into (Digits digits) ∷ into Caret ∷ base_behind b before
     factor_behind (Negated f) before = factor_behind f (into Minus ∷ before)
 
-    -- those of a base
+    -- the pieces of a base, put before others
     pub base_behind : Base → List P → List P
     base_behind (Number digits) before = into (Digits digits) ∷ before
     base_behind (Named name) before = into (Word name) ∷ before

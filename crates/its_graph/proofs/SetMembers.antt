@@ -55,7 +55,7 @@ members-listed untimed seen rule t (l ∷ links) (suc k) low is =
     go true e h = rw e (Contains-later t (members_from untimed seen rule (suc t) links) (suc t + k) h)
     go false e h = rw e h
 
--- it ascends
+-- the list of members ascends
 pub members-ascending : (untimed seen : List Bool) (rule t : ℕ) (links : List Pair) → IsStrictlyIncreasing (members_from untimed seen rule t links) × All (λ y. t ≤ y) (members_from untimed seen rule t links)
 members-ascending untimed seen rule t [] = (λ j low. absurd (omega (arith, low)), All-nil (λ (y : ℕ). t ≤ y))
 members-ascending untimed seen rule t (l ∷ links) = go (is_member untimed seen rule t l) refl (members-ascending untimed seen rule (suc t) links)

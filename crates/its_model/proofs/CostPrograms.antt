@@ -36,7 +36,7 @@ other-name n = go (is_same n (36 ∷ [])) refl
     go true e = longer n e
     go false e = e
 
--- it is a name
+-- the name of the target of a cost's program is a name
 cost-name-is : (n : Name) → IsName (cost_name n)
 cost-name-is n = go (is_same n (36 ∷ []))
   where

@@ -168,7 +168,7 @@ atoms_count names (First a) = refl
 atoms_count names (Joined atoms joint a) =
     let e = length-append (atoms_terms names atoms) (atom_term names a ∷ []) in let k = atoms_count names atoms in omega (arith, e, k)
 
--- so is a guard, and beside the cost it has no more atoms than the limit
+-- a guard within the limits is valid, and with the cost it has no more atoms than the limit
 pub guard_valid : (cost : Option Sum) (names : List Name) (g : Guard) → IsGuardWithin (atoms_of_cost cost) (with_guard names g) g → AllByRecursion (IsValidAtom (length (with_guard names g))) (guard_terms (with_guard names g) g) × (length (guard_terms (with_guard names g) g) + atoms_of_cost cost ≤ 64)
 guard_valid cost names NoGuard w = (tt, (let one = at_most_one cost in omega (arith, one)))
 guard_valid cost names (BehindMark None) w = (tt, (let one = at_most_one cost in omega (arith, one)))

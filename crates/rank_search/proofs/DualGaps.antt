@@ -246,7 +246,7 @@ module _ (p : Program) (set : List ℕ) (strict : ℕ) (shut : List SymbolPlace)
               (seen-fixed (length cs) (at r.numbers) (rank_question b).groups shaped told.elements) told.below;
         })
 
-    -- it holds
+    -- the gap of the dual holds
     own-holds : GapHolds p (forms_at p) own
     own-holds =
         refuted-holds p b own

@@ -43,7 +43,7 @@ pub record AreComponents (s : Setting) (is_live : ℕ → Bool) (local : Locals)
 abbrev pub members_of : Component → List ResultVariable
 members_of c = map result_variable_of c.members.items
 
--- it says whether it loops
+-- a component says whether it loops
 abbrev pub SaysWhetherItLoops : Setting → Locals → Component → Type 0
 SaysWhetherItLoops s local c = c.looping ≡ loops s local (members_of c)
 

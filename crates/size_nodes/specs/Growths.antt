@@ -32,7 +32,7 @@ pub record Growth : Type 0 where
   pub addition : Bound
   pub adds : Bool
 
--- it as plain data
+-- a growth as plain data
 abbrev pub growth_of : code.Growth → Growth
 growth_of g = record { rule = g.rule; factor = g.factor; addition = bound_of g.addition; adds = g.adds }
 

@@ -65,7 +65,7 @@ module _ {P T F K : Type 0} (r : Reader P T F K) (laws : Laws r) (Within : T →
     goes_on_whole done [] t w b = b.1 (t, w)
     goes_on_whole done (p ∷ rest) t w b = b.1 (t, rest, w)
 
-    -- it has no fault
+    -- the text of a tree within the limits has no fault
     pub within_faultless : (n : ℕ) (ts : List (Token P)) (t : T) → r.Writes t (pieces ts) → Within t → (x : Fault K) → ¬ FaultAt r n ts x
     within_faultless n ts t w within x (shows done rest f is led a) =
         subst (Among x) (nothing_shown n done rest f t (subst (λ (us : List (Token P)). r.Writes t (pieces us)) (sym is) w) within led) a

@@ -77,7 +77,7 @@ abbrev pub HasSmallNumbers : Row → Type 0
 HasSmallNumbers (One n) = n ≤ 9
 HasSmallNumbers (More row n) = HasSmallNumbers row × (n ≤ 9)
 
--- those that have been read are
+-- all numbers that have been read are at most 9
 abbrev pub HasReadSmall : Front → List Piece → Type 0
 HasReadSmall Begins ps = ⊤
 HasReadSmall (Behind row) ps = HasSmallNumbers row

@@ -38,7 +38,7 @@ digits_same : (m n : ℕ) → m < 10 ^ 64 → n < 10 ^ 64 → decimal m ≡ deci
 digits_same m n l k e =
     sym (decimal_is_IsNumeral_wide m l).1 ∙ ap (digits_value 10) e ∙ (decimal_is_IsNumeral_wide n k).1
 
--- they come apart so
+-- two decimals of at most 64 digits, before what ends them, come apart if the texts are equal
 pub decimal_apart : (m n : ℕ) (xs ys : List ℕ) → m < 10 ^ 64 → n < 10 ^ 64 → Ends xs → Ends ys
     → decimal m ++ xs ≡ decimal n ++ ys → (m ≡ n) × (xs ≡ ys)
 decimal_apart m n xs ys l k h i e =

@@ -25,7 +25,7 @@ module _ {P : Type 0} (g : Grammar P) (Stands : ℕ → List (Event P) → List 
     pub events : es ≡ ds ++ fs
     pub pieces : ps ≡ os ++ qs
 
-  -- it does
+  -- what stands along two lists of symbols comes apart into what stands along each
   pub parted : (xs ys : List Symbol) (es : List (Event P)) (ps : List P) → StandsAlong (xs ++ ys) es ps → Parts xs ys es ps
   parted [] ys es ps h = record { ds = []; fs = es; os = []; qs = ps; first = (refl, refl); second = h; events = refl; pieces = refl }
   parted (Piece c ∷ xs) ys es ps (p, gs, rs, k, e, f, h) = let w = parted xs ys gs rs h in record {

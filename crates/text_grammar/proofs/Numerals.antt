@@ -53,7 +53,7 @@ above b l f = go (b - 48) refl
     go zero e = absurd (f (omega (arith, l, e)))
     go (suc n) e = omega arith
 
--- they are its decimal
+-- digits without a leading zero are the decimal of their number
 pub decimal_of : (v : Plain) → number_of v < 2 ^ 64 → decimal (number_of v) ≡ v.first ∷ v.others
 decimal_of v small =
     let d = digit_below v.first v.low v.high in

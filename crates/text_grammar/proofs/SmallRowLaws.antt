@@ -89,7 +89,7 @@ text_derived rows l =
     by rows_bytes rows_bounded rows_numbers rows_readable RowsValue own_parts 0 _ (inl refl) (rows, tt)
     (rows_derived rows l, tt)
 
--- they spell their text
+-- the parts of rows spell the text of the rows
 rows_spell : (rows : Rows) → spelled (fold_of rows_bytes) (numbers_of rows_bytes) (rows_parts rows) ≡ rows_text rows
 rows_spell [] = refl
 rows_spell (r ∷ rs) =

@@ -25,7 +25,7 @@ pub record Positive : Type 0 where
   pub plain : Plain
   pub some : 49 ≤ plain.first
 
--- their number
+-- the number that digits without a leading zero write
 abbrev pub number_of : Plain → ℕ
 number_of v = digits_value_after 10 (v.first - 48) v.others
 

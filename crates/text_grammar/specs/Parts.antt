@@ -130,7 +130,7 @@ module _ {P S T K A : Type 0} (f : Fold P S T K) (a : Wholes P S A) where
     abbrev pub Derived : (n : ℕ) → V n → Type 0
     Derived n v = Derives g (Made n ∷ []) (events_of f a (parts n v)) (spelled f a (parts n v))
 
-    -- so are the values within symbols
+    -- the values within symbols are derived
     abbrev pub AreDerived : (ss : List Symbol) → Values g only V parts ss → Type 0
     AreDerived [] u = ⊤
     AreDerived (Piece c ∷ ss) vs = chosen_in g only V parts (only c) c (AreDerived ss) vs

@@ -64,7 +64,7 @@ pub record GrammarsAreWorkedOut : Type 0 where
       ∷ ((Piece 1 ∷ Made 0 ∷ []) ∷ [] ∷ []) ∷ [])
   -- left recursion after a nonterminal that derives nothing: text = more text 0 | 1; more = nothing
   pub hidden_recursion : Cannot (((Made 1 ∷ Made 0 ∷ Piece 0 ∷ []) ∷ (Piece 1 ∷ []) ∷ []) ∷ ([] ∷ []) ∷ [])
-  -- and through another nonterminal: text = more 0 | 1; more = text
+  -- left recursion through another nonterminal: text = more 0 | 1; more = text
   pub indirect_recursion : Cannot (((Made 1 ∷ Piece 0 ∷ []) ∷ (Piece 1 ∷ []) ∷ []) ∷ ((Made 0 ∷ []) ∷ []) ∷ [])
   -- alternatives whose nonterminals begin alike: text = more 1 | last; more = 0; last = 0
   pub alike_behind : Cannot (((Made 1 ∷ Piece 1 ∷ []) ∷ (Made 2 ∷ []) ∷ [])

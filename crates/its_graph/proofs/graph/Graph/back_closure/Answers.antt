@@ -43,7 +43,7 @@ returns-clause-ascending c =
     IfOk-weaker c.members.result (λ (found : Vec ℕ Global). found.items ≡ members_from c.args.untimed.now c.deref-6.result.now c.args.rule 1 c.deref-5.result.now) (λ (found : Vec ℕ Global). IsStrictlyIncreasing found.items)
     (λ found e. subst (λ (xs : List ℕ). IsStrictlyIncreasing xs) (sym e) (members-ascending c.args.untimed.now c.deref-6.result.now c.args.rule 1 c.deref-5.result.now).0) c.members.ensures
 
--- they are those of the set
+-- the numbers are those of the set
 pub returns-clause-members : goal.returns-clause-members
 returns-clause-members c =
     IfOk-weaker c.members.result (λ (found : Vec ℕ Global). found.items ≡ members_from c.args.untimed.now c.deref-6.result.now c.args.rule 1 c.deref-5.result.now)
